@@ -1,4 +1,5 @@
 // The release file: read, checked and shown.
+mod axiom;
 
 // A concept name's number and a role name's: two types, so that neither can be passed for the other.
 pub struct ConceptName(pub usize);
@@ -16,6 +17,9 @@ impl Release {
     pub const ROLES: usize = 32;
 
     pub const CONJUNCTS: usize = 16;
+
+    // A filler byte that is ⊤.
+    pub const TOP: u8 = 255;
 }
 
 // A refusal: its number, and the side of the release or concept concerned, else 0.

@@ -1,0 +1,3 @@
+-- Laws of the release file's definitions.
+pub mod Faults
+pub mod Readings

@@ -1,0 +1,4 @@
+-- The release file: what it says, and what is refused. To be read in this order.
+pub mod Files
+pub mod Readings
+pub mod Tables

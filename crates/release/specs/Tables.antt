@@ -1,0 +1,55 @@
+-- A release by name, decoded into a table of four numbers a name: kind, role, filler, place of the tail in the file.
+--   kindAt t x, roleAt t x, fillerAt t x, tailAt t x     the four numbers of the name x in the table t; kind 0: no axiom
+--   countAt s t x, partAt s t x i                        the number of x's conjuncts, and the conjunct i, read from the file s
+--   Stands c s p q                                       q is the place of one of the c axioms from place p of s on
+--   Decoded s t                                          t is the table of s
+use mathlib.Core.Path.{_≡_}
+use mathlib.Core.List.{List}
+use Prim.Native.Nat.{ℕ, suc, _+_, _*_, _≤_, _<_}
+use lib.ListN.{length, getD}
+use Rattle.release.specs.Files.{namesOf, rolesOf, countOf, header, axiomLength, axiomsFault}
+use Rattle.release.specs.Readings.{entryOf}
+use Rattle.release.specs.declared.axiom.Entry.{Entry}
+
+unfoldable pub kindAt : List ℕ → ℕ → ℕ
+kindAt t x = getD t (4 * x) 0
+
+unfoldable pub roleAt : List ℕ → ℕ → ℕ
+roleAt t x = getD t (4 * x + 1) 0
+
+unfoldable pub fillerAt : List ℕ → ℕ → ℕ
+fillerAt t x = getD t (4 * x + 2) 0
+
+unfoldable pub tailAt : List ℕ → ℕ → ℕ
+tailAt t x = getD t (4 * x + 3) 0
+
+unfoldable pub countAt : List ℕ → List ℕ → ℕ → ℕ
+countAt s t x = getD s (tailAt t x) 0
+
+unfoldable pub partAt : List ℕ → List ℕ → ℕ → ℕ → ℕ
+partAt s t x i = getD s (tailAt t x + 1 + i) 0
+
+pub data Stands : ℕ → List ℕ → ℕ → ℕ → Type 0 where
+  here : {c : ℕ} {s : List ℕ} {p : ℕ} → Stands (suc c) s p p
+  there : {c : ℕ} {s : List ℕ} {p q : ℕ} → Stands c s (p + axiomLength s p) q → Stands (suc c) s p q
+
+-- the row of a name holds an axiom's numbers
+pub record Row (t : List ℕ) (e : Entry) : Type 0 where
+  pub kind : kindAt t (e .left .0) ≡ e .kind
+  pub role : roleAt t (e .left .0) ≡ e .role .0
+  pub filler : fillerAt t (e .left .0) ≡ e .filler
+  pub tail : tailAt t (e .left .0) ≡ e .tail
+
+-- the numbers of the axiom at place q
+unfoldable pub entryAt : ℕ → List ℕ → ℕ → Entry
+entryAt n s q = entryOf n (getD s q 0) (getD s (q + 1) 0) s (q + 2)
+
+-- a row is blank, or that of an axiom of the file
+pub data Origin (c : ℕ) (s t : List ℕ) (x : ℕ) : Type 0 where
+  blank : kindAt t x ≡ 0 → Origin c s t x
+  of-axiom : {q : ℕ} → Stands c s header q → getD s q 0 ≡ x → Origin c s t x
+
+pub record Decoded (n c : ℕ) (s t : List ℕ) : Type 0 where
+  pub rows : 4 * n ≤ length t
+  pub row : (q : ℕ) → Stands c s header q → Row t (entryAt n s q)
+  pub origin : (x : ℕ) → x < n → Origin c s t x
