@@ -7,7 +7,7 @@ use mathlib.Core.Path.{_≡_}
 use mathlib.Core.List.{List}
 use Prim.Native.Nat.{ℕ, suc, _+_, _*_, _≤_, _<_}
 use lib.ListN.{length, getD}
-use Rattle.release.specs.Files.{namesOf, rolesOf, countOf, header, axiomLength, axiomsFault}
+use Rattle.release.specs.Files.{header, most-names, most-roles, axiomLength, axiomsFault}
 use Rattle.release.specs.Readings.{entryOf}
 use Rattle.release.specs.declared.axiom.Entry.{Entry}
 
@@ -40,6 +40,25 @@ pub record Row (t : List ℕ) (e : Entry) : Type 0 where
   pub filler : fillerAt t (e .left .0) ≡ e .filler
   pub tail : tailAt t (e .left .0) ≡ e .tail
 
+-- a row as before; the row of an axiom put, and every other as before
+pub record SameRow (t u : List ℕ) (x : ℕ) : Type 0 where
+  pub kind : kindAt u x ≡ kindAt t x
+  pub role : roleAt u x ≡ roleAt t x
+  pub filler : fillerAt u x ≡ fillerAt t x
+  pub tail : tailAt u x ≡ tailAt t x
+
+pub record Put (e : Entry) (t u : List ℕ) : Type 0 where
+  pub long : length u ≡ length t
+  pub row : Row u e
+  pub other : (y : ℕ) → (y ≡ e .left .0 → ⊥) → SameRow t u y
+
+-- there is a row for the axiom, and its numbers fit 16 bits
+pub record Fits (e : Entry) (t : List ℕ) : Type 0 where
+  pub row : 4 * e .left .0 + 4 ≤ length t
+  pub role : e .role .0 ≤ 65535
+  pub filler : e .filler ≤ 65535
+  pub tail : e .tail ≤ 65535
+
 -- the numbers of the axiom at place q
 unfoldable pub entryAt : ℕ → List ℕ → ℕ → Entry
 entryAt n s q = entryOf n (getD s q 0) (getD s (q + 1) 0) s (q + 2)
@@ -53,3 +72,29 @@ pub record Decoded (n c : ℕ) (s t : List ℕ) : Type 0 where
   pub rows : 4 * n ≤ length t
   pub row : (q : ℕ) → Stands c s header q → Row t (entryAt n s q)
   pub origin : (x : ℕ) → x < n → Origin c s t x
+
+-- before the axioms are read: a header without fault, and a blank row for each name
+pub record Ready (n m c : ℕ) (s t : List ℕ) : Type 0 where
+  pub long : header ≤ length s
+  pub names : n ≤ most-names
+  pub roles : m ≤ most-roles
+  pub count : c ≤ n
+  pub rows : 4 * n ≤ length t
+  pub blank : (x : ℕ) → x < n → kindAt t x ≡ 0
+
+-- the axioms read: the first refusal, or the table
+pub record AxiomsRead (n m c : ℕ) (s t : List ℕ) (r : ℕ) : Type 0 where
+  pub fault : r ≡ axiomsFault n m c 0 s header
+  pub decoded : r ≡ 0 → Decoded n c s t
+
+-- what the functions that read a row ask
+pub record HasRow (t : List ℕ) (x : ℕ) : Type 0 where
+  pub row : 4 * x + 4 ≤ length t
+
+pub record HasCount (s t : List ℕ) (x : ℕ) : Type 0 where
+  pub row : 4 * x + 4 ≤ length t
+  pub inside : tailAt t x < length s
+
+pub record HasPart (s t : List ℕ) (x i : ℕ) : Type 0 where
+  pub row : 4 * x + 4 ≤ length t
+  pub inside : tailAt t x + 1 + i < length s

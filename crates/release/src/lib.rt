@@ -1,5 +1,7 @@
 // The release file: read, checked and shown.
 mod axiom;
+mod header;
+pub mod table;
 
 // A concept name's number and a role name's: two types, so that neither can be passed for the other.
 pub struct ConceptName(pub usize);
@@ -11,6 +13,11 @@ pub struct Release {}
 
 impl Release {
     pub const MARK: [u8; 3] = *b"ELT";
+
+    pub const VERSION: usize = 1;
+
+    // The bytes before the first axiom.
+    pub const HEADER: usize = 8;
 
     pub const NAMES: usize = 127;
 
