@@ -1,3 +1,9 @@
 -- The theory of EL terminologies, and nothing of files. To be read in this order.
 pub mod Lists
 pub mod Tests
+pub mod Derivations
+pub mod Soundness
+pub mod CanonicalModel
+pub mod Terminologies
+pub mod Nodes
+pub mod Saturation
