@@ -7,3 +7,4 @@ pub mod CanonicalModel
 pub mod Terminologies
 pub mod Nodes
 pub mod Saturation
+pub mod Classification
