@@ -8,3 +8,4 @@ pub mod Terminologies
 pub mod Nodes
 pub mod Saturation
 pub mod Classification
+pub mod ForwardMarks
