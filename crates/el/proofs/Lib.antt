@@ -1,0 +1,11 @@
+-- The theory of EL terminologies, and nothing of files. To be read in this order.
+pub mod Lists
+pub mod Tests
+pub mod Derivations
+pub mod Soundness
+pub mod CanonicalModel
+pub mod Terminologies
+pub mod Nodes
+pub mod Saturation
+pub mod Classification
+pub mod ForwardMarks
