@@ -12,7 +12,7 @@ use lib.Seq.{set-out, length-take-le}
 use Rattle.el.specs.Lists.{pick, all}
 use Rattle.signature.specs.declared.Signature.{Signature}
 use Rattle.signature.specs.Bytes.{isBit, signatureFault}
-use Rattle.signature.specs.Building.{mostNames, mostRoles, lesser, emptySignature, chosen, withName, withRole, Built, lent}
+use Rattle.signature.specs.Building.{mostNames, mostRoles, mostBytes, lesser, emptySignature, chosen, withName, withRole, Built, lent}
 
 -- past the bytes a store changes nothing
 pub chosen-past : (g : Signature) (place : ℕ) → length (g .bytes) ≤ place → g ≡ chosen g place
@@ -32,7 +32,7 @@ unfolding emptySignature
 empty-built n m = record {
   names = lesser-small n mostNames;
   roles = lesser-small m mostRoles;
-  long = length-replicate {A = ℕ} (mostNames + mostRoles) 0;
+  long = length-replicate {A = ℕ} mostBytes 0;
   bits = refl;
 }
 

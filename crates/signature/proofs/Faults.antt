@@ -11,7 +11,7 @@ use lib.Dec.{leb}
 use lib.ListN.{length, getD, drop, drop-of-length-le}
 use lib.Seq.{drop-cons}
 use Rattle.el.specs.Lists.{pick, all}
-use Rattle.signature.specs.Bytes.{isBit, signatureFault}
+use Rattle.signature.specs.Bytes.{isBit, wrongLength, wrongByte, signatureFault}
 
 pub record Scanned (n m : ℕ) (s : List ℕ) (i : ℕ) : Type 0 where
   pub within : i ≤ length s
@@ -19,14 +19,14 @@ pub record Scanned (n m : ℕ) (s : List ℕ) (i : ℕ) : Type 0 where
   pub same : all isBit s ≡ all isBit (drop i s)
 
 module _ (n m : ℕ) (s : List ℕ) where
-  wrong-length : (length s ≡ n + m → ⊥) → 17 ≡ signatureFault n m s
+  wrong-length : (length s ≡ n + m → ⊥) → wrongLength ≡ signatureFault n m s
   unfolding signatureFault
   wrong-length wrong = simp (ne-eqb _ _ wrong)
 
-  pub too-few-for-names : length s < n → 17 ≡ signatureFault n m s
+  pub too-few-for-names : length s < n → wrongLength ≡ signatureFault n m s
   too-few-for-names few = wrong-length (λ e. omega arith)
 
-  pub other-than-roles : n ≤ length s → (length s - n ≡ m → ⊥) → 17 ≡ signatureFault n m s
+  pub other-than-roles : n ≤ length s → (length s - n ≡ m → ⊥) → wrongLength ≡ signatureFault n m s
   other-than-roles enough other = wrong-length (λ e. other (omega arith))
 
   pub scan-begins : n ≤ length s → length s - n ≡ m → Scanned n m s 0
@@ -37,7 +37,7 @@ module _ (n m : ℕ) (s : List ℕ) where
       all-from : all isBit (drop i s) ≡ pick (isBit (getD s i 0)) (all isBit (drop (i + 1) s)) false
       all-from = rw (add-one, drop-cons s i 0 here)
 
-      pub byte-above-1 : 1 < getD s i 0 → 18 ≡ signatureFault n m s
+      pub byte-above-1 : 1 < getD s i 0 → wrongByte ≡ signatureFault n m s
       unfolding signatureFault
       byte-above-1 above = simp (eq-eqb _ _ (scanned .long), scanned .same, all-from, lt-leb _ _ above)
 

@@ -4,6 +4,7 @@
 --   byteAt g i             g's byte at the place i below its n + m, elsewhere 0
 --   Built g                g has the shape that each of these steps gives and keeps
 --   lent g                 the bytes of g to lend to a comparison
+--   chosenBy g             the names and roles that they choose
 use mathlib.Core.Path.{_≡_}
 use mathlib.Core.Bool.{true}
 use mathlib.Core.List.{List}
@@ -11,7 +12,8 @@ use Prim.Native.Nat.{ℕ, _+_, _≤_}
 use lib.Dec.{ltb, leb}
 use lib.ListN.{length, getD, take, set, replicate}
 use Rattle.el.specs.Lists.{pick, all}
-use Rattle.signature.specs.Bytes.{isBit}
+use Rattle.el.specs.Signatures as el
+use Rattle.signature.specs.Bytes.{isBit, signatureOf}
 use Rattle.signature.specs.declared.Signature.{Signature}
 
 -- the limits of n and m
@@ -21,6 +23,10 @@ mostNames = 127
 abbrev pub mostRoles : ℕ
 mostRoles = 32
 
+-- how many bytes a built signature holds
+abbrev pub mostBytes : ℕ
+mostBytes = mostNames + mostRoles
+
 unfoldable pub lesser : ℕ → ℕ → ℕ
 lesser a b = pick (leb a b) a b
 
@@ -28,7 +34,7 @@ unfoldable pub emptySignature : ℕ → ℕ → Signature
 emptySignature n m = record {
   names = lesser n mostNames;
   roles = lesser m mostRoles;
-  bytes = replicate (mostNames + mostRoles) 0;
+  bytes = replicate mostBytes 0;
 }
 
 -- the byte at a place becomes 1; past the bytes nothing changes
@@ -47,8 +53,11 @@ byteAt g i = pick (ltb i (g .names + g .roles)) (getD (g .bytes) i 0) 0
 pub record Built (g : Signature) : Type 0 where
   pub names : g .names ≤ mostNames
   pub roles : g .roles ≤ mostRoles
-  pub long : length (g .bytes) ≡ mostNames + mostRoles
+  pub long : length (g .bytes) ≡ mostBytes
   pub bits : all isBit (g .bytes) ≡ true
 
 abbrev pub lent : Signature → List ℕ
 lent g = take (g .names + g .roles) (g .bytes)
+
+abbrev pub chosenBy : Signature → el.Signature
+chosenBy g = signatureOf (g .names) (g .roles) (lent g)

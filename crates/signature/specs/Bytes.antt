@@ -12,9 +12,16 @@ use Rattle.el.specs.Signatures.{Signature}
 abbrev pub isBit : ℕ → Bool
 isBit b = leb b 1
 
--- "17 signature length. 18 signature byte above 1"; accepted where neither holds
+-- the refusals "signature length" and "signature byte above 1"
+abbrev pub wrongLength : ℕ
+wrongLength = 17
+
+abbrev pub wrongByte : ℕ
+wrongByte = 18
+
+-- the first refusal whose condition holds; 0, and the signature is accepted, where neither does
 unfoldable pub signatureFault : ℕ → ℕ → List ℕ → ℕ
-signatureFault n m s = pick (eqb (length s) (n + m)) (pick (all isBit s) 0 18) 17
+signatureFault n m s = pick (eqb (length s) (n + m)) (pick (all isBit s) 0 wrongByte) wrongLength
 
 -- "names first, then roles"
 abbrev pub signatureOf : ℕ → ℕ → List ℕ → Signature

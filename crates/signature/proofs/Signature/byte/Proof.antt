@@ -3,7 +3,7 @@ use mathlib.Core.Path.{_≡_}
 use Prim.Native.Nat.{_≤_}
 use native.Mathlib.Omega.{arith}
 use lib.ListN.{length, List·getD-eq-default}
-use Rattle.signature.specs.Building.{byteAt}
+use Rattle.signature.specs.Building.{mostBytes, byteAt}
 use borrow.Author.Needs.{needs}
 use Rattle.signature.proofs.Signature.byte.Statement.{statement}
 use Rattle.signature.proofs.Signature.byte.Tie as tie
@@ -33,7 +33,7 @@ unfolding byteAt
 returns-2 c =
     let d = c .before .before in
     let good = d .good in
-    let long : length (d .args .t1 .bytes) ≡ 159 = search needs in
+    let long : length (d .args .t1 .bytes) ≡ mostBytes = search needs in
     let past : length (d .args .t1 .bytes) ≤ d .args .place = omega arith in
     simp (lt-ltb _ _ (c .before .if1 .left), List·getD-eq-default (d .args .t1 .bytes) 0 past)
 

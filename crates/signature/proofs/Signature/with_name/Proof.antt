@@ -3,7 +3,7 @@ use mathlib.Core.Path.{_≡_, _∙_}
 use native.Mathlib.Omega.{arith}
 use lib.ListN.{length}
 use Rattle.signature.proofs.Built.{chosen-past}
-use Rattle.signature.specs.Building.{withName}
+use Rattle.signature.specs.Building.{mostBytes, withName}
 use borrow.Author.Needs.{needs}
 use Rattle.signature.proofs.Signature.with_name.Statement.{statement}
 use Rattle.signature.proofs.Signature.with_name.Tie as tie
@@ -29,7 +29,7 @@ unfolding withName
 returns-2 c =
     let d = c .before .before in
     let good = d .good in
-    let long : length (d .args .t1 .bytes) ≡ 159 = search needs in
+    let long : length (d .args .t1 .bytes) ≡ mostBytes = search needs in
     simp (lt-ltb _ _ (c .before .if1 .taken)) (chosen-past _ (d .args .name .0) (omega arith))
 
 -- src/lib.rt:38:5

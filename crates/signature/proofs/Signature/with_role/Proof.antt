@@ -4,7 +4,7 @@ use Prim.Native.Nat.{_+_}
 use native.Mathlib.Omega.{arith}
 use lib.ListN.{length}
 use Rattle.signature.proofs.Built.{chosen-past}
-use Rattle.signature.specs.Building.{withRole}
+use Rattle.signature.specs.Building.{mostBytes, withRole}
 use borrow.Author.Needs.{needs}
 use Rattle.signature.proofs.Signature.with_role.Statement.{statement}
 use Rattle.signature.proofs.Signature.with_role.Tie as tie
@@ -38,7 +38,7 @@ unfolding withRole
 returns-2 c =
     let d = c .before .before in
     let good = d .good in
-    let long : length (d .args .t1 .bytes) ≡ 159 = search needs in
+    let long : length (d .args .t1 .bytes) ≡ mostBytes = search needs in
     simp (lt-ltb _ _ (c .before .if1 .taken)) (chosen-past _ (d .args .t1 .names + d .args .role .0) (omega arith))
 
 -- src/lib.rt:51:5
