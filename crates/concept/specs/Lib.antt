@@ -1,0 +1,3 @@
+-- A question's concept as bytes. To be read in this order.
+pub mod Bytes
+pub mod Ends
