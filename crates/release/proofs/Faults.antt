@@ -11,7 +11,7 @@ use native.Mathlib.Omega.{arith}
 use borrow.Author.Tests.{lt-ltb, le-ltb, le-leb, lt-leb, eq-eqb, ne-eqb}
 use lib.Dec.{eqb, ltb, leb}
 use lib.ListN.{length, getD}
-use Rattle.release.specs.Files.{partsFault, conjunctionFault, restrictionFault, most-conjuncts, top-byte, isFiller, joins, restricts}
+use Rattle.release.specs.Files.{partsFault, conjunctionFault, restrictionFault, mostConjuncts, topByte, isFiller, joins, restricts}
 
 -- a run of names
 pub parts-none : (n k least : ℕ) (s : List ℕ) (p : ℕ) → k ≤ 0 → partsFault n k least s p ≡ 0
@@ -52,11 +52,11 @@ module _ (n : ℕ) (s : List ℕ) (p : ℕ) where
     conjunction-none h = simp (conjunctionFault, ← e, lt-leb _ _ within, eq-eqb _ _ h)
 
     module _ (some : x ≡ 0 → ⊥) where
-      pub conjunction-many : most-conjuncts < x → conjunctionFault n s p ≡ 12
+      pub conjunction-many : mostConjuncts < x → conjunctionFault n s p ≡ 12
       unfolding conjunctionFault
       conjunction-many h = simp (conjunctionFault, ← e, lt-leb _ _ within, ne-eqb _ _ some, lt-ltb _ _ h)
 
-      pub conjunction-parts : x ≤ most-conjuncts → conjunctionFault n s p ≡ partsFault n x 0 s (p + 1)
+      pub conjunction-parts : x ≤ mostConjuncts → conjunctionFault n s p ≡ partsFault n x 0 s (p + 1)
       unfolding conjunctionFault
       conjunction-parts h = simp (conjunctionFault, ← e, lt-leb _ _ within, ne-eqb _ _ some, le-ltb _ _ h)
 
@@ -85,15 +85,15 @@ module _ (n m : ℕ) (s : List ℕ) (p : ℕ) where
         unfolding restrictionFault
         restriction-none h = simp (restrictionFault, ← e, lt-leb _ _ within, lt-leb _ _ small, lt-leb _ _ two, h)
 
-pub is-filler : (n b : ℕ) → (b < n) ⊎ (b ≡ top-byte) → isFiller n b ≡ true
+pub is-filler : (n b : ℕ) → (b < n) ⊎ (b ≡ topByte) → isFiller n b ≡ true
 is-filler n b (inl h) = rw (lt-ltb _ _ h)
-is-filler n b (inr e) = rw e (or-true (ltb top-byte n))
+is-filler n b (inr e) = rw e (or-true (ltb topByte n))
   where
     or-true : (t : Bool) → t || true ≡ true
     or-true true = refl
     or-true false = refl
 
-pub no-filler : (n b : ℕ) → n ≤ b → (b ≡ top-byte → ⊥) → isFiller n b ≡ false
+pub no-filler : (n b : ℕ) → n ≤ b → (b ≡ topByte → ⊥) → isFiller n b ≡ false
 no-filler n b h d = simp (le-ltb _ _ h, ne-eqb _ _ d)
 
 -- the kinds

@@ -10,7 +10,7 @@ use lib.Dec.{eqb, ltb}
 use lib.ListN.{length, getD, drop, drop-of-length-le}
 use lib.Seq.{drop-cons}
 use Rattle.el.specs.Lists.{pick}
-use Rattle.release.specs.Files.{mark, startsWith, versionOf, namesOf, rolesOf, countOf, header, most-names, most-roles, headerFault}
+use Rattle.release.specs.Files.{mark, startsWith, versionOf, namesOf, rolesOf, countOf, header, mostNames, mostRoles, headerFault}
 
 -- the mark, byte by byte
 pub record Marked (xs s : List ℕ) (i : ℕ) : Type 0 where
@@ -49,16 +49,16 @@ module _ (s : List ℕ) where
       header-3 h = simp (headerFault, le-ltb _ _ long, marked, ne-eqb _ _ h)
 
       module _ (version : versionOf s ≡ 1) where
-        pub header-4 : most-names < namesOf s → headerFault s ≡ 4
+        pub header-4 : mostNames < namesOf s → headerFault s ≡ 4
         unfolding headerFault
         header-4 h = simp (headerFault, le-ltb _ _ long, marked, eq-eqb _ _ version, lt-ltb _ _ h)
 
-        module _ (names : namesOf s ≤ most-names) where
-          pub header-5 : most-roles < rolesOf s → headerFault s ≡ 5
+        module _ (names : namesOf s ≤ mostNames) where
+          pub header-5 : mostRoles < rolesOf s → headerFault s ≡ 5
           unfolding headerFault
           header-5 h = simp (headerFault, le-ltb _ _ long, marked, eq-eqb _ _ version, le-ltb _ _ names, lt-ltb _ _ h)
 
-          module _ (roles : rolesOf s ≤ most-roles) where
+          module _ (roles : rolesOf s ≤ mostRoles) where
             pub header-6 : namesOf s < countOf s → headerFault s ≡ 6
             unfolding headerFault
             header-6 h = simp (headerFault, le-ltb _ _ long, marked, eq-eqb _ _ version, le-ltb _ _ names, le-ltb _ _ roles, lt-ltb _ _ h)

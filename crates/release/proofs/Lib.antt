@@ -5,3 +5,7 @@ pub mod Readings
 pub mod Sound
 pub mod Rows
 pub mod Scan
+pub mod DefinedParts
+pub mod Decoding
+pub mod NormalForm
+pub mod Checks

@@ -1,12 +1,13 @@
 -- A row put: its four numbers, and every other row as before.
 use mathlib.Core.Path.{_≡_, sym, _∙_}
 use mathlib.Core.List.{List}
-use Prim.Native.Nat.{ℕ, _+_, _*_, _≤_}
+use Prim.Native.Nat.{ℕ, _+_, _*_, _≤_, _<_}
 use native.Mathlib.Omega.{arith}
-use lib.ListN.{length, getD, set, length-set}
+use lib.ListN.{length, getD, set, length-set, replicate, length-replicate, getD-replicate}
 use lib.Seq.{getD-set-same, getD-set-other}
 use Rattle.release.specs.declared.axiom.Entry.{Entry}
-use Rattle.release.specs.Tables.{kindAt, roleAt, fillerAt, tailAt, Row, SameRow, Put}
+use Rattle.release.specs.Tables.{kindAt, roleAt, fillerAt, tailAt, Row, SameRow, Put, Blank}
+use Rattle.release.specs.Files.{mostNames}
 
 -- four numbers stored one after the other
 module _ (t : List ℕ) (i k r f p : ℕ) (room : i + 4 ≤ length t) where
@@ -55,3 +56,8 @@ row-put t e k r f p room ek er ef ep =
 -- a row that stays
 pub row-kept : (t u : List ℕ) (e : Entry) → SameRow t u (e .left .0) → Row t e → Row u e
 row-kept t u e s h = record { kind = s .kind ∙ h .kind; role = s .role ∙ h .role; filler = s .filler ∙ h .filler; tail = s .tail ∙ h .tail }
+
+-- rows of zeros are blank
+pub zeros-blank : (k : ℕ) → 4 * mostNames ≤ k → Blank (replicate k 0)
+unfolding kindAt
+zeros-blank k h = record { rows = rw length-replicate h; blank = λ x l. getD-replicate k (4 * x) 0 0 (omega arith) }

@@ -16,7 +16,7 @@ use Rattle.release.specs.declared.axiom.Entry.{Entry}
 use Rattle.release.specs.declared.axiom.Cursor.{Cursor}
 use Rattle.release.specs.declared.axiom.Reading.{Reading}
 use Rattle.release.specs.declared.axiom.Reading.the-variants.{Axiom, Refused}
-use Rattle.release.specs.Files.{header, most-names, most-roles, joins, isFiller, fillerNode, top-byte, axiomFault, axiomLength, tailLength, axiomsFault, firstOf}
+use Rattle.release.specs.Files.{header, mostNames, mostRoles, joins, isFiller, fillerNode, topByte, axiomFault, axiomLength, tailLength, axiomsFault, firstOf}
 use Rattle.release.specs.Readings.{nodeNumber, entryOf, reading, readingAt, numberOf}
 use Rattle.release.specs.Tables.{Stands, here, there, Row, Put, Fits, entryAt, Origin, blank, of-axiom, Decoded, Ready, AxiomsRead, kindAt}
 use Rattle.release.proofs.Sound.{Sound, axiom-sound, Tail, joined, restricted, tail-within}
@@ -69,7 +69,7 @@ stands-none zero l h = elim h [ ]
 stands-none (suc c) l h = omega arith
 
 -- an axiom's numbers fit its row
-entry-left : (n left kind : ℕ) (s : List ℕ) (p : ℕ) → entryOf n left kind s p .left .0 ≡ left
+pub entry-left : (n left kind : ℕ) (s : List ℕ) (p : ℕ) → entryOf n left kind s p .left .0 ≡ left
 unfolding entryOf
 entry-left n left kind s p = go (joins kind) refl
   where
@@ -77,18 +77,18 @@ entry-left n left kind s p = go (joins kind) refl
     go true e = rw (e, entryOf)
     go false e = rw (e, entryOf)
 
-filler-node : (n b : ℕ) → isFiller n b ≡ true → nodeNumber n (fillerNode b) ≤ n
-filler-node n b h = go (eqb b top-byte) refl
+pub filler-node : (n b : ℕ) → isFiller n b ≡ true → nodeNumber n (fillerNode b) ≤ n
+filler-node n b h = go (eqb b topByte) refl
   where
     or-false : (t : Bool) → t || false ≡ true → t ≡ true
     or-false true z = refl
     or-false false z = z
 
-    go : (t : Bool) → eqb b top-byte ≡ t → nodeNumber n (fillerNode b) ≤ n
+    go : (t : Bool) → eqb b topByte ≡ t → nodeNumber n (fillerNode b) ≤ n
     go true e = rw e (omega arith)
     go false e = let l : b < n = ltb-true b n (or-false _ (rw e at h)) in rw e (omega arith)
 
-entry-fits : (n m least : ℕ) (s t : List ℕ) (q : ℕ) → n ≤ most-names → m ≤ most-roles → 4 * n ≤ length t → q ≤ 2421 → Sound n m least s q → Fits (entryAt n s q) t
+entry-fits : (n m least : ℕ) (s t : List ℕ) (q : ℕ) → n ≤ mostNames → m ≤ mostRoles → 4 * n ≤ length t → q ≤ 2421 → Sound n m least s q → Fits (entryAt n s q) t
 unfolding entryAt entryOf
 entry-fits n m least s t q hn hm ht hq v = go (v .tail)
   where
@@ -143,7 +143,7 @@ module _ (n m count : ℕ) (s t : List ℕ) (left at least : ℕ) (g : Going n m
       pub left-small : entry .left .0 < n
       left-small = rw left-is (sound .left)
 
-      pub fits : n ≤ most-names → m ≤ most-roles → count ≤ n → 4 * n ≤ length t → Fits entry t
+      pub fits : n ≤ mostNames → m ≤ mostRoles → count ≤ n → 4 * n ≤ length t → Fits entry t
       fits few-names few-roles few rows = subst (λ (x : Entry). Fits x t) (answer .entry-is) (entry-fits n m least s t at few-names few-roles rows (omega (arith, g .near)) sound)
 
       module _ (u : List ℕ) (put : Put entry t u) where

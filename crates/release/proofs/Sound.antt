@@ -11,7 +11,7 @@ use borrow.Author.Tests.{ltb-false, leb-false, eqb-false}
 use lib.Dec.{eqb, ltb, leb}
 use lib.ListN.{length, getD}
 use Rattle.el.specs.Lists.{pick}
-use Rattle.release.specs.Files.{most-conjuncts, partsFault, conjunctionFault, restrictionFault, tailFault, axiomFault, axiomLength, tailLength, joins, restricts, isFiller}
+use Rattle.release.specs.Files.{mostConjuncts, partsFault, conjunctionFault, restrictionFault, tailFault, axiomFault, axiomLength, tailLength, joins, restricts, isFiller}
 
 -- no refusal: the condition does not hold, and no later one
 pub passed : (b : Bool) (k rest : ℕ) → pick b (suc k) rest ≡ 0 → (b ≡ false) × (rest ≡ 0)
@@ -39,7 +39,7 @@ parts-sound n (suc k) least s p l h =
 
 pub record Joined (n : ℕ) (s : List ℕ) (p : ℕ) : Type 0 where
   pub some : 1 ≤ getD s p 0
-  pub few : getD s p 0 ≤ most-conjuncts
+  pub few : getD s p 0 ≤ mostConjuncts
   pub parts : Parts n (getD s p 0) s (p + 1)
 
 or-false : (a b : Bool) → a || b ≡ false → (a ≡ false) × (b ≡ false)
@@ -50,10 +50,10 @@ conjunction-sound : (n : ℕ) (s : List ℕ) (p : ℕ) → conjunctionFault n s 
 unfolding conjunctionFault
 conjunction-sound n s p h =
     let a = passed (leb (length s) p) 6 _ h in
-    let b = passed (eqb (getD s p 0) 0 || ltb most-conjuncts (getD s p 0)) 11 _ (a .1) in
+    let b = passed (eqb (getD s p 0) 0 || ltb mostConjuncts (getD s p 0)) 11 _ (a .1) in
     let c = or-false (eqb (getD s p 0) 0) _ (b .0) in
     let z = eqb-false (getD s p 0) 0 (c .0) in
-    record { some = omega arith; few = ltb-false most-conjuncts (getD s p 0) (c .1); parts = parts-sound n (getD s p 0) 0 s (p + 1) (omega (arith, leb-false (length s) p (a .0))) (b .1) }
+    record { some = omega arith; few = ltb-false mostConjuncts (getD s p 0) (c .1); parts = parts-sound n (getD s p 0) 0 s (p + 1) (omega (arith, leb-false (length s) p (a .0))) (b .1) }
 
 pub record Restricted (n m : ℕ) (s : List ℕ) (p : ℕ) : Type 0 where
   pub within : p + 2 ≤ length s

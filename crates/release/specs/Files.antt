@@ -13,14 +13,14 @@ use Rattle.el.specs.Concepts.{Node, everything, named}
 use Rattle.el.specs.Axioms.{Axiom, conjunction, restriction, isConjunction, partsOf}
 
 -- limits: names, roles, conjuncts of one axiom; the mark ELT; the length of the header; the byte that is ⊤ as a filler
-abbrev pub most-names : ℕ
-most-names = 127
+abbrev pub mostNames : ℕ
+mostNames = 127
 
-abbrev pub most-roles : ℕ
-most-roles = 32
+abbrev pub mostRoles : ℕ
+mostRoles = 32
 
-abbrev pub most-conjuncts : ℕ
-most-conjuncts = 16
+abbrev pub mostConjuncts : ℕ
+mostConjuncts = 16
 
 abbrev pub mark : List ℕ
 mark = 0x45 ∷ 0x4C ∷ 0x54 ∷ []
@@ -28,8 +28,8 @@ mark = 0x45 ∷ 0x4C ∷ 0x54 ∷ []
 abbrev pub header : ℕ
 header = 8
 
-abbrev pub top-byte : ℕ
-top-byte = 255
+abbrev pub topByte : ℕ
+topByte = 255
 
 -- the header: mark, version (16 bits, low byte first), n, m, a
 abbrev pub startsWith : List ℕ → List ℕ → Bool
@@ -50,7 +50,7 @@ abbrev pub countOf : List ℕ → ℕ
 countOf s = getD s 7 0
 
 unfoldable pub headerFault : List ℕ → ℕ
-headerFault s = pick (ltb (length s) header) 1 (pick (not (startsWith mark s)) 2 (pick (not (eqb (versionOf s) 1)) 3 (pick (ltb most-names (namesOf s)) 4 (pick (ltb most-roles (rolesOf s)) 5 (pick (ltb (namesOf s) (countOf s)) 6 0)))))
+headerFault s = pick (ltb (length s) header) 1 (pick (not (startsWith mark s)) 2 (pick (not (eqb (versionOf s) 1)) 3 (pick (ltb mostNames (namesOf s)) 4 (pick (ltb mostRoles (rolesOf s)) 5 (pick (ltb (namesOf s) (countOf s)) 6 0)))))
 
 -- the file ends at or before place p, so that no byte can be read there
 abbrev pub ends : List ℕ → ℕ → Bool
@@ -63,11 +63,11 @@ partsFault n (suc k) least s p = pick (ends s p) 7 (pick (leb n (getD s p 0)) 9 
 
 -- the tail of kinds 1 and 2: k (7, 12), then k names
 unfoldable pub conjunctionFault : ℕ → List ℕ → ℕ → ℕ
-conjunctionFault n s p = pick (ends s p) 7 (pick (eqb (getD s p 0) 0 || ltb most-conjuncts (getD s p 0)) 12 (partsFault n (getD s p 0) 0 s (p + 1)))
+conjunctionFault n s p = pick (ends s p) 7 (pick (eqb (getD s p 0) 0 || ltb mostConjuncts (getD s p 0)) 12 (partsFault n (getD s p 0) 0 s (p + 1)))
 
 -- the tail of kinds 3 and 4: a role (7, 11) and a filler (7, 9)
 abbrev pub isFiller : ℕ → ℕ → Bool
-isFiller n b = ltb b n || eqb b top-byte
+isFiller n b = ltb b n || eqb b topByte
 
 unfoldable pub restrictionFault : ℕ → ℕ → List ℕ → ℕ → ℕ
 restrictionFault n m s p = pick (ends s p) 7 (pick (leb m (getD s p 0)) 11 (pick (ends s (p + 1)) 7 (pick (isFiller n (getD s (p + 1) 0)) 0 9)))
@@ -97,7 +97,7 @@ abbrev pub axiomLength : List ℕ → ℕ → ℕ
 axiomLength s p = 2 + tailLength (getD s (p + 1) 0) s (p + 2)
 
 abbrev pub fillerNode : ℕ → Node
-fillerNode b = pick (eqb b top-byte) everything (named b)
+fillerNode b = pick (eqb b topByte) everything (named b)
 
 unfoldable pub axiomAt : List ℕ → ℕ → Axiom
 axiomAt s p = record {

@@ -2,14 +2,16 @@
 --   kindAt t x, roleAt t x, fillerAt t x, tailAt t x     the four numbers of the name x in the table t; kind 0: no axiom
 --   countAt s t x, partAt s t x i                        the number of x's conjuncts, and the conjunct i, read from the file s
 --   Stands c s p q                                       q is the place of one of the c axioms from place p of s on
---   Decoded s t                                          t is the table of s
+--   Decoded n c s t                                      t is the table of the c axioms of s, which has n names
 use mathlib.Core.Path.{_≡_}
+use mathlib.Core.Bool.{true}
 use mathlib.Core.List.{List}
 use Prim.Native.Nat.{ℕ, suc, _+_, _*_, _≤_, _<_}
 use lib.ListN.{length, getD}
-use Rattle.release.specs.Files.{header, most-names, most-roles, axiomLength, axiomsFault}
-use Rattle.release.specs.Readings.{entryOf}
+use Rattle.release.specs.Files.{header, mostNames, mostRoles, namesOf, countOf, joins, restricts, axiomLength, axiomsFault, fault}
+use Rattle.release.specs.Readings.{entryOf, checked}
 use Rattle.release.specs.declared.axiom.Entry.{Entry}
+use Rattle.release.specs.declared.Checked.{Checked}
 
 unfoldable pub kindAt : List ℕ → ℕ → ℕ
 kindAt t x = getD t (4 * x) 0
@@ -76,8 +78,8 @@ pub record Decoded (n c : ℕ) (s t : List ℕ) : Type 0 where
 -- before the axioms are read: a header without fault, and a blank row for each name
 pub record Ready (n m c : ℕ) (s t : List ℕ) : Type 0 where
   pub long : header ≤ length s
-  pub names : n ≤ most-names
-  pub roles : m ≤ most-roles
+  pub names : n ≤ mostNames
+  pub roles : m ≤ mostRoles
   pub count : c ≤ n
   pub rows : 4 * n ≤ length t
   pub blank : (x : ℕ) → x < n → kindAt t x ≡ 0
@@ -98,3 +100,37 @@ pub record HasCount (s t : List ℕ) (x : ℕ) : Type 0 where
 pub record HasPart (s t : List ℕ) (x i : ℕ) : Type 0 where
   pub row : 4 * x + 4 ≤ length t
   pub inside : tailAt t x + 1 + i < length s
+
+-- the ranges that loops over a table rely on: rows for all names, fillers that are nodes, conjuncts in the file that are names
+pub record Shaped (n : ℕ) (s t : List ℕ) : Type 0 where
+  pub rows : 4 * n ≤ length t
+  pub filler : (x : ℕ) → x < n → restricts (kindAt t x) ≡ true → fillerAt t x ≤ n
+  pub inside : (x : ℕ) → x < n → joins (kindAt t x) ≡ true → tailAt t x + 1 + countAt s t x ≤ length s
+  pub part : (x i : ℕ) → x < n → joins (kindAt t x) ≡ true → i < countAt s t x → partAt s t x i < n
+
+-- a conjunct of the name x is a left name of kind 2; some name has such a conjunct
+pub record PartDefined (s t : List ℕ) (x : ℕ) : Type 0 where
+  pub at : ℕ
+  pub among : at < countAt s t x
+  pub is-defined : kindAt t (partAt s t x at) ≡ 2
+
+pub record SomePartDefined (n : ℕ) (s t : List ℕ) : Type 0 where
+  pub left : ℕ
+  pub is-name : left < n
+  pub is-conjunction : joins (kindAt t left) ≡ true
+  pub part : PartDefined s t left
+
+-- what the search in one name's conjuncts asks
+pub record Conjunctive (n : ℕ) (s t : List ℕ) (x : ℕ) : Type 0 where
+  pub shaped : Shaped n s t
+  pub is-name : x < n
+  pub is-conjunction : joins (kindAt t x) ≡ true
+
+-- a table with a blank row for each name that there can be; and after reading a release into it
+pub record Blank (t : List ℕ) : Type 0 where
+  pub rows : 4 * mostNames ≤ length t
+  pub blank : (x : ℕ) → x < mostNames → kindAt t x ≡ 0
+
+pub record ReleaseRead (s t : List ℕ) (r : Checked) : Type 0 where
+  pub answer : r ≡ checked s
+  pub decoded : fault s ≡ 0 → Decoded (namesOf s) (countOf s) s t

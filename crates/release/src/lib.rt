@@ -1,5 +1,15 @@
 // The release file: read, checked and shown.
+ghost use mathlib.Core.Path.{_≡_};
+ghost use Rattle.release.specs.Readings.{checked};
+ghost use Rattle.release.specs.Tables.{Blank, ReleaseRead};
+use crate::axiom::wide;
+use crate::conjuncts::some_part_defined;
+use crate::header::header_fault;
+use crate::table::Table;
+use crate::table::read_axioms;
+
 mod axiom;
+mod conjuncts;
 mod header;
 pub mod table;
 
@@ -46,4 +56,48 @@ pub struct Counts {
 pub enum Checked {
     Accepted(Counts),
     Refused(Refusal),
+}
+
+// A refusal of the release that a call has on side 1.
+fn refused(number: u8) -> Checked
+    ensures { λ r. ⌜ r ≡ Checked.Refused (record { number = number; side = 1 }) ⌝ }
+{
+    Checked::Refused(Refusal {
+        number: number,
+        side: 1,
+    })
+}
+
+// Checks a release and reads it into a blank table. Of an accepted one the table then holds every axiom by name.
+pub fn read_release(file: &[u8], table: &mut [u16]) -> Checked
+    requires { ⌜ Blank (now table) ⌝ }
+    ensures { λ r. ⌜ ReleaseRead (now (file .entry)) (now (table .exit)) r ⌝ }
+{
+    let head = header_fault(file);
+    if head != 0 {
+        return refused(head);
+    }
+    let names = wide(file[5]);
+    let roles = wide(file[6]);
+    let axioms = wide(file[7]);
+    let fault = read_axioms(file, table, names, roles, axioms);
+    if fault != 0 {
+        return refused(fault);
+    }
+    if some_part_defined(file, table, names) {
+        return refused(15);
+    }
+    Checked::Accepted(Counts {
+        names: names,
+        roles: roles,
+        axioms: axioms,
+    })
+}
+
+// Checks a release: accepted with its counts, or the first refusal that it meets.
+pub fn check_release(file: &[u8]) -> Checked
+    ensures { λ r. ⌜ r ≡ checked (now (file .entry)) ⌝ }
+{
+    let mut table = [0u16; Table::LENGTH];
+    read_release(file, &mut table)
 }
