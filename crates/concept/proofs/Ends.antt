@@ -1,7 +1,6 @@
 -- Where reading a concept ends, by places of the text: one law for each answer that the code gives, its premises those that the
 -- code's tests show. Not here: that what is read is the concept with these bytes (Texts).
-use mathlib.Core.Path.{_≡_, refl, sym, ap, subst, _∙_}
-use mathlib.Core.Bool.{true, false}
+use mathlib.Core.Path.{_≡_, refl, ap, subst, _∙_}
 use mathlib.Core.List.{List, [], _∷_}
 use Prim.Native.Nat.{ℕ, zero, suc, _+_, _-_, _≤_, _<_}
 use native.Mathlib.Numerals.{add-one}

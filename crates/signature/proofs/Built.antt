@@ -3,11 +3,11 @@
 use mathlib.Core.Path.{_≡_, refl, sym, ap, _∙_}
 use mathlib.Core.Bool.{Bool, true, false}
 use mathlib.Core.List.{List, [], _∷_}
-use Prim.Native.Nat.{ℕ, zero, suc, _+_, _-_, _≤_, _<_}
+use Prim.Native.Nat.{ℕ, zero, suc, _+_, _≤_}
 use native.Mathlib.Omega.{arith}
 use borrow.Author.Tests.{leb-true, eq-eqb}
 use lib.Dec.{ltb, leb}
-use lib.ListN.{length, getD, take, set, replicate, length-set, length-take, length-replicate}
+use lib.ListN.{length, take, set, length-set, length-replicate}
 use lib.Seq.{set-out, length-take-le}
 use Rattle.el.specs.Lists.{pick, all}
 use Rattle.signature.specs.declared.Signature.{Signature}
