@@ -13,7 +13,8 @@ use lib.Dec.{ltb, leb, eqb}
 use lib.ListN.{length, length-append}
 use Rattle.el.specs.Lists.{pick}
 use Rattle.el.specs.Concepts.{Concept, top, name, both, some}
-use Rattle.concept.specs.Bytes.{conceptBytes, isWithin, Parsed, parsed, notParsed, nameFrom, bothFrom, someFrom, conceptFrom, readConcept, longest, conceptOk, IsTextOf}
+use Rattle.concept.specs.Bytes.{conceptBytes, isWithin, Parsed, parsed, notParsed, nameFrom, bothFrom, someFrom}
+use Rattle.concept.specs.Bytes.{conceptFrom, readConcept, longest, conceptOk, IsTextOf}
 
 both-true : (a b : Bool) → a && b ≡ true → (a ≡ true) × (b ≡ true)
 both-true true b e = (refl, e)
@@ -47,7 +48,7 @@ module _ (n m : ℕ) (from : List ℕ → Parsed) (gives-back : (s : List ℕ) �
       let first = gives-back s (parts .0) in
       let second = gives-back (c .rest) (parts .1) in
       rw test record {
-        bytes = ap (λ (t : List ℕ). 2 ∷ t) (append-assoc (conceptBytes (c .concept)) _ _ ∙ ap (λ (t : List ℕ). conceptBytes (c .concept) ++ t) (second .bytes) ∙ first .bytes);
+        bytes = rw (append-assoc, second .bytes, first .bytes);
         within = rw (first .within, second .within);
       }
 
@@ -89,7 +90,8 @@ accepted-is-text n m s ok =
     }
 
 -- the bytes of a concept are read as it, whatever follows them
-bytes-are-read : (c : Concept) (n m f : ℕ) (t : List ℕ) → isWithin n m c ≡ true → length (conceptBytes c) ≤ f → conceptFrom f n m (conceptBytes c ++ t) ≡ parsed c t
+bytes-are-read : (c : Concept) (n m f : ℕ) (t : List ℕ) → isWithin n m c ≡ true → length (conceptBytes c) ≤ f
+    → conceptFrom f n m (conceptBytes c ++ t) ≡ parsed c t
 bytes-are-read top n m zero t within enough = absurd (omega arith)
 bytes-are-read top n m (suc f) t within enough = refl
 bytes-are-read (name x) n m zero t within enough = absurd (omega arith)
@@ -107,17 +109,21 @@ bytes-are-read (some r c) n m (suc f) t within enough =
     let filler = bytes-are-read c n m f t (parts .1) (omega arith) in
     rw (parts .0, filler)
 
-pub text-is-accepted : (n m : ℕ) (c : Concept) (s : List ℕ) → IsTextOf n m c s → (conceptOk n m s ≡ true) × (readConcept n m s .concept ≡ c)
+pub text-is-accepted : (n m : ℕ) (c : Concept) (s : List ℕ) → IsTextOf n m c s
+    → (conceptOk n m s ≡ true) × (readConcept n m s .concept ≡ c)
 unfolding conceptOk
 text-is-accepted n m c s text =
     let whole : conceptBytes c ++ [] ≡ s = append-nil _ ∙ text .bytes in
     let enough : length (conceptBytes c) ≤ length s = omega (arith, ap length (text .bytes)) in
-    let read : readConcept n m s ≡ parsed c [] = ap (conceptFrom (length s) n m) (sym whole) ∙ bytes-are-read c n m (length s) [] (text .within) enough in
+    let read : readConcept n m s ≡ parsed c [] =
+    ap (conceptFrom (length s) n m) (sym whole) ∙ bytes-are-read c n m (length s) [] (text .within) enough in
     (rw (le-leb _ _ (text .short), read), ap (λ (p : Parsed). p .concept) read)
 
 pub refused-exactly : (n m : ℕ) (s : List ℕ) → (conceptOk n m s ≡ false) ↔ ((c : Concept) → IsTextOf n m c s → ⊥)
-refused-exactly n m s =
-    (λ refused c text. false≢true (sym refused ∙ text-is-accepted n m c s text .0), λ none. by-test none (conceptOk n m s) refl)
+refused-exactly n m s = (
+  λ refused c text. false≢true (sym refused ∙ text-is-accepted n m c s text .0),
+  λ none. by-test none (conceptOk n m s) refl,
+)
   where
     by-test : ((c : Concept) → IsTextOf n m c s → ⊥) → (test : Bool) → conceptOk n m s ≡ test → test ≡ false
     by-test none true ok = absurd (none _ (accepted-is-text n m s ok))

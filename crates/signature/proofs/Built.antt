@@ -12,7 +12,8 @@ use lib.Seq.{set-out, length-take-le}
 use Rattle.el.specs.Lists.{pick, all}
 use Rattle.signature.specs.declared.Signature.{Signature}
 use Rattle.signature.specs.Bytes.{isBit, signatureFault}
-use Rattle.signature.specs.Building.{mostNames, mostRoles, mostBytes, lesser, emptySignature, chosen, withName, withRole, Built, lent}
+use Rattle.signature.specs.Building.{mostNames, mostRoles, mostBytes, lesser, emptySignature}
+use Rattle.signature.specs.Building.{chosen, withName, withRole, Built, lent}
 
 -- past the bytes a store changes nothing
 pub chosen-past : (g : Signature) (place : ℕ) → length (g .bytes) ≤ place → g ≡ chosen g place
@@ -81,4 +82,5 @@ module _ (g : Signature) (built : Built g) where
   unfolding signatureFault
   built-accepted =
       let enough : g .names + g .roles ≤ length (g .bytes) = omega (arith, built .names, built .roles, built .long) in
-      simp (length-take-le _ (g .bytes) enough, eq-eqb (g .names + g .roles) _ refl, bits-take (g .names + g .roles) (g .bytes) (built .bits))
+      let bits = bits-take (g .names + g .roles) (g .bytes) (built .bits) in
+      simp (length-take-le _ (g .bytes) enough, eq-eqb (g .names + g .roles) _ refl, bits)

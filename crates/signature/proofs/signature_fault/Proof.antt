@@ -3,7 +3,8 @@
 use borrow.Author.Needs.{needs}
 use Prim.Native.Nat.{_-_}
 use lib.ListN.{length}
-use Rattle.signature.proofs.Faults.{Scanned, too-few-for-names, other-than-roles, scan-begins, byte-above-1, scan-goes-on, all-bits}
+use Rattle.signature.proofs.Faults.{Scanned, scan-begins, scan-goes-on}
+use Rattle.signature.proofs.Faults.{too-few-for-names, other-than-roles, byte-above-1, all-bits}
 use Rattle.signature.proofs.signature_fault.Statement.{statement}
 use Rattle.signature.proofs.signature_fault.Tie as tie
 
