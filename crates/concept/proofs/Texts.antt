@@ -127,8 +127,8 @@ unfolding conceptOk
 text-is-accepted n m c s text =
     let whole : conceptBytes c ++ [] ≡ s = append-nil _ ∙ text .bytes in
     let enough : length (conceptBytes c) ≤ length s = omega (arith, ap length (text .bytes)) in
-    let read : readConcept n m s ≡ parsed c [] =
-    ap (conceptFrom (length s) n m) (sym whole) ∙ bytes-are-read c n m (length s) [] (text .within) enough in
+    let reads = bytes-are-read c n m (length s) [] (text .within) enough in
+    let read : readConcept n m s ≡ parsed c [] = ap (conceptFrom (length s) n m) (sym whole) ∙ reads in
     (rw (le-leb _ _ (text .short), read), ap (λ (p : Parsed). p .concept) read)
 
 pub refused-exactly : (n m : ℕ) (s : List ℕ) → (conceptOk n m s ≡ false) ↔ ((c : Concept) → IsTextOf n m c s → ⊥)

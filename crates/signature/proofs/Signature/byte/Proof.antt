@@ -26,11 +26,11 @@ returns c = simp (le-ltb _ _ (c .if1 .taken))
 returns-2 : tie.Need-returns-2
 unfolding byteAt
 returns-2 c =
-    let d = c .before .before in
-    let good = d .good in
-    let long : length (d .args .t1 .bytes) ≡ mostBytes = search needs in
-    let past : length (d .args .t1 .bytes) ≤ d .args .place = omega arith in
-    simp (lt-ltb _ _ (c .before .if1 .left), List·getD-eq-default (d .args .t1 .bytes) 0 past)
+    let entry = c .before .before in
+    let good = entry .good in
+    let long : length (entry .args .t1 .bytes) ≡ mostBytes = search needs in
+    let past : length (entry .args .t1 .bytes) ≤ entry .args .place = omega arith in
+    simp (lt-ltb _ _ (c .before .if1 .left), List·getD-eq-default (entry .args .t1 .bytes) 0 past)
 
 element-copy-out-result : tie.Need-element-copy-out-result
 element-copy-out-result c = search needs

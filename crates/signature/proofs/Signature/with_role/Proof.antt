@@ -30,10 +30,10 @@ returns c = simp (lt-ltb _ _ (c .before .if1 .taken))
 returns-2 : tie.Need-returns-2
 unfolding withRole
 returns-2 c =
-    let d = c .before .before in
-    let good = d .good in
-    let long : length (d .args .t1 .bytes) ≡ mostBytes = search needs in
-    simp (lt-ltb _ _ (c .before .if1 .taken)) (chosen-past _ (d .args .t1 .names + d .args .role .0) (omega arith))
+    let entry = c .before .before in
+    let good = entry .good in
+    let long : length (entry .args .t1 .bytes) ≡ mostBytes = search needs in
+    simp (lt-ltb _ _ (c .before .if1 .taken)) (chosen-past _ (entry .args .t1 .names + entry .args .role .0) (omega arith))
 
 returns-3 : tie.Need-returns-3
 unfolding withRole
