@@ -1,6 +1,6 @@
 -- What the tests of a concept's bytes show of their acceptance: one law for each answer.
 -- Not here: where reading ends (Ends).
-use mathlib.Core.Path.{_≡_, refl, sym, subst}
+use mathlib.Core.Path.{_≡_, refl, subst}
 use mathlib.Core.Bool.{Bool, true, false}
 use mathlib.Core.List.{List}
 use Prim.Native.Nat.{ℕ, _-_, _≤_, _<_}

@@ -1,7 +1,6 @@
 -- Where reading a concept ends, by places of the text: one law for each answer that the code gives, its premises those that the
 -- code's tests show. Not here: that what is read is the concept with these bytes (Texts).
-use mathlib.Core.Path.{_≡_, refl, sym, ap, subst, _∙_}
-use mathlib.Core.Bool.{true, false}
+use mathlib.Core.Path.{_≡_, refl, ap, subst, _∙_}
 use mathlib.Core.List.{List, [], _∷_}
 use Prim.Native.Nat.{ℕ, zero, suc, _+_, _-_, _≤_, _<_}
 use native.Mathlib.Numerals.{add-one}
@@ -18,7 +17,8 @@ nothing-read : (f n m : ℕ) → conceptFrom f n m [] ≡ notParsed
 nothing-read zero n m = refl
 nothing-read (suc f) n m = refl
 
-no-kind : (k : ℕ) (a b c d : Parsed) → (k ≡ 0 → ⊥) → (k ≡ 1 → ⊥) → (k ≡ 2 → ⊥) → (k ≡ 3 → ⊥) → byKind k a b c d ≡ notParsed
+no-kind : (k : ℕ) (a b c d : Parsed) → (k ≡ 0 → ⊥) → (k ≡ 1 → ⊥) → (k ≡ 2 → ⊥) → (k ≡ 3 → ⊥)
+    → byKind k a b c d ≡ notParsed
 no-kind zero a b c d not0 not1 not2 not3 = absurd (not0 refl)
 no-kind (suc zero) a b c d not0 not1 not2 not3 = absurd (not1 refl)
 no-kind (suc (suc zero)) a b c d not0 not1 not2 not3 = absurd (not2 refl)
@@ -43,12 +43,14 @@ module _ (n m : ℕ) (s : List ℕ) (at : ℕ) where
     byte-after : at + 1 < length s → drop (at + 1) s ≡ getD s (at + 1) 0 ∷ drop (at + 1 + 1) s
     byte-after more = rw (add-one (at + 1), drop-cons s (at + 1) 0 more)
 
-    opened : (f : ℕ) → length s - at ≤ f → conceptFrom f n m (drop at s) ≡ conceptFrom (suc (f - 1)) n m (getD s at 0 ∷ drop (at + 1) s)
+    opened : (f : ℕ) → length s - at ≤ f
+        → conceptFrom f n m (drop at s) ≡ conceptFrom (suc (f - 1)) n m (getD s at 0 ∷ drop (at + 1) s)
     opened f enough =
         let one-step : f ≡ suc (f - 1) = omega arith in
         ap (conceptFrom f n m) next-byte ∙ ap (λ (j : ℕ). conceptFrom j n m (getD s at 0 ∷ drop (at + 1) s)) one-step
 
-    pub ends-no-kind : (getD s at 0 ≡ 0 → ⊥) → (getD s at 0 ≡ 1 → ⊥) → (getD s at 0 ≡ 2 → ⊥) → (getD s at 0 ≡ 3 → ⊥) → EndsAs n m s at Bad
+    pub ends-no-kind : (getD s at 0 ≡ 0 → ⊥) → (getD s at 0 ≡ 1 → ⊥) → (getD s at 0 ≡ 2 → ⊥) → (getD s at 0 ≡ 3 → ⊥)
+        → EndsAs n m s at Bad
     ends-no-kind not0 not1 not2 not3 = record {
       after = tt;
       reads = λ f enough. rw (opened f enough) (rw (no-kind _ _ _ _ _ not0 not1 not2 not3));

@@ -1,4 +1,6 @@
 -- An accepted text and the concept that it is determine each other.
+--   GivesBack n m s p    what p gives is a concept, within n and m, with the bytes of s before the rest
+--   end-gives-back       so is the concept that stands before an end
 --   accepted-is-text     an accepted text is a text of the concept read
 --   text-is-accepted     a text of a concept is accepted, and is read as that concept
 --   refused-exactly      refusal 19 is met exactly where the text is that of no concept
@@ -6,14 +8,17 @@ use mathlib.Core.Path.{_≡_, refl, sym, ap, _∙_}
 use mathlib.Core.Logic.{_↔_}
 use mathlib.Core.Bool.{Bool, true, false, _&&_, false≢true}
 use mathlib.Core.List.{List, [], _∷_, _++_, append-assoc, append-nil}
-use Prim.Native.Nat.{ℕ, zero, suc, _+_, _-_, _≤_, _<_}
+use Prim.Native.Nat.{ℕ, zero, suc, _-_, _≤_}
 use native.Mathlib.Omega.{arith}
 use borrow.Author.Tests.{leb-true, le-leb, eqb-true}
 use lib.Dec.{ltb, leb, eqb}
-use lib.ListN.{length, length-append}
+use lib.ListN.{length, drop, length-append}
+use Rattle.concept.specs.declared.End.the-variants.{At}
+use Rattle.concept.specs.Ends.{EndsAs, conceptAt}
 use Rattle.el.specs.Lists.{pick}
 use Rattle.el.specs.Concepts.{Concept, top, name, both, some}
-use Rattle.concept.specs.Bytes.{conceptBytes, isWithin, Parsed, parsed, notParsed, nameFrom, bothFrom, someFrom, conceptFrom, readConcept, longest, conceptOk, IsTextOf}
+use Rattle.concept.specs.Bytes.{conceptBytes, isWithin, Parsed, parsed, notParsed, nameFrom, bothFrom, someFrom}
+use Rattle.concept.specs.Bytes.{conceptFrom, readConcept, longest, conceptOk, IsTextOf}
 
 both-true : (a b : Bool) → a && b ≡ true → (a ≡ true) × (b ≡ true)
 both-true true b e = (refl, e)
@@ -28,9 +33,9 @@ no-bytes [] e = refl
 no-bytes (b ∷ s) e = absurd (omega arith)
 
 -- what is read is a concept with these bytes
-record GivesBack (n m : ℕ) (s : List ℕ) (p : Parsed) : Type 0 where
-  bytes : conceptBytes (p .concept) ++ p .rest ≡ s
-  within : isWithin n m (p .concept) ≡ true
+pub record GivesBack (n m : ℕ) (s : List ℕ) (p : Parsed) : Type 0 where
+  pub bytes : conceptBytes (p .concept) ++ p .rest ≡ s
+  pub within : isWithin n m (p .concept) ≡ true
 
 name-gives-back : (n m : ℕ) (s : List ℕ) → nameFrom n s .good ≡ true → GivesBack n m (1 ∷ s) (nameFrom n s)
 name-gives-back n m [] good = absurd (false≢true good)
@@ -47,7 +52,7 @@ module _ (n m : ℕ) (from : List ℕ → Parsed) (gives-back : (s : List ℕ) �
       let first = gives-back s (parts .0) in
       let second = gives-back (c .rest) (parts .1) in
       rw test record {
-        bytes = ap (λ (t : List ℕ). 2 ∷ t) (append-assoc (conceptBytes (c .concept)) _ _ ∙ ap (λ (t : List ℕ). conceptBytes (c .concept) ++ t) (second .bytes) ∙ first .bytes);
+        bytes = rw (append-assoc, second .bytes, first .bytes);
         within = rw (first .within, second .within);
       }
 
@@ -63,7 +68,7 @@ module _ (n m : ℕ) (from : List ℕ → Parsed) (gives-back : (s : List ℕ) �
         within = rw (parts .0, filler .within);
       }
 
-reading-gives-back : (f n m : ℕ) (s : List ℕ) → conceptFrom f n m s .good ≡ true → GivesBack n m s (conceptFrom f n m s)
+pub reading-gives-back : (f n m : ℕ) (s : List ℕ) → conceptFrom f n m s .good ≡ true → GivesBack n m s (conceptFrom f n m s)
 reading-gives-back zero n m s good = absurd (false≢true good)
 reading-gives-back (suc f) n m [] good = absurd (false≢true good)
 reading-gives-back (suc f) n m (zero ∷ s) good = record { bytes = refl; within = refl }
@@ -73,6 +78,14 @@ reading-gives-back (suc f) n m (suc (suc zero) ∷ s) good =
 reading-gives-back (suc f) n m (suc (suc (suc zero)) ∷ s) good =
     some-gives-back n m (conceptFrom f n m) (reading-gives-back f n m) s good
 reading-gives-back (suc f) n m (suc (suc (suc (suc k))) ∷ s) good = absurd (false≢true good)
+
+-- the concept that stands before an end
+pub end-gives-back : (n m : ℕ) (s : List ℕ) (at e : ℕ) → EndsAs n m s at (At e)
+    → (conceptBytes (conceptAt n m s at) ++ drop e s ≡ drop at s) × (isWithin n m (conceptAt n m s at) ≡ true)
+end-gives-back n m s at e ends =
+    let read = ends .reads (length s - at) (omega arith) in
+    let back = reading-gives-back (length s - at) n m (drop at s) (read .0) in
+    (rw (← read .1) (back .bytes), back .within)
 
 pub accepted-is-text : (n m : ℕ) (s : List ℕ) → conceptOk n m s ≡ true → IsTextOf n m (readConcept n m s .concept) s
 unfolding conceptOk
@@ -89,7 +102,8 @@ accepted-is-text n m s ok =
     }
 
 -- the bytes of a concept are read as it, whatever follows them
-bytes-are-read : (c : Concept) (n m f : ℕ) (t : List ℕ) → isWithin n m c ≡ true → length (conceptBytes c) ≤ f → conceptFrom f n m (conceptBytes c ++ t) ≡ parsed c t
+pub bytes-are-read : (c : Concept) (n m f : ℕ) (t : List ℕ) → isWithin n m c ≡ true → length (conceptBytes c) ≤ f
+    → conceptFrom f n m (conceptBytes c ++ t) ≡ parsed c t
 bytes-are-read top n m zero t within enough = absurd (omega arith)
 bytes-are-read top n m (suc f) t within enough = refl
 bytes-are-read (name x) n m zero t within enough = absurd (omega arith)
@@ -107,17 +121,21 @@ bytes-are-read (some r c) n m (suc f) t within enough =
     let filler = bytes-are-read c n m f t (parts .1) (omega arith) in
     rw (parts .0, filler)
 
-pub text-is-accepted : (n m : ℕ) (c : Concept) (s : List ℕ) → IsTextOf n m c s → (conceptOk n m s ≡ true) × (readConcept n m s .concept ≡ c)
+pub text-is-accepted : (n m : ℕ) (c : Concept) (s : List ℕ) → IsTextOf n m c s
+    → (conceptOk n m s ≡ true) × (readConcept n m s .concept ≡ c)
 unfolding conceptOk
 text-is-accepted n m c s text =
     let whole : conceptBytes c ++ [] ≡ s = append-nil _ ∙ text .bytes in
     let enough : length (conceptBytes c) ≤ length s = omega (arith, ap length (text .bytes)) in
-    let read : readConcept n m s ≡ parsed c [] = ap (conceptFrom (length s) n m) (sym whole) ∙ bytes-are-read c n m (length s) [] (text .within) enough in
+    let reads = bytes-are-read c n m (length s) [] (text .within) enough in
+    let read : readConcept n m s ≡ parsed c [] = ap (conceptFrom (length s) n m) (sym whole) ∙ reads in
     (rw (le-leb _ _ (text .short), read), ap (λ (p : Parsed). p .concept) read)
 
 pub refused-exactly : (n m : ℕ) (s : List ℕ) → (conceptOk n m s ≡ false) ↔ ((c : Concept) → IsTextOf n m c s → ⊥)
-refused-exactly n m s =
-    (λ refused c text. false≢true (sym refused ∙ text-is-accepted n m c s text .0), λ none. by-test none (conceptOk n m s) refl)
+refused-exactly n m s = (
+  λ refused c text. false≢true (sym refused ∙ text-is-accepted n m c s text .0),
+  λ none. by-test none (conceptOk n m s) refl,
+)
   where
     by-test : ((c : Concept) → IsTextOf n m c s → ⊥) → (test : Bool) → conceptOk n m s ≡ test → test ≡ false
     by-test none true ok = absurd (none _ (accepted-is-text n m s ok))

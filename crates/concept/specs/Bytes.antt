@@ -2,7 +2,6 @@
 --   conceptBytes c           the bytes of the concept c
 --   isWithin n m c           the names of c are below n and its roles below m
 --   conceptFrom f n m s      the concept at the start of s, nested at most f deep, and the bytes after it
---   readConcept n m s        the same, as deep as s has bytes: deep enough, since each step takes a byte
 --   conceptOk n m s          s is accepted: not over 255 bytes, one concept and no bytes left over
 --   IsTextOf n m c s         s is a text of the concept c, said without reading
 use mathlib.Core.Path.{_≡_}
@@ -74,6 +73,7 @@ conceptFrom (suc f) n m (k ∷ s) =
     (bothFrom (conceptFrom f n m) s)
     (someFrom m (conceptFrom f n m) s)
 
+-- as deep as s has bytes: deep enough, since each step takes a byte
 abbrev pub readConcept : ℕ → ℕ → List ℕ → Parsed
 readConcept n m s = conceptFrom (length s) n m s
 

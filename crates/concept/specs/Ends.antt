@@ -1,13 +1,19 @@
 -- Where a concept's bytes end, by places of the text.
---   EndsAs n m s at r     r is the end of the concept that is read at the place at of s
+--   conceptAt n m s at    the concept that is read at the place at of s, where one is
+--   EndsAs n m s at r     r is its end
 use mathlib.Core.Path.{_≡_}
 use mathlib.Core.Bool.{true, false}
 use mathlib.Core.List.{List}
 use Prim.Native.Nat.{ℕ, _-_, _≤_, _<_}
 use lib.ListN.{length, drop}
+use Rattle.el.specs.Concepts.{Concept}
 use Rattle.concept.specs.declared.End.{End}
 use Rattle.concept.specs.declared.End.the-variants.{At, Bad}
 use Rattle.concept.specs.Bytes.{Parsed, conceptFrom}
+
+-- the concept that is read at a place
+abbrev pub conceptAt : ℕ → ℕ → List ℕ → ℕ → Concept
+conceptAt n m s at = conceptFrom (length s - at) n m (drop at s) .concept
 
 -- the end that reading gives
 abbrev pub EndOf : List ℕ → Parsed → End → Type 0

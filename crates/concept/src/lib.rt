@@ -12,6 +12,7 @@ pub enum End {
     Bad,
 }
 
+// A byte as a number to compare: a cast of its own, so that reading a byte asks only for its place.
 fn wide(byte: u8) -> usize
     ensures { λ r. ⌜ r ≡ byte ⌝ }
 {
@@ -59,7 +60,8 @@ pub fn concept_end(bytes: &[u8], at: usize, names: usize, roles: usize) -> End
     }
 }
 
-// Whether the bytes are one concept and nothing else. Their number is tested first, so that reading goes at most 255 calls deep.
+// Whether the bytes are one concept and nothing else. Their number is tested first, so that `concept_end` calls itself at most
+// 255 deep.
 pub fn is_concept(bytes: &[u8], names: usize, roles: usize) -> bool
     ensures { λ r. ⌜ r ≡ conceptOk names roles (now (bytes .entry)) ⌝ }
 {

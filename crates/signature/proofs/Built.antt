@@ -3,16 +3,17 @@
 use mathlib.Core.Path.{_≡_, refl, sym, ap, _∙_}
 use mathlib.Core.Bool.{Bool, true, false}
 use mathlib.Core.List.{List, [], _∷_}
-use Prim.Native.Nat.{ℕ, zero, suc, _+_, _-_, _≤_, _<_}
+use Prim.Native.Nat.{ℕ, zero, suc, _+_, _≤_}
 use native.Mathlib.Omega.{arith}
 use borrow.Author.Tests.{leb-true, eq-eqb}
 use lib.Dec.{ltb, leb}
-use lib.ListN.{length, getD, take, set, replicate, length-set, length-take, length-replicate}
+use lib.ListN.{length, take, set, length-set, length-replicate}
 use lib.Seq.{set-out, length-take-le}
 use Rattle.el.specs.Lists.{pick, all}
 use Rattle.signature.specs.declared.Signature.{Signature}
 use Rattle.signature.specs.Bytes.{isBit, signatureFault}
-use Rattle.signature.specs.Building.{mostNames, mostRoles, mostBytes, lesser, emptySignature, chosen, withName, withRole, Built, lent}
+use Rattle.signature.specs.Building.{mostNames, mostRoles, mostBytes, lesser, emptySignature}
+use Rattle.signature.specs.Building.{chosen, withName, withRole, Built, lent}
 
 -- past the bytes a store changes nothing
 pub chosen-past : (g : Signature) (place : ℕ) → length (g .bytes) ≤ place → g ≡ chosen g place
@@ -81,4 +82,5 @@ module _ (g : Signature) (built : Built g) where
   unfolding signatureFault
   built-accepted =
       let enough : g .names + g .roles ≤ length (g .bytes) = omega (arith, built .names, built .roles, built .long) in
-      simp (length-take-le _ (g .bytes) enough, eq-eqb (g .names + g .roles) _ refl, bits-take (g .names + g .roles) (g .bytes) (built .bits))
+      let bits = bits-take (g .names + g .roles) (g .bytes) (built .bits) in
+      simp (length-take-le _ (g .bytes) enough, eq-eqb (g .names + g .roles) _ refl, bits)

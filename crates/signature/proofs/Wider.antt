@@ -31,7 +31,8 @@ module _ (n m : ℕ) where
   empty-has-no-role r = rw (zeros _ mostBytes _, and-false)
 
 -- a byte is 1 after a store where it was stored, or where it was 1 before
-bit-after-set : (s : List ℕ) (place i : ℕ) → place < length s → eqb (getD (set s place 1) i 0) 1 ≡ eqb i place || eqb (getD s i 0) 1
+bit-after-set : (s : List ℕ) (place i : ℕ) → place < length s
+    → eqb (getD (set s place 1) i 0) 1 ≡ eqb i place || eqb (getD s i 0) 1
 bit-after-set s place i within = by-test (eqb i place) refl
   where
     by-test : (test : Bool) → eqb i place ≡ test → eqb (getD (set s place 1) i 0) 1 ≡ test || eqb (getD s i 0) 1
@@ -46,42 +47,50 @@ eqb-shifted k i j = by-test (eqb i j) refl
     by-test false differ = ne-eqb (k + i) (k + j) (λ same. eqb-false i j differ (omega arith))
 
 -- what is stored is in range
-in-range : (range same before : Bool) → (same ≡ true → range ≡ true) → range && (same || before) ≡ same || (range && before)
+in-range : (range same before : Bool) → (same ≡ true → range ≡ true)
+    → range && (same || before) ≡ same || (range && before)
 in-range true same before within = refl
 in-range false true before within = within refl
 in-range false false before within = refl
 
 module _ (g : Signature) (built : Built g) where
-  bit-of-chosen : (place i : ℕ) → place < g .names + g .roles → eqb (getD (lent (chosen g place)) i 0) 1 ≡ eqb i place || eqb (getD (lent g) i 0) 1
+  bit-of-chosen : (place i : ℕ) → place < g .names + g .roles
+      → eqb (getD (lent (chosen g place)) i 0) 1 ≡ eqb i place || eqb (getD (lent g) i 0) 1
   bit-of-chosen place i within =
       let long = length-take-le (g .names + g .roles) (g .bytes) (omega (arith, built .names, built .roles, built .long)) in
       rw (take-set-lt (g .names + g .roles) (g .bytes) place 1 within) (bit-after-set (lent g) place i (omega arith))
 
-  pub names-with-name : (x y : ℕ) → chosenBy (withName g x) .has-name y ≡ (eqb y x && ltb x (g .names)) || chosenBy g .has-name y
+  pub names-with-name : (x y : ℕ)
+      → chosenBy (withName g x) .has-name y ≡ (eqb y x && ltb x (g .names)) || chosenBy g .has-name y
   unfolding withName
   names-with-name x y = by-range (ltb x (g .names)) refl
     where
-      by-range : (test : Bool) → ltb x (g .names) ≡ test → chosenBy (pick test (chosen g x) g) .has-name y ≡ (eqb y x && test) || chosenBy g .has-name y
+      by-range : (test : Bool) → ltb x (g .names) ≡ test
+          → chosenBy (pick test (chosen g x) g) .has-name y ≡ (eqb y x && test) || chosenBy g .has-name y
       by-range true below =
           let less = ltb-true x (g .names) below in
-          rw (bit-of-chosen x y (omega arith), and-true) (in-range (ltb y (g .names)) (eqb y x) _ (λ same. rw (eqb-true y x same) below))
+          rw (bit-of-chosen x y (omega arith), and-true)
+          (in-range (ltb y (g .names)) (eqb y x) _ (λ same. rw (eqb-true y x same) below))
       by-range false out = rw and-false
 
   pub roles-with-name : (x r : ℕ) → chosenBy (withName g x) .has-role r ≡ chosenBy g .has-role r
   unfolding withName
   roles-with-name x r = by-range (ltb x (g .names)) refl
     where
-      by-range : (test : Bool) → ltb x (g .names) ≡ test → chosenBy (pick test (chosen g x) g) .has-role r ≡ chosenBy g .has-role r
+      by-range : (test : Bool) → ltb x (g .names) ≡ test
+          → chosenBy (pick test (chosen g x) g) .has-role r ≡ chosenBy g .has-role r
       by-range true below =
           let less = ltb-true x (g .names) below in
           rw (bit-of-chosen x (g .names + r) (omega arith), ne-eqb (g .names + r) x (λ same. omega arith))
       by-range false out = refl
 
-  pub roles-with-role : (r q : ℕ) → chosenBy (withRole g r) .has-role q ≡ (eqb q r && ltb r (g .roles)) || chosenBy g .has-role q
+  pub roles-with-role : (r q : ℕ)
+      → chosenBy (withRole g r) .has-role q ≡ (eqb q r && ltb r (g .roles)) || chosenBy g .has-role q
   unfolding withRole
   roles-with-role r q = by-range (ltb r (g .roles)) refl
     where
-      by-range : (test : Bool) → ltb r (g .roles) ≡ test → chosenBy (pick test (chosen g (g .names + r)) g) .has-role q ≡ (eqb q r && test) || chosenBy g .has-role q
+      by-range : (test : Bool) → ltb r (g .roles) ≡ test
+          → chosenBy (pick test (chosen g (g .names + r)) g) .has-role q ≡ (eqb q r && test) || chosenBy g .has-role q
       by-range true below =
           let less = ltb-true r (g .roles) below in
           rw (bit-of-chosen (g .names + r) (g .names + q) (omega arith), eqb-shifted, and-true)
@@ -92,7 +101,8 @@ module _ (g : Signature) (built : Built g) where
   unfolding withRole
   names-with-role r x = by-range (ltb r (g .roles)) refl (ltb x (g .names)) refl
     where
-      by-range : (test : Bool) → ltb r (g .roles) ≡ test → (is-name : Bool) → ltb x (g .names) ≡ is-name → chosenBy (pick test (chosen g (g .names + r)) g) .has-name x ≡ chosenBy g .has-name x
+      by-range : (test : Bool) → ltb r (g .roles) ≡ test → (is-name : Bool) → ltb x (g .names) ≡ is-name
+          → chosenBy (pick test (chosen g (g .names + r)) g) .has-name x ≡ chosenBy g .has-name x
       by-range true below true named =
           let less = ltb-true r (g .roles) below in
           let first = ltb-true x (g .names) named in

@@ -3,8 +3,7 @@
 --   withName g x           g with the name x more, withRole g r with the role r; unchanged where the number is out of range
 --   byteAt g i             g's byte at the place i below its n + m, elsewhere 0
 --   Built g                g has the shape that each of these steps gives and keeps
---   lent g                 the bytes of g to lend to a comparison
---   chosenBy g             the names and roles that they choose
+--   lent g, chosenBy g     the bytes of g to lend to a comparison, and the names and roles that they choose
 use mathlib.Core.Path.{_≡_}
 use mathlib.Core.Bool.{true}
 use mathlib.Core.List.{List}

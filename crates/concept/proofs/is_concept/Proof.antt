@@ -1,10 +1,9 @@
+-- `is_concept` meets its contract: each answer is one law of Accepted, from the end that `concept_end` gives.
+-- Not here: what an accepted text means (Texts).
 use borrow.Author.Needs.{needs}
 use Rattle.concept.proofs.Accepted.{too-long, no-concept, by-the-end}
 use Rattle.concept.proofs.is_concept.Statement.{statement}
 use Rattle.concept.proofs.is_concept.Tie as tie
-use Rattle.concept.proofs.is_concept.Reads as reads
-use Rattle.concept.proofs.is_concept.Lts as lts
-use Rattle.concept.proofs.concept_end.Reads as concept-end-reads
 
 returns : tie.Need-returns
 returns c = too-long _ _ _ (c .if1 .taken)
@@ -19,10 +18,14 @@ enum-told : tie.Need-enum-told
 enum-told c = search needs
 
 returns-2 : tie.Need-returns-2
-returns-2 c = no-concept _ _ _ (c .before .before .before .if1 .left) _ (c .before .before .concept-end .ensures) (c .enum-told .given .1)
+returns-2 c =
+    let read = c .before .before in
+    no-concept _ _ _ (read .before .if1 .left) _ (read .concept-end .ensures) (c .enum-told .given .1)
 
 returns-3 : tie.Need-returns-3
-returns-3 c = by-the-end _ _ _ (c .before .before .before .before .if1 .left) _ (c .before .before .before .concept-end .ensures) _ (c .before .read .given .1)
+returns-3 c =
+    let read = c .before .before .before in
+    by-the-end _ _ _ (read .before .if1 .left) _ (read .concept-end .ensures) _ (c .before .read .given .1)
 
 pub is-concept-spec : {M : Type 1} → statement M
 is-concept-spec =

@@ -1,16 +1,14 @@
+-- `lesser` meets its contract: the test of the code is that of the definition.
+-- Not here: that the lesser number is at most the limit (Built).
 use borrow.Author.Tests.{le-leb, lt-leb}
 use Rattle.signature.specs.Building.{lesser}
 use Rattle.signature.proofs.lesser.Statement.{statement}
 use Rattle.signature.proofs.lesser.Tie as tie
-use Rattle.signature.proofs.lesser.Reads as reads
-use Rattle.signature.proofs.lesser.Lts as lts
 
--- src/lib.rt:82:9
 returns : tie.Need-returns
 unfolding lesser
 returns c = simp (le-leb _ _ (c .if1 .taken))
 
--- src/lib.rt:78:1
 returns-2 : tie.Need-returns-2
 unfolding lesser
 returns-2 c = simp (lt-leb _ _ (c .if1 .left))

@@ -1,12 +1,12 @@
-use native.Mathlib.Omega.{arith}
+-- `signature_fault` meets its contract. The loop's invariant: the length is right, and the bytes before `i` are 0 or 1. The measure
+-- is the bytes that are left.
 use borrow.Author.Needs.{needs}
 use Prim.Native.Nat.{_-_}
 use lib.ListN.{length}
-use Rattle.signature.proofs.Faults.{Scanned, too-few-for-names, other-than-roles, scan-begins, byte-above-1, scan-goes-on, all-bits}
+use Rattle.signature.proofs.Faults.{Scanned, scan-begins, scan-goes-on}
+use Rattle.signature.proofs.Faults.{too-few-for-names, other-than-roles, byte-above-1, all-bits}
 use Rattle.signature.proofs.signature_fault.Statement.{statement}
 use Rattle.signature.proofs.signature_fault.Tie as tie
-use Rattle.signature.proofs.signature_fault.Reads as reads
-use Rattle.signature.proofs.signature_fault.Lts as lts
 
 abbrev Inv-loop : tie.InvT-loop
 Inv-loop signature names roles i₀ i = Scanned names roles signature i
@@ -14,43 +14,33 @@ Inv-loop signature names roles i₀ i = Scanned names roles signature i
 abbrev μ-loop : tie.MeasureT-loop
 μ-loop signature names roles i₀ i = length signature - i
 
--- src/lib.rt:93:9
 returns : tie.Need-returns Inv-loop μ-loop
 returns c = too-few-for-names _ _ _ (c .if1 .taken)
 
--- src/lib.rt:95:8
 sub-if2 : tie.Need-sub-if2 Inv-loop μ-loop
 sub-if2 c = search needs
 
--- src/lib.rt:96:9
 returns-2 : tie.Need-returns-2 Inv-loop μ-loop
 returns-2 c = other-than-roles _ _ _ (c .before .if1 .left) (c .if2 .taken)
 
--- src/lib.rt:99:5
 loop-holds : tie.Need-loop-holds Inv-loop μ-loop
 loop-holds c = scan-begins _ _ _ (c .before .if1 .left) (c .if2 .left)
 
--- src/lib.rt:100:16
 shared-slice-read-if3 : tie.Need-shared-slice-read-if3 Inv-loop μ-loop
 shared-slice-read-if3 c = search needs
 
--- src/lib.rt:101:13
 returns-3 : tie.Need-returns-3 Inv-loop μ-loop
 returns-3 c = byte-above-1 _ _ _ _ (c .before .before .before .loop .inv) (c .before .before .loop-test .taken) (c .if3 .taken)
 
--- src/lib.rt:103:9
 add-i : tie.Need-add-i Inv-loop μ-loop
 add-i c = search needs
 
--- src/lib.rt:99:5
 loop-less : tie.Need-loop-less Inv-loop μ-loop
 loop-less c = search needs
 
--- src/lib.rt:99:5
 loop-again : tie.Need-loop-again Inv-loop μ-loop
 loop-again c = scan-goes-on _ _ _ _ (c .before .before .before .loop .inv) (c .before .before .loop-test .taken) (c .if3 .left)
 
--- src/lib.rt:89:1
 returns-4 : tie.Need-returns-4 Inv-loop μ-loop
 returns-4 c = all-bits _ _ _ _ (c .before .loop .inv) (c .loop-test .left)
 

@@ -1,3 +1,5 @@
+-- `Signature::byte` meets its contract. Where the place is past the bytes, which only a signature filled by hand can have, the
+-- definition gives 0 too.
 use borrow.Author.Tests.{lt-ltb, le-ltb}
 use mathlib.Core.Path.{_≡_}
 use Prim.Native.Nat.{_≤_}
@@ -7,41 +9,32 @@ use Rattle.signature.specs.Building.{mostBytes, byteAt}
 use borrow.Author.Needs.{needs}
 use Rattle.signature.proofs.Signature.byte.Statement.{statement}
 use Rattle.signature.proofs.Signature.byte.Tie as tie
-use Rattle.signature.proofs.Signature.byte.Reads as reads
-use Rattle.signature.proofs.Signature.byte.Lts as lts
 
--- src/lib.rt:68:12
 cast-if1 : tie.Need-cast-if1
 cast-if1 c = search needs
 
--- src/lib.rt:68:34
 cast-if1-2 : tie.Need-cast-if1-2
 cast-if1-2 c = search needs
 
--- src/lib.rt:68:12
 add-if1 : tie.Need-add-if1
 add-if1 c = search needs
 
--- src/lib.rt:69:13
 returns : tie.Need-returns
 unfolding byteAt
 returns c = simp (le-ltb _ _ (c .if1 .taken))
 
--- src/lib.rt:72:13
 returns-2 : tie.Need-returns-2
 unfolding byteAt
 returns-2 c =
-    let d = c .before .before in
-    let good = d .good in
-    let long : length (d .args .t1 .bytes) ≡ mostBytes = search needs in
-    let past : length (d .args .t1 .bytes) ≤ d .args .place = omega arith in
-    simp (lt-ltb _ _ (c .before .if1 .left), List·getD-eq-default (d .args .t1 .bytes) 0 past)
+    let entry = c .before .before in
+    let good = entry .good in
+    let long : length (entry .args .t1 .bytes) ≡ mostBytes = search needs in
+    let past : length (entry .args .t1 .bytes) ≤ entry .args .place = omega arith in
+    simp (lt-ltb _ _ (c .before .if1 .left), List·getD-eq-default (entry .args .t1 .bytes) 0 past)
 
--- src/lib.rt:74:9
 element-copy-out-result : tie.Need-element-copy-out-result
 element-copy-out-result c = search needs
 
--- src/lib.rt:65:5
 returns-3 : tie.Need-returns-3
 unfolding byteAt
 returns-3 c = simp (lt-ltb _ _ (c .before .before .if1 .left))

@@ -1,3 +1,5 @@
+-- `Signature::with_role` meets its contract. Where the place is past the bytes, which only a signature filled by hand can have, the
+-- definition stores nothing either.
 use borrow.Author.Tests.{lt-ltb, le-ltb}
 use mathlib.Core.Path.{_≡_}
 use Prim.Native.Nat.{_+_}
@@ -8,40 +10,31 @@ use Rattle.signature.specs.Building.{mostBytes, withRole}
 use borrow.Author.Needs.{needs}
 use Rattle.signature.proofs.Signature.with_role.Statement.{statement}
 use Rattle.signature.proofs.Signature.with_role.Tie as tie
-use Rattle.signature.proofs.Signature.with_role.Reads as reads
-use Rattle.signature.proofs.Signature.with_role.Lts as lts
 
--- src/lib.rt:55:21
 cast-if1 : tie.Need-cast-if1
 cast-if1 c = search needs
 
--- src/lib.rt:56:25
 cast-place : tie.Need-cast-place
 cast-place c = search needs
 
--- src/lib.rt:56:25
 add-place : tie.Need-add-place
 add-place c = search needs
 
--- src/lib.rt:58:17
 element-write-self : tie.Need-element-write-self
 element-write-self c = search needs
 
--- src/lib.rt:51:5
 returns : tie.Need-returns
 unfolding withRole
 returns c = simp (lt-ltb _ _ (c .before .if1 .taken))
 
--- src/lib.rt:51:5
 returns-2 : tie.Need-returns-2
 unfolding withRole
 returns-2 c =
-    let d = c .before .before in
-    let good = d .good in
-    let long : length (d .args .t1 .bytes) ≡ mostBytes = search needs in
-    simp (lt-ltb _ _ (c .before .if1 .taken)) (chosen-past _ (d .args .t1 .names + d .args .role .0) (omega arith))
+    let entry = c .before .before in
+    let good = entry .good in
+    let long : length (entry .args .t1 .bytes) ≡ mostBytes = search needs in
+    simp (lt-ltb _ _ (c .before .if1 .taken)) (chosen-past _ (entry .args .t1 .names + entry .args .role .0) (omega arith))
 
--- src/lib.rt:51:5
 returns-3 : tie.Need-returns-3
 unfolding withRole
 returns-3 c = simp (le-ltb _ _ (c .if1 .left))
