@@ -9,3 +9,4 @@ pub mod Nodes
 pub mod Saturation
 pub mod Classification
 pub mod ForwardMarks
+pub mod PlainNodes
