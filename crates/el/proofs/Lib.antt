@@ -10,3 +10,4 @@ pub mod Saturation
 pub mod Classification
 pub mod ForwardMarks
 pub mod PlainNodes
+pub mod BackwardMarks
