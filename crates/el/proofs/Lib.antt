@@ -11,3 +11,4 @@ pub mod Classification
 pub mod ForwardMarks
 pub mod PlainNodes
 pub mod BackwardMarks
+pub mod Demand3
