@@ -12,3 +12,5 @@ pub mod ForwardMarks
 pub mod PlainNodes
 pub mod BackwardMarks
 pub mod Demand3
+pub mod Questions
+pub mod Answers
