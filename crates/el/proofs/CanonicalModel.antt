@@ -36,6 +36,9 @@ within-other itself = in-other itself
 within-other (in-one w) = in-one (within-other w)
 within-other (in-other w) = in-other (within-other w)
 
+pub within-some : {q r : ℕ} {c d : Concept} → Within (some q c) (some r d) → some q c ≡ some r d
+within-some itself = refl
+
 pub data Edge (al : List Axiom) (r : ℕ) (c d : Concept) : Type 0 where
   written : Within c (some r d) → Edge al r c d
   implied : {a : Axiom} → In al a → Restricts a r d → Derives al c (name (a .left)) → Edge al r c d

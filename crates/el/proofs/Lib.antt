@@ -9,3 +9,8 @@ pub mod Nodes
 pub mod Saturation
 pub mod Classification
 pub mod ForwardMarks
+pub mod PlainNodes
+pub mod BackwardMarks
+pub mod Demand3
+pub mod Questions
+pub mod Answers

@@ -5,19 +5,19 @@
 --   below-name            c ⊑ x is derivable only where PartsBelow al c x (the terminology lemma)
 --   refined-inversion     c ⊑ ∃r.d is derivable only where one conjunct of c lies below ∃r.d (OneBelowSome al c r d)
 use mathlib.Core.Path.{_≡_, refl, sym, ap, _∙_}
-use mathlib.Core.Logic.{inl, inr}
+use mathlib.Core.Logic.{_⊎_, inl, inr, _↔_}
 use mathlib.Core.Bool.{true, false, true≢false}
 use mathlib.Core.List.{List}
 use Prim.Native.Nat.{ℕ}
 use Rattle.el.specs.Lists.{In}
 use Rattle.el.specs.Concepts.{Concept, top, name, both, some, conceptOf}
 use Rattle.el.specs.Axioms.{Axiom, rightOf, isConjunction, partsOf, roleOf, fillerOf}
-use Rattle.el.specs.Derivability.{Derives, same, to-top, meet, under, stated, defined}
+use Rattle.el.specs.Derivability.{Derives, same, to-top, one, other, meet, under, stated, defined}
 use Rattle.el.specs.Interpretations.{Interpretation, sat, Model}
 use Rattle.el.proofs.Tests.{which}
-use Rattle.el.proofs.Derivations.{_▹_, Joins, Fills, Restricts, right-conjunction, right-restriction, to-part, from-parts, to-filler, from-filler, has-part}
+use Rattle.el.proofs.Derivations.{_▹_, Serves, Joins, Fills, Restricts, right-conjunction, right-restriction, to-part, from-parts, to-filler, from-filler, has-part}
 use Rattle.el.proofs.Soundness.{sound}
-use Rattle.el.proofs.CanonicalModel.{Within, itself, within-derives, within-one, within-other, Edge, written, implied, edge-derives, canonical, names-hold, hold-names, within-holds, derives-holds, inversion}
+use Rattle.el.proofs.CanonicalModel.{Within, itself, in-one, in-other, within-derives, within-one, within-other, within-some, Edge, written, implied, edge-derives, canonical, names-hold, hold-names, within-holds, derives-holds, inversion}
 
 pub record Terminology (al : List Axiom) : Type 0 where
   pub one-axiom : {a b : Axiom} → In al a → In al b → a .left ≡ b .left → a ≡ b
@@ -184,3 +184,27 @@ module _ {al : List Axiom} (terms : Terminology al) where
 
   pub refined-inversion : {c : Concept} {r : ℕ} {d : Concept} → Derives al c (some r d) → OneBelowSome al c r d
   refined-inversion p = let s = inversion p in some-of-edge (s .by-edge) (s .then)
+
+  -- so, by the form of c
+  pub top-below-some : {r : ℕ} {d : Concept} → Derives al top (some r d) → ⊥
+  top-below-some p = elim (refined-inversion p) [ by-name w q ↦ elim w [ ] | by-some w q ↦ elim w [ ] ]
+
+  pub both-below-some : {c d : Concept} {r : ℕ} {e : Concept} → Derives al (both c d) (some r e) ↔ (Derives al c (some r e) ⊎ Derives al d (some r e))
+  both-below-some {c} {d} {r} {e} = (λ p. by-conjunct (refined-inversion p), λ w. elim w [ inl p ↦ one ▹ p | inr p ↦ other ▹ p ])
+    where
+      by-conjunct : OneBelowSome al (both c d) r e → Derives al c (some r e) ⊎ Derives al d (some r e)
+      by-conjunct (by-name (in-one w) p) = inl (one-below-some-derives (by-name w p))
+      by-conjunct (by-name (in-other w) p) = inr (one-below-some-derives (by-name w p))
+      by-conjunct (by-some (in-one w) p) = inl (one-below-some-derives (by-some w p))
+      by-conjunct (by-some (in-other w) p) = inr (one-below-some-derives (by-some w p))
+
+  pub some-below-some : {q r : ℕ} {c d : Concept} → Derives al (some q c) (some r d) ↔ (Serves q r × Derives al c d)
+  some-below-some {q} {r} {c} {d} = (λ p. by-conjunct (refined-inversion p), λ w. rw (w .0) (under (w .1)))
+    where
+      by-conjunct : OneBelowSome al (some q c) r d → Serves q r × Derives al c d
+      by-conjunct (by-name w p) = elim w [ ]
+      by-conjunct (by-some {e = e} w p) =
+          let s = within-some w in
+          let role : q ≡ r = cc in
+          let filler : c ≡ e = cc in
+          (role, rw filler p)

@@ -27,6 +27,10 @@ pub which : (b : Bool) → (b ≡ true) ⊎ (b ≡ false)
 which true = inl refl
 which false = inr refl
 
+pub which-not : (b : Bool) → (b ≡ false) ⊎ (b ≡ true)
+which-not true = inr refl
+which-not false = inl refl
+
 pub and-left : (a b : Bool) → a && b ≡ true → a ≡ true
 and-left true b e = refl
 and-left false b e = e

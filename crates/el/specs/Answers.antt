@@ -112,7 +112,8 @@ forward n sig t u in-t in-u f x y =
 
 -- neither ⊤ nor a conjunction by its definition
 abbrev pub isPlain : List Axiom → Node → Bool
-isPlain al x = not (sameNode x everything) && not (any (λ a. isOf x a && isJoin a) al)
+isPlain al everything = false
+isPlain al (named x) = not (any (λ a. isOf (named x) a && isJoin a) al)
 
 abbrev pub isPlainColumn : List Axiom → Column → Bool
 isPlainColumn al nothing = true

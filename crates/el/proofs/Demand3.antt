@@ -1,0 +1,185 @@
+-- Two terminologies compared over a signature: each name has one byte, and no name is reported exactly where they are equal.
+--   KeptAbove sig t u a, KeptBelow sig t u a      no signature concept above (below) the name a by t is lost by u
+--   left-kept, right-kept                         so it is where forward (backward) marks leave a free
+--   left-exact, right-exact                       and where they do not, there is a witness: the marks tell of witnesses
+--   the-byte                                      the byte of a name, by any tables and marks that are right and closed
+--   witness-or-kept-above, witness-or-kept-below  a name has a witness, or all is kept
+--   all-kept                                      where all names are kept, so is every inclusion over the signature
+--   demand3                                       demand 3 of specs/Comparison
+use mathlib.Core.Path.{_≡_, refl, ap₂, sym, _∙_}
+use mathlib.Core.Logic.{_⊎_, inl, inr, _↔_}
+use mathlib.Core.Bool.{Bool, true, false, false≢true, true≢false}
+use mathlib.Core.List.{List}
+use Prim.Native.Nat.{ℕ, zero, suc, _≤_, _<_}
+use native.Mathlib.Omega.{arith}
+use Rattle.el.specs.Lists.{pick}
+use Rattle.el.specs.Concepts.{Concept, top, name, both, some, Node, named}
+use Rattle.el.specs.Axioms.{Axiom}
+use Rattle.el.specs.Derivability.{Derives, to-top, one, other, meet, under}
+use Rattle.el.specs.Signatures.{Signature, isOver, LeftWitness, RightWitness, EqualOver}
+use Rattle.el.specs.Comparison.{onLeft, onRight, IsByte, ReportsNone, Demand3}
+use Rattle.el.specs.Answers.{Test, node, byteOf}
+use Rattle.el.proofs.Tests.{and-left, and-right, which}
+use Rattle.el.proofs.Derivations.{_▹_}
+use Rattle.el.proofs.Terminologies.{Terminology, top-below-some, both-below-some, some-below-some}
+use Rattle.el.proofs.Nodes.{name-node, node-column, Formed, NamesBelow}
+use Rattle.el.proofs.Classification.{Table, some-table}
+use Rattle.el.proofs.ForwardMarks.{ForwardMarks, some-forward-marks, above-kept}
+use Rattle.el.proofs.BackwardMarks.{BackwardMarks, some-backward-marks, below-kept}
+
+pub record KeptAbove (sig : Signature) (t u : List Axiom) (a : ℕ) : Type 0 where
+  pub keeps : (d : Concept) → isOver sig d ≡ true → Derives t (name a) d → Derives u (name a) d
+
+pub record KeptBelow (sig : Signature) (t u : List Axiom) (a : ℕ) : Type 0 where
+  pub keeps : (c : Concept) → isOver sig c ≡ true → Derives t c (name a) → Derives u c (name a)
+
+-- bytes
+byte-left : (l r : Bool) → onLeft (byteOf l r) ≡ l
+byte-left true true = refl
+byte-left true false = refl
+byte-left false true = refl
+byte-left false false = refl
+
+byte-right : (l r : Bool) → onRight (byteOf l r) ≡ r
+byte-right true true = refl
+byte-right true false = refl
+byte-right false true = refl
+byte-right false false = refl
+
+byte-small : (l r : Bool) → byteOf l r ≤ 3
+byte-small true true = omega arith
+byte-small true false = omega arith
+byte-small false true = omega arith
+byte-small false false = omega arith
+
+byte-from-sides : (b : ℕ) → b ≤ 3 → b ≡ byteOf (onLeft b) (onRight b)
+byte-from-sides zero h = refl
+byte-from-sides (suc zero) h = refl
+byte-from-sides (suc (suc zero)) h = refl
+byte-from-sides (suc (suc (suc zero))) h = refl
+byte-from-sides (suc (suc (suc (suc b)))) h = absurd (omega arith)
+
+same-test : (a b : Bool) → (a ≡ true → b ≡ true) → (b ≡ true → a ≡ true) → a ≡ b
+same-test true b f h = sym (f refl)
+same-test false true f h = h refl
+same-test false false f h = refl
+
+pub one-byte : {sig : Signature} {t u : List Axiom} {a b c : ℕ} → IsByte sig t u a b → IsByte sig t u a c → b ≡ c
+one-byte {sig} {a = a} {b = b} {c = c} p q = elim (which (sig .has-name a)) [
+  | inl h ↦ byte-from-sides b (p .small)
+      ∙ ap₂ byteOf (same-test (onLeft b) (onLeft c) (λ z. q .left h .1 (p .left h .0 z)) (λ z. p .left h .1 (q .left h .0 z)))
+      (same-test (onRight b) (onRight c) (λ z. q .right h .1 (p .right h .0 z)) (λ z. p .right h .1 (q .right h .0 z)))
+      ∙ sym (byte-from-sides c (q .small))
+  | inr h ↦ p .outside h ∙ sym (q .outside h)
+]
+
+-- by any tables and marks that are right and closed
+module _ {n : ℕ} (sig : Signature) (names-in : NamesBelow n sig) {t u : List Axiom} (first-formed : Formed n t) (second-formed : Formed n u) (first-terms : Terminology t) (second-terms : Terminology u) (first-table : Table n t) (second-table : Table n u) where
+  abbrev pub Forth : Type 0
+  Forth = ForwardMarks n sig t u (first-table .says) (second-table .says)
+
+  abbrev pub Back : Type 0
+  Back = BackwardMarks n sig t u (first-table .says) (second-table .says)
+
+  pub left-kept : (f : Forth) (a : ℕ) → a < n → f .mark (named a) (named a) ≡ false → KeptAbove sig t u a
+  left-kept f a l free = record { keeps = above-kept sig names-in first-formed second-formed first-table second-table (f .mark) (f .closed) (named a) (named a) (name-node l) (name-node l) free }
+
+  pub right-kept : (g : Back) (a : ℕ) → a < n → g .mark (named a) (node (named a)) ≡ false → KeptBelow sig t u a
+  right-kept g a l free = record { keeps = λ c o p. below-kept sig names-in first-formed second-formed first-terms second-terms first-table second-table (g .mark) (g .closed) c o (named a) (node (named a)) (name-node l) (node-column (name-node l)) free p }
+
+  pub left-exact : (f : Forth) (a : ℕ) → a < n → (f .mark (named a) (named a) ≡ true) ↔ LeftWitness sig t u a
+  left-exact f a l = (
+    λ h. let w = f .good (named a) (named a) (name-node l) (name-node l) h in record { above = w .it; over = w .over; first = w .by-first; not-second = w .not-second },
+    λ w. elim (which (f .mark (named a) (named a))) [ inl h ↦ h | inr h ↦ absurd (w .not-second (left-kept f a l h .keeps (w .above) (w .over) (w .first))) ],
+  )
+
+  pub right-exact : (g : Back) (a : ℕ) → a < n → (g .mark (named a) (node (named a)) ≡ true) ↔ RightWitness sig t u a
+  right-exact g a l = (
+    λ h. let w = g .good (named a) (node (named a)) (name-node l) (node-column (name-node l)) h in record { below = w .it; over = w .over; first = w .by-first; not-second = w .not-second },
+    λ w. elim (which (g .mark (named a) (node (named a)))) [ inl h ↦ h | inr h ↦ absurd (w .not-second (right-kept g a l h .keeps (w .below) (w .over) (w .first))) ],
+  )
+
+  pub the-byte : (f : Forth) (g : Back) (a : ℕ) → a < n → IsByte sig t u a (pick (sig .has-name a) (byteOf (f .mark (named a) (named a)) (g .mark (named a) (node (named a)))) 0)
+  the-byte f g a l = elim (which (sig .has-name a)) [
+    | inl e ↦ record {
+      outside = λ z. absurd (true≢false (sym e ∙ z));
+      small = rw e (byte-small (f .mark (named a) (named a)) (g .mark (named a) (node (named a))));
+      left = λ z. rw (e, byte-left (f .mark (named a) (named a)) (g .mark (named a) (node (named a)))) (left-exact f a l);
+      right = λ z. rw (e, byte-right (f .mark (named a) (named a)) (g .mark (named a) (node (named a)))) (right-exact g a l);
+    }
+    | inr e ↦ record { outside = λ z. rw e; small = rw e (omega arith); left = λ z. absurd (true≢false (sym z ∙ e)); right = λ z. absurd (true≢false (sym z ∙ e)) }
+  ]
+
+-- such tables and marks there are
+module _ {n : ℕ} (sig : Signature) (names-in : NamesBelow n sig) {t u : List Axiom} (first-formed : Formed n t) (second-formed : Formed n u) (first-terms : Terminology t) (second-terms : Terminology u) where
+  abbrev first-table : Table n t
+  first-table = some-table first-formed
+
+  abbrev second-table : Table n u
+  second-table = some-table second-formed
+
+  forth : Forth sig names-in first-formed second-formed first-terms second-terms first-table second-table
+  forth = some-forward-marks sig names-in first-formed second-formed first-table second-table
+
+  back : Back sig names-in first-formed second-formed first-terms second-terms first-table second-table
+  back = some-backward-marks sig names-in first-formed second-formed first-terms second-terms first-table second-table
+
+  pub witness-or-kept-above : (a : ℕ) → a < n → LeftWitness sig t u a ⊎ KeptAbove sig t u a
+  witness-or-kept-above a l = elim (which (forth .mark (named a) (named a))) [
+    | inl h ↦ inl (left-exact sig names-in first-formed second-formed first-terms second-terms first-table second-table forth a l .0 h)
+    | inr h ↦ inr (left-kept sig names-in first-formed second-formed first-terms second-terms first-table second-table forth a l h)
+  ]
+
+  pub witness-or-kept-below : (a : ℕ) → a < n → RightWitness sig t u a ⊎ KeptBelow sig t u a
+  witness-or-kept-below a l = elim (which (back .mark (named a) (node (named a)))) [
+    | inl h ↦ inl (right-exact sig names-in first-formed second-formed first-terms second-terms first-table second-table back a l .0 h)
+    | inr h ↦ inr (right-kept sig names-in first-formed second-formed first-terms second-terms first-table second-table back a l h)
+  ]
+
+-- where all names are kept, so is every inclusion
+module _ (sig : Signature) {t u : List Axiom} (first-terms : Terminology t) (above : (a : ℕ) → sig .has-name a ≡ true → KeptAbove sig t u a) (below : (a : ℕ) → sig .has-name a ≡ true → KeptBelow sig t u a) where
+  some-kept : (r : ℕ) (d : Concept) → isOver sig (some r d) ≡ true → ((c : Concept) → isOver sig c ≡ true → Derives t c d → Derives u c d) → (c : Concept) → isOver sig c ≡ true → Derives t c (some r d) → Derives u c (some r d)
+  some-kept r d q keep top o p = absurd (top-below-some first-terms p)
+  some-kept r d q keep (name b) o p = above b o .keeps (some r d) q p
+  some-kept r d q keep (both c e) o p = elim (both-below-some first-terms .0 p) [
+    | inl v ↦ one ▹ some-kept r d q keep c (and-left (isOver sig c) _ o) v
+    | inr v ↦ other ▹ some-kept r d q keep e (and-right (isOver sig c) _ o) v
+  ]
+  some-kept r d q keep (some s c) o p =
+      let w = some-below-some first-terms .0 p in
+      rw (w .0) (under (keep c (and-right (sig .has-role s) _ o) (w .1)))
+
+  pub all-kept : (d : Concept) → isOver sig d ≡ true → (c : Concept) → isOver sig c ≡ true → Derives t c d → Derives u c d
+  all-kept top q c o p = to-top
+  all-kept (name a) q c o p = below a q .keeps c o p
+  all-kept (both d e) q c o p = meet (all-kept d (and-left (isOver sig d) _ q) c o (p ▹ one)) (all-kept e (and-right (isOver sig d) _ q) c o (p ▹ other))
+  all-kept (some r d) q c o p = some-kept r d q (all-kept d (and-right (sig .has-role r) _ q)) c o p
+
+-- equal: no name is reported
+equal-reports-none : {sig : Signature} {t u : List Axiom} (n : ℕ) → EqualOver sig t u → ReportsNone n sig t u
+equal-reports-none n e a l = record {
+  outside = λ h. refl;
+  small = omega arith;
+  left = λ h. (λ k. absurd (false≢true k), λ w. absurd (w .not-second (e .alike (name a) (w .above) h (w .over) .0 (w .first))));
+  right = λ h. (λ k. absurd (false≢true k), λ w. absurd (w .not-second (e .alike (w .below) (name a) (w .over) h .0 (w .first))));
+}
+
+equal-turned : {sig : Signature} {t u : List Axiom} → EqualOver sig t u → EqualOver sig u t
+equal-turned e = record { alike = λ c d o q. (e .alike c d o q .1, e .alike c d o q .0) }
+
+module _ {n : ℕ} (sig : Signature) (names-in : NamesBelow n sig) {t u : List Axiom} (first-formed : Formed n t) (second-formed : Formed n u) (first-terms : Terminology t) (second-terms : Terminology u) where
+  pub none-reported-kept : ReportsNone n sig t u → (c d : Concept) → isOver sig c ≡ true → isOver sig d ≡ true → Derives t c d → Derives u c d
+  none-reported-kept reports c d o q p = all-kept sig first-terms
+      (λ a h. elim (witness-or-kept-above sig names-in first-formed second-formed first-terms second-terms a (names-in a h)) [ inl w ↦ absurd (false≢true (reports a (names-in a h) .left h .1 w)) | inr k ↦ k ])
+      (λ a h. elim (witness-or-kept-below sig names-in first-formed second-formed first-terms second-terms a (names-in a h)) [ inl w ↦ absurd (false≢true (reports a (names-in a h) .right h .1 w)) | inr k ↦ k ])
+      d q c o p
+
+pub demand3 : {n : ℕ} {t u : List Axiom} → Formed n t → Formed n u → Terminology t → Terminology u → (sig : Signature) → NamesBelow n sig → Demand3 n sig t u
+demand3 {n} {t} {u} first-formed second-formed first-terms second-terms sig names-in = record {
+  some-byte = λ a l. record { byte = _; is-byte = the-byte sig names-in first-formed second-formed first-terms second-terms (some-table first-formed) (some-table second-formed) (forth sig names-in first-formed second-formed first-terms second-terms) (back sig names-in first-formed second-formed first-terms second-terms) a l };
+  one-byte = λ a b c p q. one-byte p q;
+  equal = (
+    λ e. (equal-reports-none n e, equal-reports-none n (equal-turned e)),
+    λ w. record { alike = λ c d o q. (none-reported-kept sig names-in first-formed second-formed first-terms second-terms (w .0) c d o q, none-reported-kept sig names-in second-formed first-formed second-terms first-terms (w .1) c d o q) },
+  );
+}
