@@ -42,7 +42,7 @@ row-holds n s t q h = by-kind (joins (getD s (q + 1) 0)) refl
     by-kind true e = let r : Row t (entryAt n s q) = h in record { kind = rw (e, entryOf) at (r .kind); tail = rw (e, entryOf) at (r .tail); role = λ z. absurd (true≢false (sym e ∙ z)); filler = λ z. absurd (true≢false (sym e ∙ z)) }
     by-kind false e = let r : Row t (entryAt n s q) = h in record { kind = rw (e, entryOf) at (r .kind); tail = rw (e, entryOf) at (r .tail); role = λ z. rw (e, entryOf) at (r .role); filler = λ z. rw (e, entryOf, third) at (r .filler) }
 
-both-none : (j k : ℕ) → firstOf j k ≡ 0 → (j ≡ 0) × (k ≡ 0)
+pub both-none : (j k : ℕ) → firstOf j k ≡ 0 → (j ≡ 0) × (k ≡ 0)
 both-none zero k h = (refl, h)
 both-none (suc j) k h = absurd (omega arith)
 

@@ -9,3 +9,4 @@ pub mod DefinedParts
 pub mod Decoding
 pub mod NormalForm
 pub mod Checks
+pub mod Linked

@@ -22,7 +22,7 @@ kind-2 (suc zero) j d = absurd (false≢true d)
 kind-2 (suc (suc zero)) j d = refl
 kind-2 (suc (suc (suc k))) j d = absurd (true≢false (sym j ∙ high-not-joins (suc (suc (suc k))) (omega arith)))
 
-abbrev Defines : ℕ → Axiom → Type 0
+abbrev pub Defines : ℕ → Axiom → Type 0
 Defines x b = (b .left ≡ x) × ((b .defined ≡ true) × (isConjunction b ≡ true))
 
 defines-2 : (s : List ℕ) (q x : ℕ) → getD s q 0 ≡ x → getD s (q + 1) 0 ≡ 2 → Defines x (axiomAt s q)
@@ -34,10 +34,10 @@ unfolding axiomAt
 is-2 s q x w = (w .0, kind-2 (getD s (q + 1) 0) (sym (axiom-joins s q) ∙ w .1 .1) (w .1 .0))
 
 -- by the axioms
-abbrev Listed : List Axiom → Type 0
+abbrev pub Listed : List Axiom → Type 0
 Listed al = Some al (λ a. Some (partsOf a) (λ x. Some al (Defines x)))
 
-tells-listed : (al : List Axiom) → Tells (conjunctDefined al) (Listed al)
+pub tells-listed : (al : List Axiom) → Tells (conjunctDefined al) (Listed al)
 unfolding conjunctDefined
 tells-listed al = tells-any _ al (λ a _. tells-any _ (partsOf a) (λ x _. tells-any _ al (λ b _. tells-and (tells-eq (b .left) x) (λ _. tells-and (tells-true (b .defined)) (λ _. tells-true (isConjunction b))))))
 

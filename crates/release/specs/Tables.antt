@@ -4,12 +4,14 @@
 --   Stands c s p q                                       q is the place of one of the c axioms from place p of s on
 --   Decoded n c s t                                      t is the table of the c axioms of s, which has n names
 use mathlib.Core.Path.{_≡_}
-use mathlib.Core.Bool.{true}
+use mathlib.Core.Bool.{true, false}
 use mathlib.Core.List.{List}
 use Prim.Native.Nat.{ℕ, suc, _+_, _*_, _≤_, _<_}
-use lib.ListN.{length, getD}
+use lib.ListN.{length, getD, take, drop}
+use Rattle.el.specs.Lists.{In, pick}
+use Rattle.el.specs.Axioms.{Axiom, isConjunction, partsOf, roleOf, fillerOf}
 use Rattle.release.specs.Files.{header, mostNames, mostRoles, namesOf, countOf, joins, restricts, axiomLength, axiomsFault, fault}
-use Rattle.release.specs.Readings.{entryOf, checked}
+use Rattle.release.specs.Readings.{nodeNumber, entryOf, checked}
 use Rattle.release.specs.declared.axiom.Entry.{Entry}
 use Rattle.release.specs.declared.Checked.{Checked}
 
@@ -134,3 +136,24 @@ pub record Blank (t : List ℕ) : Type 0 where
 pub record ReleaseRead (s t : List ℕ) (r : Checked) : Type 0 where
   pub answer : r ≡ checked s
   pub decoded : fault s ≡ 0 → Decoded (namesOf s) (countOf s) s t
+
+-- an accepted file and its table: what the crates above are handed
+pub record Release (s t : List ℕ) : Type 0 where
+  pub accepted : fault s ≡ 0
+  pub decoded : Decoded (namesOf s) (countOf s) s t
+
+-- the kind of an axiom
+abbrev pub kindOf : Axiom → ℕ
+kindOf a = pick (isConjunction a) (pick (a .defined) 2 1) (pick (a .defined) 4 3)
+
+-- the row of an axiom, in the axiom's own terms
+pub record AxiomRow (n : ℕ) (s t : List ℕ) (a : Axiom) : Type 0 where
+  pub kind : kindAt t (a .left) ≡ kindOf a
+  pub parts : isConjunction a ≡ true → partsOf a ≡ take (countAt s t (a .left)) (drop (tailAt t (a .left) + 1) s)
+  pub role : isConjunction a ≡ false → roleAt t (a .left) ≡ roleOf a
+  pub filler : isConjunction a ≡ false → fillerAt t (a .left) ≡ nodeNumber n (fillerOf a)
+
+-- a name has no axiom and a blank row, or an axiom
+pub data NameRow (al : List Axiom) (t : List ℕ) (x : ℕ) : Type 0 where
+  no-axiom : kindAt t x ≡ 0 → ((a : Axiom) → In al a → a .left ≡ x → ⊥) → NameRow al t x
+  has-axiom : {a : Axiom} → In al a → a .left ≡ x → NameRow al t x

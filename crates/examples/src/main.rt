@@ -1,0 +1,22 @@
+// Tries outside examples on the public calls: a line for each family of cases, with how many there
+// were and how many came out differently, and before it a line for each difference.
+//
+// The data files are made by tools/vectors.py: `check` and `show` from vectors, the others from the
+// tables of their names in tools/.
+mod cases;
+mod check;
+mod print;
+mod run;
+mod show;
+mod signatures;
+mod verdict;
+
+use run::Call;
+
+fn main() {
+    run::family(Call::Check, b"check");
+    run::family(Call::Show, b"show");
+    run::family(Call::Check, b"refusals");
+    run::family(Call::Show, b"shows");
+    run::family(Call::Signatures, b"signatures");
+}
