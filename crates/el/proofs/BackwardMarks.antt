@@ -1,12 +1,12 @@
 -- What lies below a node by one terminology and not below a node by another, over a signature.
---   Below al c y                              c lies below the column y; below nothing, no concept does
---   LostBelow sig t u x y                     some signature concept lies below x by t and not below y by u
---   partner u r y                             for a plain y, ∃r.c lies below y exactly if c lies below this column
---   Backward sig t u in-t in-u f x y          a rule gives LostBelow from the marks f; in-t and in-u are the tables of t and u
---   BackwardMarks n sig t u in-t in-u         marks that are right and closed under the rule; some-backward-marks: there are such
---   below-kept                                where such marks leave x, y free, nothing that lies below x by t is lost for y by u
+--   Below al c y                                 c lies below the column y; below nothing, no concept does
+--   LostBelow sig t u x y                        some signature concept lies below x by t and not below y by u
+--   partner-is, partner-below, below-partner     for a plain y, ∃r.c lies below y exactly if c lies below partner u r y
+--   Backward sig t u in-t in-u f x y             a rule gives LostBelow from the marks f; in-t and in-u are the inclusions of t and u
+--   BackwardMarks sig first-table second-table   marks that are right and closed under the rule; some-backward-marks: there are such
+--   below-kept                                   where such marks leave x, y free, nothing that lies below x by t is lost for y by u
 use mathlib.Core.Path.{_≡_, refl, sym, ap, _∙_}
-use mathlib.Core.Logic.{_⊎_, inl, inr, _↔_}
+use mathlib.Core.Logic.{_⊎_, inl, inr}
 use mathlib.Core.Bool.{Bool, true, false, _&&_, false≢true, true≢false}
 use mathlib.Core.List.{List, [], _∷_}
 use Prim.Native.Nat.{ℕ}
@@ -15,13 +15,13 @@ use Rattle.el.specs.Concepts.{Concept, top, name, both, some, Node, ever
 use Rattle.el.specs.Axioms.{Axiom, partsOf, roleOf, fillerOf}
 use Rattle.el.specs.Derivability.{Derives, to-top, one, other}
 use Rattle.el.specs.Signatures.{Signature, isOver}
-use Rattle.el.specs.Answers.{Test, below, nodes, sameNode, Column, nothing, node, columns, sameColumn, isFill, isPlainColumn, nameUnder, partner, backward}
+use Rattle.el.specs.Answers.{Test, below, Column, nothing, node, sameColumn, isFill, isPlainColumn, nameUnder, partner, backward}
 use Rattle.el.proofs.Lists.{each, Some, Every, either}
 use Rattle.el.proofs.Tests.{Tells, tells-as, tells-true, tells-false, tells-and, tells-or, tells-any, tells-all, never, always, and-left, and-right, and-both, which, which-not}
 use Rattle.el.proofs.Derivations.{_▹_, Joins, Fills}
 use Rattle.el.proofs.Terminologies.{Terminology}
-use Rattle.el.proofs.Nodes.{IsNode, name-node, IsColumn, no-column, node-column, Formed, NamesBelow, in-below, in-nodes, in-columns, tells-node, tells-column}
-use Rattle.el.proofs.Saturation.{Marks, saturated}
+use Rattle.el.proofs.Nodes.{IsNode, name-node, IsColumn, no-column, node-column, Formed, NamesBelow, Comparable, in-below, tells-node, tells-column, node-axis, column-axis}
+use Rattle.el.proofs.Saturation.{Closed, Keeps, Marks, saturated}
 use Rattle.el.proofs.Classification.{tells-joins, tells-fills, Table, part-node}
 use Rattle.el.proofs.PlainNodes.{Plain, tells-plain, is-everything, is-joined, is-plain, kind, to-part-of, from-parts-of, from-filler-of, FilledBy, part-plain, top-below-plain, both-below-plain, some-below-plain}
 
@@ -48,8 +48,8 @@ pub data Backward (sig : Signature) (t u : List Axiom) (in-t in-u : Test Node No
   of-name : {b : ℕ} → PlainColumn u y → Plain t x → sig .has-name b ≡ true → in-t (named b) x ≡ true → nameUnder in-u b y ≡ false → Backward sig t u in-t in-u f x y
   of-role : {a : Axiom} {r : ℕ} → PlainColumn u y → Plain t x → In t a → named (a .left) ≡ x → Fills r a → sig .has-role r ≡ true → f (fillerOf a) (partner u r y) ≡ true → Backward sig t u in-t in-u f x y
 
-abbrev pub BackwardMarks : ℕ → Signature → List Axiom → List Axiom → Test Node Node → Test Node Node → Type 0
-BackwardMarks n sig t u in-t in-u = Marks (IsNode n) (IsColumn n) (LostBelow sig t u) (Backward sig t u in-t in-u)
+abbrev pub BackwardMarks : {n : ℕ} (sig : Signature) {t u : List Axiom} → Table n t → Table n u → Type 0
+BackwardMarks {n} sig {t} {u} first-table second-table = Marks (IsNode n) (IsColumn n) (LostBelow sig t u) (Backward sig t u (first-table .says) (second-table .says))
 
 -- the partner of a column: the filler of an axiom that fills it, else nothing
 pub data Partner (al : List Axiom) (r : ℕ) (y p : Column) : Type 0 where
@@ -130,7 +130,7 @@ tells-backward {n} sig names-in t u in-t in-u f x y = tells-as there back (tells
 partner-column : {n : ℕ} {al : List Axiom} → Formed n al → (r : ℕ) (y : Column) → IsColumn n (partner al r y)
 partner-column {al = al} formed r y = elim (partner-is al r y) [ filler g e f q ↦ rw q (node-column (formed .filler-in g)) | none k q ↦ rw q no-column ]
 
-module _ {n : ℕ} (sig : Signature) (names-in : NamesBelow n sig) {t u : List Axiom} (first-formed : Formed n t) (second-formed : Formed n u) (first-terms : Terminology t) (second-terms : Terminology u) (first-table : Table n t) (second-table : Table n u) where
+module _ {n : ℕ} {sig : Signature} {t u : List Axiom} (given : Comparable n sig t u) (first-table : Table n t) (second-table : Table n u) where
   abbrev in-t : Test Node Node
   in-t = first-table .says
 
@@ -139,16 +139,16 @@ module _ {n : ℕ} (sig : Signature) (names-in : NamesBelow n sig) {t u : List A
 
   tells-under : {b : ℕ} → sig .has-name b ≡ true → (y : Column) → IsColumn n y → Tells (nameUnder in-u b y) (Below u (name b) y)
   tells-under o nothing no-column = never (λ p. p)
-  tells-under {b} o (node y) (node-column j) = record { sound = λ h. second-table .sound (name-node (names-in b o)) j h; complete = λ p. second-table .complete (name-node (names-in b o)) j p }
+  tells-under {b} o (node y) (node-column j) = record { sound = λ h. second-table .sound (name-node (given .names-in b o)) j h; complete = λ p. second-table .complete (name-node (given .names-in b o)) j p }
 
   -- ⊤ is lost below a plain column, and so is a conjunction of what is lost
   top-lost : (y : Column) → PlainColumn u y → Below u top y → ⊥
   top-lost nothing plain-nothing p = p
-  top-lost (node y) (plain-node k) p = top-below-plain second-terms k p
+  top-lost (node y) (plain-node k) p = top-below-plain (given .second-terms) k p
 
   both-lost : (c d : Concept) (y : Column) → PlainColumn u y → (Below u c y → ⊥) → (Below u d y → ⊥) → Below u (both c d) y → ⊥
   both-lost c d nothing plain-nothing f g p = p
-  both-lost c d (node y) (plain-node k) f g p = elim (both-below-plain second-terms k .0 p) [ inl q ↦ f q | inr q ↦ g q ]
+  both-lost c d (node y) (plain-node k) f g p = elim (both-below-plain (given .second-terms) k .0 p) [ inl q ↦ f q | inr q ↦ g q ]
 
   record BelowAll (xs : List ℕ) (y : Column) : Type 0 where
     it : Concept
@@ -165,33 +165,33 @@ module _ {n : ℕ} (sig : Signature) (names-in : NamesBelow n sig) {t u : List A
     not-second = both-lost (a .it) (b .it) y k (a .not-second) (b .not-second);
   }
 
-  pub backward-sound : (f : Test Node Column) → ((x : Node) (y : Column) → IsNode n x → IsColumn n y → f x y ≡ true → LostBelow sig t u x y) → (x : Node) (y : Column) → IsNode n x → IsColumn n y → Backward sig t u in-t in-u f x y → LostBelow sig t u x y
+  pub backward-sound : Keeps (IsNode n) (IsColumn n) (LostBelow sig t u) (Backward sig t u in-t in-u)
   backward-sound f good x y i j (of-part {z = z} h e joins p k) =
-      let c = good x (node (named z)) i (node-column (part-node second-formed h p)) k in
+      let c = good x (node (named z)) i (node-column (part-node (given .second-formed) h p)) k in
       record { it = c .it; over = c .over; by-first = c .by-first; not-second = λ q. c .not-second (to-part-of h refl p (rw (← e) at q)) }
   backward-sound f good x y i j (of-everything q e) = record { it = top; over = refl; by-first = rw e to-top; not-second = top-lost y q }
   backward-sound f good x y i j (of-parts {a = a} q h e joins k) =
-      let c = below-all y q (partsOf a) (λ z p. good (named z) y (part-node first-formed h p) j (k .at z p)) in
+      let c = below-all y q (partsOf a) (λ z p. good (named z) y (part-node (given .first-formed) h p) j (k .at z p)) in
       record { it = c .it; over = c .over; by-first = from-parts-of h e joins (c .by-first); not-second = c .not-second }
   backward-sound f good x y i j (of-name {b = b} q k o h l) = record {
     it = name b;
     over = o;
-    by-first = first-table .sound (name-node (names-in b o)) i h;
+    by-first = first-table .sound (name-node (given .names-in b o)) i h;
     not-second = λ p. true≢false (sym (tells-under o y j .complete p) ∙ l);
   }
   backward-sound f good x y i j (of-role {a = a} {r = r} q k h e fills o l) =
-      let c = good (fillerOf a) (partner u r y) (first-formed .filler-in h) (partner-column second-formed r y) l in
+      let c = good (fillerOf a) (partner u r y) (given .first-formed .filler-in h) (partner-column (given .second-formed) r y) l in
       record {
         it = some r (c .it);
         over = and-both o (c .over);
         by-first = from-filler-of h e fills (c .by-first);
-        not-second = λ p. c .not-second (below-partner u r (c .it) second-terms y q p);
+        not-second = λ p. c .not-second (below-partner u r (c .it) (given .second-terms) y q p);
       }
 
-  abbrev pub some-backward-marks : BackwardMarks n sig t u in-t in-u
-  some-backward-marks = saturated sameNode sameColumn tells-node tells-column (nodes n) (columns n) (IsNode n) (IsColumn n) (in-nodes n) (in-columns n) (LostBelow sig t u) (Backward sig t u in-t in-u) (backward n sig t u in-t in-u) (tells-backward sig names-in t u in-t in-u) backward-sound
+  abbrev pub some-backward-marks : BackwardMarks sig first-table second-table
+  some-backward-marks = saturated (node-axis n) (column-axis n) (LostBelow sig t u) (Backward sig t u in-t in-u) (backward n sig t u in-t in-u) (tells-backward sig (given .names-in) t u in-t in-u) backward-sound
 
-  module _ (f : Test Node Column) (closed : (x : Node) (y : Column) → IsNode n x → IsColumn n y → Backward sig t u in-t in-u f x y → f x y ≡ true) where
+  module _ (f : Test Node Column) (closed : Closed (IsNode n) (IsColumn n) (Backward sig t u in-t in-u) f) where
     abbrev Kept : Concept → Type 0
     Kept c = (x : Node) (y : Column) → IsNode n x → IsColumn n y → f x y ≡ false → Derives t c (conceptOf x) → Below u c y
 
@@ -207,7 +207,7 @@ module _ {n : ℕ} (sig : Signature) (names-in : NamesBelow n sig) {t u : List A
     kept-plain-column c keep x y i j free q p = elim (kind t x) [
       | is-everything e ↦ absurd (clash i j free (of-everything q e))
       | is-joined {a = a} h e joins ↦ elim (either (λ z. which-not (f (named z) y)) (partsOf a)) [
-        | inl s ↦ keep (named (s .it)) y (part-node first-formed h (s .member)) j (s .holds) (part-plain first-terms h (s .member)) q (to-part-of h e (s .member) p)
+        | inl s ↦ keep (named (s .it)) y (part-node (given .first-formed) h (s .member)) j (s .holds) (part-plain (given .first-terms) h (s .member)) q (to-part-of h e (s .member) p)
         | inr k ↦ absurd (clash i j free (of-parts q h e joins (record { at = k })))
       ]
       | is-plain k ↦ keep x y i j free k q p
@@ -219,7 +219,7 @@ module _ {n : ℕ} (sig : Signature) (names-in : NamesBelow n sig) {t u : List A
       | is-everything e ↦ rw e to-top
       | is-joined {a = b} h e joins ↦ elim (either (λ z. which (f x (node (named z)))) (partsOf b)) [
         | inl s ↦ absurd (clash i j free (of-part h (ap node e) joins (s .member) (s .holds)))
-        | inr k ↦ from-parts-of h e joins (λ z m. kept-plain-column c keep x (node (named z)) i (node-column (part-node second-formed h m)) (k z m) (plain-node (part-plain second-terms h m)) p)
+        | inr k ↦ from-parts-of h e joins (λ z m. kept-plain-column c keep x (node (named z)) i (node-column (part-node (given .second-formed) h m)) (k z m) (plain-node (part-plain (given .second-terms) h m)) p)
       ]
       | is-plain k ↦ kept-plain-column c keep x (node y) i j free (plain-node k) p
     ]
@@ -229,21 +229,21 @@ module _ {n : ℕ} (sig : Signature) (names-in : NamesBelow n sig) {t u : List A
     below-first (node y) p q = p ▹ q
 
     kept-plain : (c : Concept) → isOver sig c ≡ true → KeptPlain c
-    kept-plain top o x y i j free k q p = absurd (top-below-plain first-terms k p)
+    kept-plain top o x y i j free k q p = absurd (top-below-plain (given .first-terms) k p)
     kept-plain (name b) o x y i j free k q p = elim (which (nameUnder in-u b y)) [
       | inl h ↦ tells-under o y j .sound h
-      | inr h ↦ absurd (clash i j free (of-name q k o (first-table .complete (name-node (names-in b o)) i p) h))
+      | inr h ↦ absurd (clash i j free (of-name q k o (first-table .complete (name-node (given .names-in b o)) i p) h))
     ]
-    kept-plain (both c d) o x y i j free k q p = elim (both-below-plain first-terms k .0 p) [
+    kept-plain (both c d) o x y i j free k q p = elim (both-below-plain (given .first-terms) k .0 p) [
       | inl v ↦ below-first y one (kept-plain c (and-left (isOver sig c) _ o) x y i j free k q v)
       | inr v ↦ below-first y other (kept-plain d (and-right (isOver sig c) _ o) x y i j free k q v)
     ]
     kept-plain (some r c) o x y i j free k q p =
-        let s = some-below-plain first-terms k .0 p in
+        let s = some-below-plain (given .first-terms) k .0 p in
         let a = s .it in
         elim (which (f (fillerOf a) (partner u r y))) [
           | inl h ↦ absurd (clash i j free (of-role q k (s .member) (s .holds .0) (s .holds .1 .0) (and-left (sig .has-role r) _ o) h))
-          | inr h ↦ partner-below u r c y (kept-by-plain c (kept-plain c (and-right (sig .has-role r) _ o)) (fillerOf a) (partner u r y) (first-formed .filler-in (s .member)) (partner-column second-formed r y) h (s .holds .1 .1))
+          | inr h ↦ partner-below u r c y (kept-by-plain c (kept-plain c (and-right (sig .has-role r) _ o)) (fillerOf a) (partner u r y) (given .first-formed .filler-in (s .member)) (partner-column (given .second-formed) r y) h (s .holds .1 .1))
         ]
 
     pub below-kept : (c : Concept) → isOver sig c ≡ true → (x : Node) (y : Column) → IsNode n x → IsColumn n y → f x y ≡ false → Derives t c (conceptOf x) → Below u c y

@@ -10,7 +10,7 @@ use Prim.Native.Nat.{ℕ}
 use Rattle.el.specs.Lists.{In, first, later}
 use Rattle.el.specs.Concepts.{Concept, top, name, both, some, conceptOf, allOf}
 use Rattle.el.specs.Axioms.{Axiom, rightOf, isConjunction, partsOf, fillerOf}
-use Rattle.el.specs.Derivability.{Derives, same, to-top, one, other, meet, under, stated, defined}
+use Rattle.el.specs.Derivability.{Derives, same, to-top, one, other, meet, under, defined}
 use Rattle.el.specs.Interpretations.{Interpretation, sat, Model, Entails}
 use Rattle.el.proofs.Tests.{which}
 use Rattle.el.proofs.Derivations.{_▹_, Restricts, right-conjunction, right-restriction, to-part, to-filler}

@@ -2,6 +2,7 @@
 -- holds them all.
 --   Link m x r a        x ⊑ ∃r.B by the axiom A ⊑ ∃s.B, where m marks x ⊑ A and s serves for r
 --   Includes al m x y   one of the five rules gives x ⊑ y from the inclusions m
+--   Inclusions n al     marks on pairs of nodes that are derivable and closed under the rules; some-inclusions: there are such
 --   Table n al          a table of all inclusions between nodes; table-of: any marks that are good and closed are one
 --   linked, links       a node lies below ∃r.d exactly by a link to a filler below d
 use mathlib.Core.Path.{_≡_, refl, _∙_}
@@ -10,18 +11,18 @@ use mathlib.Core.Bool.{Bool, true, false}
 use mathlib.Core.List.{List}
 use Prim.Native.Nat.{ℕ}
 use Rattle.el.specs.Lists.{In}
-use Rattle.el.specs.Concepts.{Concept, top, name, some, Node, everything, named, conceptOf}
+use Rattle.el.specs.Concepts.{Concept, some, Node, everything, named, conceptOf}
 use Rattle.el.specs.Axioms.{Axiom, rightOf, isConjunction, partsOf, roleOf, fillerOf}
 use Rattle.el.specs.Derivability.{Derives, same, to-top, under}
 use Rattle.el.specs.Interpretations.{Interpretation, sat}
-use Rattle.el.specs.Answers.{Test, nodes, sameNode, isLink, isJoin, isFill, includes}
+use Rattle.el.specs.Answers.{Test, isLink, isJoin, isFill, includes}
 use Rattle.el.proofs.Lists.{Some, Every}
 use Rattle.el.proofs.Tests.{Tells, tells-as, tells-true, tells-false, tells-eq, tells-and, tells-or, tells-any, tells-all, which}
 use Rattle.el.proofs.Derivations.{_▹_, Serves, Joins, Fills, right-conjunction, right-restriction, to-part, from-parts, to-filler, from-filler}
 use Rattle.el.proofs.Soundness.{sound}
 use Rattle.el.proofs.CanonicalModel.{Within, Edge, written, implied, names-hold, hold-names, inversion}
-use Rattle.el.proofs.Nodes.{IsNode, top-node, name-node, Formed, in-nodes, tells-node}
-use Rattle.el.proofs.Saturation.{Marks, saturated}
+use Rattle.el.proofs.Nodes.{IsNode, name-node, Formed, tells-node, node-axis}
+use Rattle.el.proofs.Saturation.{Closed, Keeps, Marks, saturated}
 
 pub record Link (m : Test Node Node) (x : Node) (r : ℕ) (a : Axiom) : Type 0 where
   pub above : m x (named (a .left)) ≡ true
@@ -84,8 +85,11 @@ record Spot (n : ℕ) : Type 0 where
 abbrev finite : ℕ → List Axiom → Test Node Node → Interpretation
 finite n al m = record { Point = Spot n; ext = λ x a. m (x .at) (named a) ≡ true; edge = λ r x y. Some al (λ b. Link m (x .at) r b × (fillerOf b ≡ y .at)) }
 
+abbrev pub Included : List Axiom → Node → Node → Type 0
+Included al x y = Derives al (conceptOf x) (conceptOf y)
+
 abbrev pub Inclusions : ℕ → List Axiom → Type 0
-Inclusions n al = Marks (IsNode n) (IsNode n) (λ x y. Derives al (conceptOf x) (conceptOf y)) (Includes al)
+Inclusions n al = Marks (IsNode n) (IsNode n) (Included al) (Includes al)
 
 module _ {n : ℕ} {al : List Axiom} (formed : Formed n al) where
   pub left-node : {a : Axiom} → In al a → IsNode n (named (a .left))
@@ -95,7 +99,7 @@ module _ {n : ℕ} {al : List Axiom} (formed : Formed n al) where
   part-node h i = name-node (formed .parts-in h i)
 
   -- the rules are sound
-  pub includes-sound : (m : Test Node Node) → ((x y : Node) → IsNode n x → IsNode n y → m x y ≡ true → Derives al (conceptOf x) (conceptOf y)) → (x y : Node) → IsNode n x → IsNode n y → Includes al m x y → Derives al (conceptOf x) (conceptOf y)
+  pub includes-sound : Keeps (IsNode n) (IsNode n) (Included al) (Includes al)
   includes-sound m good x y i j (the-same e) = rw e same
   includes-sound m good x y i j (to-everything e) = rw e to-top
   includes-sound m good x y i j (by-part h k p e) = rw (← e) (good x _ i (left-node h) k ▹ to-part h p)
@@ -103,10 +107,10 @@ module _ {n : ℕ} {al : List Axiom} (formed : Formed n al) where
   includes-sound m good x y i j (by-filler h e fills g l k) = rw (← e) (good x _ i (left-node g) (l .above) ▹ to-filler g (record { is-restriction = l .is-restriction; role = l .role; filler = refl }) ▹ from-filler h fills (good _ _ (formed .filler-in g) (formed .filler-in h) k))
 
   abbrev pub some-inclusions : Inclusions n al
-  some-inclusions = saturated sameNode sameNode tells-node tells-node (nodes n) (nodes n) (IsNode n) (IsNode n) (in-nodes n) (in-nodes n) (λ x y. Derives al (conceptOf x) (conceptOf y)) (Includes al) (includes al) (tells-includes al) includes-sound
+  some-inclusions = saturated (node-axis n) (node-axis n) (Included al) (Includes al) (includes al) (tells-includes al) includes-sound
 
   -- and complete
-  module _ (m : Test Node Node) (closed : (x y : Node) → IsNode n x → IsNode n y → Includes al m x y → m x y ≡ true) where
+  module _ (m : Test Node Node) (closed : Closed (IsNode n) (IsNode n) (Includes al) m) where
     node-holds : (x : Spot n) (y : Node) → m (x .at) y ≡ true → sat (finite n al m) x (conceptOf y)
     node-holds x everything h = tt
     node-holds x (named y) h = h
@@ -133,15 +137,15 @@ module _ {n : ℕ} {al : List Axiom} (formed : Formed n al) where
           by-filler h refl (record { is-defined = d; is-restriction = k; role = refl }) (e .member) (e .holds .0) (rw (e .holds .1) (holds-node (t .0) (fillerOf a) (formed .filler-in h) (t .2))))
     ])
 
-    pub includes-complete : (x y : Node) → IsNode n x → IsNode n y → Derives al (conceptOf x) (conceptOf y) → m x y ≡ true
+    pub includes-complete : (x y : Node) → IsNode n x → IsNode n y → Included al x y → m x y ≡ true
     includes-complete x y i j p =
         let w : Spot n = record { at = x; is = i } in
         holds-node w y j (sound p (record { down = finite-down; up = finite-up }) w (node-holds w x (closed x x i i (the-same refl))))
 
 pub record Table (n : ℕ) (al : List Axiom) : Type 0 where
   pub says : Node → Node → Bool
-  pub sound : {x y : Node} → IsNode n x → IsNode n y → says x y ≡ true → Derives al (conceptOf x) (conceptOf y)
-  pub complete : {x y : Node} → IsNode n x → IsNode n y → Derives al (conceptOf x) (conceptOf y) → says x y ≡ true
+  pub sound : {x y : Node} → IsNode n x → IsNode n y → says x y ≡ true → Included al x y
+  pub complete : {x y : Node} → IsNode n x → IsNode n y → Included al x y → says x y ≡ true
 
 abbrev pub table-of : {n : ℕ} {al : List Axiom} → Formed n al → Inclusions n al → Table n al
 table-of formed t = record { says = t .mark; sound = λ i j h. t .good _ _ i j h; complete = λ i j p. includes-complete formed (t .mark) (t .closed) _ _ i j p }

@@ -13,16 +13,16 @@ use mathlib.Core.List.{List}
 use Prim.Native.Nat.{ℕ, zero, suc, _≤_, _<_}
 use native.Mathlib.Omega.{arith}
 use Rattle.el.specs.Lists.{pick}
-use Rattle.el.specs.Concepts.{Concept, top, name, both, some, Node, named}
+use Rattle.el.specs.Concepts.{Concept, top, name, both, some, named}
 use Rattle.el.specs.Axioms.{Axiom}
 use Rattle.el.specs.Derivability.{Derives, to-top, one, other, meet, under}
 use Rattle.el.specs.Signatures.{Signature, isOver, LeftWitness, RightWitness, EqualOver}
 use Rattle.el.specs.Comparison.{onLeft, onRight, IsByte, ReportsNone, Demand3}
-use Rattle.el.specs.Answers.{Test, node, byteOf}
+use Rattle.el.specs.Answers.{node, byteOf}
 use Rattle.el.proofs.Tests.{and-left, and-right, which}
 use Rattle.el.proofs.Derivations.{_▹_}
 use Rattle.el.proofs.Terminologies.{Terminology, top-below-some, both-below-some, some-below-some}
-use Rattle.el.proofs.Nodes.{name-node, node-column, Formed, NamesBelow}
+use Rattle.el.proofs.Nodes.{name-node, node-column, Comparable, turned}
 use Rattle.el.proofs.Classification.{Table, some-table}
 use Rattle.el.proofs.ForwardMarks.{ForwardMarks, some-forward-marks, above-kept}
 use Rattle.el.proofs.BackwardMarks.{BackwardMarks, some-backward-marks, below-kept}
@@ -74,32 +74,26 @@ one-byte {sig} {a = a} {b = b} {c = c} p q = elim (which (sig .has-name a)) [
 ]
 
 -- by any tables and marks that are right and closed
-module _ {n : ℕ} (sig : Signature) (names-in : NamesBelow n sig) {t u : List Axiom} (first-formed : Formed n t) (second-formed : Formed n u) (first-terms : Terminology t) (second-terms : Terminology u) (first-table : Table n t) (second-table : Table n u) where
-  abbrev pub Forth : Type 0
-  Forth = ForwardMarks n sig t u (first-table .says) (second-table .says)
+module _ {n : ℕ} {sig : Signature} {t u : List Axiom} (given : Comparable n sig t u) (first-table : Table n t) (second-table : Table n u) where
+  pub left-kept : (f : ForwardMarks sig first-table second-table) (a : ℕ) → a < n → f .mark (named a) (named a) ≡ false → KeptAbove sig t u a
+  left-kept f a l free = record { keeps = above-kept given first-table second-table (f .mark) (f .closed) (named a) (named a) (name-node l) (name-node l) free }
 
-  abbrev pub Back : Type 0
-  Back = BackwardMarks n sig t u (first-table .says) (second-table .says)
+  pub right-kept : (g : BackwardMarks sig first-table second-table) (a : ℕ) → a < n → g .mark (named a) (node (named a)) ≡ false → KeptBelow sig t u a
+  right-kept g a l free = record { keeps = λ c o p. below-kept given first-table second-table (g .mark) (g .closed) c o (named a) (node (named a)) (name-node l) (node-column (name-node l)) free p }
 
-  pub left-kept : (f : Forth) (a : ℕ) → a < n → f .mark (named a) (named a) ≡ false → KeptAbove sig t u a
-  left-kept f a l free = record { keeps = above-kept sig names-in first-formed second-formed first-table second-table (f .mark) (f .closed) (named a) (named a) (name-node l) (name-node l) free }
-
-  pub right-kept : (g : Back) (a : ℕ) → a < n → g .mark (named a) (node (named a)) ≡ false → KeptBelow sig t u a
-  right-kept g a l free = record { keeps = λ c o p. below-kept sig names-in first-formed second-formed first-terms second-terms first-table second-table (g .mark) (g .closed) c o (named a) (node (named a)) (name-node l) (node-column (name-node l)) free p }
-
-  pub left-exact : (f : Forth) (a : ℕ) → a < n → (f .mark (named a) (named a) ≡ true) ↔ LeftWitness sig t u a
+  pub left-exact : (f : ForwardMarks sig first-table second-table) (a : ℕ) → a < n → (f .mark (named a) (named a) ≡ true) ↔ LeftWitness sig t u a
   left-exact f a l = (
     λ h. let w = f .good (named a) (named a) (name-node l) (name-node l) h in record { above = w .it; over = w .over; first = w .by-first; not-second = w .not-second },
     λ w. elim (which (f .mark (named a) (named a))) [ inl h ↦ h | inr h ↦ absurd (w .not-second (left-kept f a l h .keeps (w .above) (w .over) (w .first))) ],
   )
 
-  pub right-exact : (g : Back) (a : ℕ) → a < n → (g .mark (named a) (node (named a)) ≡ true) ↔ RightWitness sig t u a
+  pub right-exact : (g : BackwardMarks sig first-table second-table) (a : ℕ) → a < n → (g .mark (named a) (node (named a)) ≡ true) ↔ RightWitness sig t u a
   right-exact g a l = (
     λ h. let w = g .good (named a) (node (named a)) (name-node l) (node-column (name-node l)) h in record { below = w .it; over = w .over; first = w .by-first; not-second = w .not-second },
     λ w. elim (which (g .mark (named a) (node (named a)))) [ inl h ↦ h | inr h ↦ absurd (w .not-second (right-kept g a l h .keeps (w .below) (w .over) (w .first))) ],
   )
 
-  pub the-byte : (f : Forth) (g : Back) (a : ℕ) → a < n → IsByte sig t u a (pick (sig .has-name a) (byteOf (f .mark (named a) (named a)) (g .mark (named a) (node (named a)))) 0)
+  pub the-byte : (f : ForwardMarks sig first-table second-table) (g : BackwardMarks sig first-table second-table) (a : ℕ) → a < n → IsByte sig t u a (pick (sig .has-name a) (byteOf (f .mark (named a) (named a)) (g .mark (named a) (node (named a)))) 0)
   the-byte f g a l = elim (which (sig .has-name a)) [
     | inl e ↦ record {
       outside = λ z. absurd (true≢false (sym e ∙ z));
@@ -111,29 +105,29 @@ module _ {n : ℕ} (sig : Signature) (names-in : NamesBelow n sig) {t u : List A
   ]
 
 -- such tables and marks there are
-module _ {n : ℕ} (sig : Signature) (names-in : NamesBelow n sig) {t u : List Axiom} (first-formed : Formed n t) (second-formed : Formed n u) (first-terms : Terminology t) (second-terms : Terminology u) where
-  abbrev first-table : Table n t
-  first-table = some-table first-formed
+module _ {n : ℕ} {sig : Signature} {t u : List Axiom} (given : Comparable n sig t u) where
+  abbrev pub first-table : Table n t
+  first-table = some-table (given .first-formed)
 
-  abbrev second-table : Table n u
-  second-table = some-table second-formed
+  abbrev pub second-table : Table n u
+  second-table = some-table (given .second-formed)
 
-  forth : Forth sig names-in first-formed second-formed first-terms second-terms first-table second-table
-  forth = some-forward-marks sig names-in first-formed second-formed first-table second-table
+  abbrev pub forth : ForwardMarks sig first-table second-table
+  forth = some-forward-marks given first-table second-table
 
-  back : Back sig names-in first-formed second-formed first-terms second-terms first-table second-table
-  back = some-backward-marks sig names-in first-formed second-formed first-terms second-terms first-table second-table
+  abbrev pub back : BackwardMarks sig first-table second-table
+  back = some-backward-marks given first-table second-table
 
   pub witness-or-kept-above : (a : ℕ) → a < n → LeftWitness sig t u a ⊎ KeptAbove sig t u a
   witness-or-kept-above a l = elim (which (forth .mark (named a) (named a))) [
-    | inl h ↦ inl (left-exact sig names-in first-formed second-formed first-terms second-terms first-table second-table forth a l .0 h)
-    | inr h ↦ inr (left-kept sig names-in first-formed second-formed first-terms second-terms first-table second-table forth a l h)
+    | inl h ↦ inl (left-exact given first-table second-table forth a l .0 h)
+    | inr h ↦ inr (left-kept given first-table second-table forth a l h)
   ]
 
   pub witness-or-kept-below : (a : ℕ) → a < n → RightWitness sig t u a ⊎ KeptBelow sig t u a
   witness-or-kept-below a l = elim (which (back .mark (named a) (node (named a)))) [
-    | inl h ↦ inl (right-exact sig names-in first-formed second-formed first-terms second-terms first-table second-table back a l .0 h)
-    | inr h ↦ inr (right-kept sig names-in first-formed second-formed first-terms second-terms first-table second-table back a l h)
+    | inl h ↦ inl (right-exact given first-table second-table back a l .0 h)
+    | inr h ↦ inr (right-kept given first-table second-table back a l h)
   ]
 
 -- where all names are kept, so is every inclusion
@@ -167,19 +161,19 @@ equal-reports-none n e a l = record {
 equal-turned : {sig : Signature} {t u : List Axiom} → EqualOver sig t u → EqualOver sig u t
 equal-turned e = record { alike = λ c d o q. (e .alike c d o q .1, e .alike c d o q .0) }
 
-module _ {n : ℕ} (sig : Signature) (names-in : NamesBelow n sig) {t u : List Axiom} (first-formed : Formed n t) (second-formed : Formed n u) (first-terms : Terminology t) (second-terms : Terminology u) where
+module _ {n : ℕ} {sig : Signature} {t u : List Axiom} (given : Comparable n sig t u) where
   pub none-reported-kept : ReportsNone n sig t u → (c d : Concept) → isOver sig c ≡ true → isOver sig d ≡ true → Derives t c d → Derives u c d
-  none-reported-kept reports c d o q p = all-kept sig first-terms
-      (λ a h. elim (witness-or-kept-above sig names-in first-formed second-formed first-terms second-terms a (names-in a h)) [ inl w ↦ absurd (false≢true (reports a (names-in a h) .left h .1 w)) | inr k ↦ k ])
-      (λ a h. elim (witness-or-kept-below sig names-in first-formed second-formed first-terms second-terms a (names-in a h)) [ inl w ↦ absurd (false≢true (reports a (names-in a h) .right h .1 w)) | inr k ↦ k ])
+  none-reported-kept reports c d o q p = all-kept sig (given .first-terms)
+      (λ a h. elim (witness-or-kept-above given a (given .names-in a h)) [ inl w ↦ absurd (false≢true (reports a (given .names-in a h) .left h .1 w)) | inr k ↦ k ])
+      (λ a h. elim (witness-or-kept-below given a (given .names-in a h)) [ inl w ↦ absurd (false≢true (reports a (given .names-in a h) .right h .1 w)) | inr k ↦ k ])
       d q c o p
 
-pub demand3 : {n : ℕ} {t u : List Axiom} → Formed n t → Formed n u → Terminology t → Terminology u → (sig : Signature) → NamesBelow n sig → Demand3 n sig t u
-demand3 {n} {t} {u} first-formed second-formed first-terms second-terms sig names-in = record {
-  some-byte = λ a l. record { byte = _; is-byte = the-byte sig names-in first-formed second-formed first-terms second-terms (some-table first-formed) (some-table second-formed) (forth sig names-in first-formed second-formed first-terms second-terms) (back sig names-in first-formed second-formed first-terms second-terms) a l };
+pub demand3 : {n : ℕ} {sig : Signature} {t u : List Axiom} → Comparable n sig t u → Demand3 n sig t u
+demand3 {n} given = record {
+  some-byte = λ a l. record { byte = _; is-byte = the-byte given (first-table given) (second-table given) (forth given) (back given) a l };
   one-byte = λ a b c p q. one-byte p q;
   equal = (
     λ e. (equal-reports-none n e, equal-reports-none n (equal-turned e)),
-    λ w. record { alike = λ c d o q. (none-reported-kept sig names-in first-formed second-formed first-terms second-terms (w .0) c d o q, none-reported-kept sig names-in second-formed first-formed second-terms first-terms (w .1) c d o q) },
+    λ w. record { alike = λ c d o q. (none-reported-kept given (w .0) c d o q, none-reported-kept (turned given) (w .1) c d o q) },
   );
 }

@@ -5,13 +5,13 @@
 --   Fills r a          a is A ≡ ∃s.B, and r serves for s: then ∃r.C ⊑ A for each C ⊑ B
 --   Restricts a r d    a is A ⊑ ∃s.B or A ≡ ∃s.B, s serves for r, and d is B: then A ⊑ ∃r.d
 use mathlib.Core.Path.{_≡_, refl, sym}
-use mathlib.Core.Logic.{_⊎_, inl, inr, _↔_}
+use mathlib.Core.Logic.{_↔_}
 use mathlib.Core.Bool.{true, false, true≢false}
 use mathlib.Core.List.{List, [], _∷_}
 use Prim.Native.Nat.{ℕ}
 use Rattle.el.specs.Lists.{In, first, later}
-use Rattle.el.specs.Concepts.{Concept, top, name, both, some, conceptOf, allOf}
-use Rattle.el.specs.Axioms.{Right, conjunction, restriction, Axiom, concept, rightOf, isConjunction, partsOf, roleOf, fillerOf}
+use Rattle.el.specs.Concepts.{Concept, name, both, some, conceptOf, allOf}
+use Rattle.el.specs.Axioms.{Right, conjunction, restriction, Axiom, rightOf, isConjunction, partsOf, roleOf, fillerOf}
 use Rattle.el.specs.Derivability.{Derives, same, to-top, one, other, meet, under, chain, stated, defined}
 
 infixr 5 _▹_

@@ -1,8 +1,8 @@
 -- What lies above a node by one terminology and not above a node by another, over a signature.
---   LostAbove sig t u x y                   some signature concept lies above x by t and not above y by u
---   Forward sig t u in-t in-u f x y         a rule gives that from the marks f; in-t and in-u are the tables of t and u
---   ForwardMarks n sig t u in-t in-u        marks that are right and closed under the rule; some-forward-marks: there are such
---   above-kept                              where such marks leave x, y free, nothing that lies above x by t is lost for y by u
+--   LostAbove sig t u x y                       some signature concept lies above x by t and not above y by u
+--   Forward sig t u in-t in-u f x y             a rule gives that from the marks f; in-t and in-u are the inclusions of t and u
+--   ForwardMarks sig first-table second-table   marks that are right and closed under the rule; some-forward-marks: there are such
+--   above-kept                                  where such marks leave x, y free, nothing that lies above x by t is lost for y by u
 use mathlib.Core.Path.{_≡_, refl, sym, _∙_}
 use mathlib.Core.Logic.{_⊎_, inl, inr}
 use mathlib.Core.Bool.{true, false, true≢false}
@@ -13,12 +13,12 @@ use Rattle.el.specs.Concepts.{Concept, top, name, both, some, Node, name
 use Rattle.el.specs.Axioms.{Axiom, roleOf, fillerOf}
 use Rattle.el.specs.Derivability.{Derives, to-top, one, other, meet}
 use Rattle.el.specs.Signatures.{Signature, isOver}
-use Rattle.el.specs.Answers.{Test, below, nodes, sameNode, forward}
+use Rattle.el.specs.Answers.{Test, below, forward}
 use Rattle.el.proofs.Lists.{each, Some, Every, either}
 use Rattle.el.proofs.Tests.{Tells, decided, tells-as, tells-true, tells-false, tells-and, tells-or, tells-if, tells-any, tells-all, and-left, and-right, and-both, which}
 use Rattle.el.proofs.Derivations.{_▹_}
-use Rattle.el.proofs.Nodes.{IsNode, name-node, Formed, NamesBelow, in-below, in-nodes, tells-node}
-use Rattle.el.proofs.Saturation.{Marks, saturated}
+use Rattle.el.proofs.Nodes.{IsNode, name-node, NamesBelow, Comparable, in-below, node-axis}
+use Rattle.el.proofs.Saturation.{Closed, Keeps, Marks, saturated}
 use Rattle.el.proofs.Classification.{Link, tells-link, Table, linked, links}
 
 pub record LostAbove (sig : Signature) (t u : List Axiom) (x y : Node) : Type 0 where
@@ -32,8 +32,8 @@ pub data Forward (sig : Signature) (t u : List Axiom) (in-t in-u f : Test Node N
   by-name : {b : ℕ} → sig .has-name b ≡ true → in-t x (named b) ≡ true → in-u y (named b) ≡ false → Forward sig t u in-t in-u f x y
   by-role : {a : Axiom} {r : ℕ} → In t a → Link in-t x r a → sig .has-role r ≡ true → Every u (λ b. Link in-u y r b → f (fillerOf a) (fillerOf b) ≡ true) → Forward sig t u in-t in-u f x y
 
-abbrev pub ForwardMarks : ℕ → Signature → List Axiom → List Axiom → Test Node Node → Test Node Node → Type 0
-ForwardMarks n sig t u in-t in-u = Marks (IsNode n) (IsNode n) (LostAbove sig t u) (Forward sig t u in-t in-u)
+abbrev pub ForwardMarks : {n : ℕ} (sig : Signature) {t u : List Axiom} → Table n t → Table n u → Type 0
+ForwardMarks {n} sig {t} {u} first-table second-table = Marks (IsNode n) (IsNode n) (LostAbove sig t u) (Forward sig t u (first-table .says) (second-table .says))
 
 link-decided : (m : Test Node Node) (x : Node) (r : ℕ) (b : Axiom) → Dec (Link m x r b)
 link-decided m x r b = decided (tells-link m x r b)
@@ -75,33 +75,33 @@ above-none sig t u x L d (b ∷ bs) f = with-head (d b) (above-none sig t u x L 
     }
     with-head (no k) r = record { it = r .it; over = r .over; by-first = r .by-first; none = each (λ c. L c → Derives u (conceptOf (fillerOf c)) (r .it) → ⊥) (λ l. absurd (k l)) (r .none) }
 
-module _ {n : ℕ} (sig : Signature) (names-in : NamesBelow n sig) {t u : List Axiom} (first-formed : Formed n t) (second-formed : Formed n u) (first-table : Table n t) (second-table : Table n u) where
+module _ {n : ℕ} {sig : Signature} {t u : List Axiom} (given : Comparable n sig t u) (first-table : Table n t) (second-table : Table n u) where
   abbrev in-t : Test Node Node
   in-t = first-table .says
 
   abbrev in-u : Test Node Node
   in-u = second-table .says
 
-  pub forward-sound : (f : Test Node Node) → ((x y : Node) → IsNode n x → IsNode n y → f x y ≡ true → LostAbove sig t u x y) → (x y : Node) → IsNode n x → IsNode n y → Forward sig t u in-t in-u f x y → LostAbove sig t u x y
+  pub forward-sound : Keeps (IsNode n) (IsNode n) (LostAbove sig t u) (Forward sig t u in-t in-u)
   forward-sound f good x y i j (by-name {b = b} o h k) = record {
     it = name b;
     over = o;
-    by-first = first-table .sound i (name-node (names-in b o)) h;
-    not-second = λ p. true≢false (sym (second-table .complete j (name-node (names-in b o)) p) ∙ k);
+    by-first = first-table .sound i (name-node (given .names-in b o)) h;
+    not-second = λ p. true≢false (sym (second-table .complete j (name-node (given .names-in b o)) p) ∙ k);
   }
   forward-sound f good x y i j (by-role {a = a} {r = r} h l o k) =
-      let c = above-none sig t u (fillerOf a) (Link in-u y r) (link-decided in-u y r) u (λ b g l. good (fillerOf a) (fillerOf b) (first-formed .filler-in h) (second-formed .filler-in g) (k .at b g l)) in
+      let c = above-none sig t u (fillerOf a) (Link in-u y r) (link-decided in-u y r) u (λ b g l. good (fillerOf a) (fillerOf b) (given .first-formed .filler-in h) (given .second-formed .filler-in g) (k .at b g l)) in
       record {
         it = some r (c .it);
         over = and-both o (c .over);
-        by-first = linked first-formed first-table i h l (c .by-first);
-        not-second = λ p. let q = links second-formed second-table j p in c .none (q .it) (q .member) (q .holds .0) (q .holds .1);
+        by-first = linked (given .first-formed) first-table i h l (c .by-first);
+        not-second = λ p. let q = links (given .second-formed) second-table j p in c .none (q .it) (q .member) (q .holds .0) (q .holds .1);
       }
 
-  abbrev pub some-forward-marks : ForwardMarks n sig t u in-t in-u
-  some-forward-marks = saturated sameNode sameNode tells-node tells-node (nodes n) (nodes n) (IsNode n) (IsNode n) (in-nodes n) (in-nodes n) (LostAbove sig t u) (Forward sig t u in-t in-u) (forward n sig t u in-t in-u) (tells-forward sig names-in t u in-t in-u) forward-sound
+  abbrev pub some-forward-marks : ForwardMarks sig first-table second-table
+  some-forward-marks = saturated (node-axis n) (node-axis n) (LostAbove sig t u) (Forward sig t u in-t in-u) (forward n sig t u in-t in-u) (tells-forward sig (given .names-in) t u in-t in-u) forward-sound
 
-  module _ (f : Test Node Node) (closed : (x y : Node) → IsNode n x → IsNode n y → Forward sig t u in-t in-u f x y → f x y ≡ true) where
+  module _ (f : Test Node Node) (closed : Closed (IsNode n) (IsNode n) (Forward sig t u in-t in-u) f) where
     -- whether the filler of b can serve for that of a
     serves-or-lost : (y : Node) (r : ℕ) (a b : Axiom) → (Link in-u y r b × (f (fillerOf a) (fillerOf b) ≡ false)) ⊎ (Link in-u y r b → f (fillerOf a) (fillerOf b) ≡ true)
     serves-or-lost y r a b = by-cases (link-decided in-u y r b) (which (f (fillerOf a) (fillerOf b)))
@@ -114,16 +114,16 @@ module _ {n : ℕ} (sig : Signature) (names-in : NamesBelow n sig) {t u : List A
     pub above-kept : (x y : Node) → IsNode n x → IsNode n y → f x y ≡ false → (d : Concept) → isOver sig d ≡ true → Derives t (conceptOf x) d → Derives u (conceptOf y) d
     above-kept x y i j free top o p = to-top
     above-kept x y i j free (name b) o p =
-        let k : IsNode n (named b) = name-node (names-in b o) in
+        let k : IsNode n (named b) = name-node (given .names-in b o) in
         elim (which (in-u y (named b))) [
           | inl h ↦ second-table .sound j k h
           | inr h ↦ absurd (true≢false (sym (closed x y i j (by-name o (first-table .complete i k p) h)) ∙ free))
         ]
     above-kept x y i j free (both c d) o p = meet (above-kept x y i j free c (and-left (isOver sig c) _ o) (p ▹ one)) (above-kept x y i j free d (and-right (isOver sig c) _ o) (p ▹ other))
     above-kept x y i j free (some r d) o p =
-        let q = links first-formed first-table i p in
+        let q = links (given .first-formed) first-table i p in
         let a = q .it in
         elim (either (serves-or-lost y r a) u) [
-          | inl w ↦ linked second-formed second-table j (w .member) (w .holds .0) (above-kept (fillerOf a) (fillerOf (w .it)) (first-formed .filler-in (q .member)) (second-formed .filler-in (w .member)) (w .holds .1) d (and-right (sig .has-role r) _ o) (q .holds .1))
+          | inl w ↦ linked (given .second-formed) second-table j (w .member) (w .holds .0) (above-kept (fillerOf a) (fillerOf (w .it)) (given .first-formed .filler-in (q .member)) (given .second-formed .filler-in (w .member)) (w .holds .1) d (and-right (sig .has-role r) _ o) (q .holds .1))
           | inr k ↦ absurd (true≢false (sym (closed x y i j (by-role (q .member) (q .holds .0) (and-left (sig .has-role r) _ o) (record { at = k }))) ∙ free))
         ]

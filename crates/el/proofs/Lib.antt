@@ -5,8 +5,8 @@ pub mod Derivations
 pub mod Soundness
 pub mod CanonicalModel
 pub mod Terminologies
-pub mod Nodes
 pub mod Saturation
+pub mod Nodes
 pub mod Classification
 pub mod ForwardMarks
 pub mod PlainNodes

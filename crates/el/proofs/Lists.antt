@@ -3,7 +3,6 @@
 --   Every xs P        all members of xs have P
 --   either d xs       one member has P, or all have Q, where each has one of the two
 --   in-pairs          a pair of members is a member of the pairs
-use mathlib.Core.Path.{_≡_}
 use mathlib.Core.Logic.{_⊎_, inl, inr}
 use mathlib.Core.List.{List, [], _∷_, _++_, map}
 use Rattle.el.specs.Lists.{In, first, later}

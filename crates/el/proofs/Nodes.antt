@@ -3,6 +3,7 @@
 --   IsNode n x, IsColumn n y     a name in them is below n
 --   Formed n al                  all names, parts and named fillers of the axioms al are below n
 --   NamesBelow n sig             the chosen names are below n
+--   Comparable n sig t u         two terminologies and a signature, all over the names below n
 use mathlib.Core.Path.{_≡_, refl, ap}
 use mathlib.Core.Bool.{true}
 use mathlib.Core.List.{List, [], _∷_}
@@ -16,6 +17,8 @@ use Rattle.el.specs.Signatures.{Signature}
 use Rattle.el.specs.Answers.{below, nodes, sameNode, Column, nothing, node, columns, sameColumn}
 use Rattle.el.proofs.Lists.{in-map}
 use Rattle.el.proofs.Tests.{Tells, tells-as, tells-eq, never, always}
+use Rattle.el.proofs.Terminologies.{Terminology}
+use Rattle.el.proofs.Saturation.{Axis}
 
 pub data IsNode (n : ℕ) : Node → Type 0 where
   top-node : IsNode n everything
@@ -32,6 +35,16 @@ pub record Formed (n : ℕ) (al : List Axiom) : Type 0 where
 
 abbrev pub NamesBelow : ℕ → Signature → Type 0
 NamesBelow n sig = (x : ℕ) → sig .has-name x ≡ true → x < n
+
+pub record Comparable (n : ℕ) (sig : Signature) (t u : List Axiom) : Type 0 where
+  pub names-in : NamesBelow n sig
+  pub first-formed : Formed n t
+  pub second-formed : Formed n u
+  pub first-terms : Terminology t
+  pub second-terms : Terminology u
+
+pub turned : {n : ℕ} {sig : Signature} {t u : List Axiom} → Comparable n sig t u → Comparable n sig u t
+turned given = record { names-in = given .names-in; first-formed = given .second-formed; second-formed = given .first-formed; first-terms = given .second-terms; second-terms = given .first-terms }
 
 -- the lists of them
 pub in-below : {x : ℕ} (n : ℕ) → x < n → In (below n) x
@@ -62,3 +75,9 @@ tells-column nothing nothing = always refl
 tells-column nothing (node y) = never (λ e. let z : _≡_ {A = ℕ} 0 1 = cc in omega arith)
 tells-column (node x) nothing = never (λ e. let z : _≡_ {A = ℕ} 0 1 = cc in omega arith)
 tells-column (node x) (node y) = tells-as (λ e. ap node e) (λ e. let z : x ≡ y = cc in z) (tells-node x y)
+
+abbrev pub node-axis : (n : ℕ) → Axis (IsNode n)
+node-axis n = record { cells = nodes n; in-cells = in-nodes n; same = sameNode; tells-same = tells-node }
+
+abbrev pub column-axis : (n : ℕ) → Axis (IsColumn n)
+column-axis n = record { cells = columns n; in-cells = in-columns n; same = sameColumn; tells-same = tells-column }

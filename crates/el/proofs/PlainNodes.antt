@@ -11,12 +11,12 @@ use Prim.Native.Nat.{ℕ}
 use Rattle.el.specs.Lists.{In, any}
 use Rattle.el.specs.Concepts.{Concept, top, name, both, some, Node, everything, named, conceptOf}
 use Rattle.el.specs.Axioms.{Axiom, partsOf, fillerOf}
-use Rattle.el.specs.Derivability.{Derives, to-top, one, other}
+use Rattle.el.specs.Derivability.{Derives, one, other}
 use Rattle.el.specs.Answers.{isPlain, isOf, isJoin}
 use Rattle.el.proofs.Lists.{Some}
 use Rattle.el.proofs.Tests.{Tells, decided, tells-as, tells-and, tells-not, tells-any, never}
 use Rattle.el.proofs.Derivations.{_▹_, Joins, Fills, to-part, from-parts, from-filler}
-use Rattle.el.proofs.CanonicalModel.{Within, in-one, in-other, within-some}
+use Rattle.el.proofs.CanonicalModel.{in-one, in-other, within-some}
 use Rattle.el.proofs.Terminologies.{Terminology, NotJoined, OneBelow, name-below, some-below, one-below-derives, below-not-joined}
 use Rattle.el.proofs.Nodes.{tells-node}
 use Rattle.el.proofs.Classification.{tells-joins}

@@ -3,11 +3,10 @@
 --   tells-below        the test of specs/Answers tells of c ⊑ d, by any table
 --   tells-included     and so does the answer that specs/Answers computes
 use mathlib.Core.Path.{_≡_}
-use mathlib.Core.Logic.{_⊎_, inl, inr, _↔_}
+use mathlib.Core.Logic.{_⊎_, inl, inr}
 use mathlib.Core.Bool.{Bool}
 use mathlib.Core.List.{List}
 use Prim.Native.Nat.{ℕ, _<_}
-use Rattle.el.specs.Lists.{In}
 use Rattle.el.specs.Concepts.{Concept, top, name, both, some, Node, everything, named, conceptOf}
 use Rattle.el.specs.Axioms.{Axiom, partsOf, fillerOf}
 use Rattle.el.specs.Derivability.{Derives, to-top}
