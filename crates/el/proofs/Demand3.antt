@@ -8,7 +8,7 @@
 --   demand3                                       demand 3 of specs/Comparison
 use mathlib.Core.Path.{_≡_, refl, ap₂, sym, _∙_}
 use mathlib.Core.Logic.{_⊎_, inl, inr, _↔_}
-use mathlib.Core.Bool.{Bool, true, false, false≢true, true≢false}
+use mathlib.Core.Bool.{Bool, true, false, false≢true}
 use mathlib.Core.List.{List}
 use Prim.Native.Nat.{ℕ, zero, suc, _≤_, _<_}
 use native.Mathlib.Omega.{arith}
@@ -19,7 +19,7 @@ use Rattle.el.specs.Derivability.{Derives, to-top, one, other, meet, und
 use Rattle.el.specs.Signatures.{Signature, isOver, LeftWitness, RightWitness, EqualOver}
 use Rattle.el.specs.Comparison.{onLeft, onRight, IsByte, ReportsNone, Demand3}
 use Rattle.el.specs.Answers.{node, byteOf}
-use Rattle.el.proofs.Tests.{and-left, and-right, which}
+use Rattle.el.proofs.Tests.{and-left, and-right, which, not-both}
 use Rattle.el.proofs.Derivations.{_▹_}
 use Rattle.el.proofs.Terminologies.{Terminology, top-below-some, both-below-some, some-below-some}
 use Rattle.el.proofs.Nodes.{name-node, node-column, Comparable, turned}
@@ -76,10 +76,10 @@ one-byte {sig} {a = a} {b = b} {c = c} p q = elim (which (sig .has-name a)) [
 -- by any tables and marks that are right and closed
 module _ {n : ℕ} {sig : Signature} {t u : List Axiom} (given : Comparable n sig t u) (first-table : Table n t) (second-table : Table n u) where
   pub left-kept : (f : ForwardMarks sig first-table second-table) (a : ℕ) → a < n → f .mark (named a) (named a) ≡ false → KeptAbove sig t u a
-  left-kept f a l free = record { keeps = above-kept given first-table second-table (f .mark) (f .closed) (named a) (named a) (name-node l) (name-node l) free }
+  left-kept f a l free = record { keeps = λ d over p. above-kept given first-table second-table (f .mark) (f .closed) d over (named a) (named a) (name-node l) (name-node l) free p }
 
   pub right-kept : (g : BackwardMarks sig first-table second-table) (a : ℕ) → a < n → g .mark (named a) (node (named a)) ≡ false → KeptBelow sig t u a
-  right-kept g a l free = record { keeps = λ c o p. below-kept given first-table second-table (g .mark) (g .closed) c o (named a) (node (named a)) (name-node l) (node-column (name-node l)) free p }
+  right-kept g a l free = record { keeps = λ c over p. below-kept given first-table second-table (g .mark) (g .closed) c over (named a) (node (named a)) (name-node l) (node-column (name-node l)) free p }
 
   pub left-exact : (f : ForwardMarks sig first-table second-table) (a : ℕ) → a < n → (f .mark (named a) (named a) ≡ true) ↔ LeftWitness sig t u a
   left-exact f a l = (
@@ -96,12 +96,12 @@ module _ {n : ℕ} {sig : Signature} {t u : List Axiom} (given : Comparable n si
   pub the-byte : (f : ForwardMarks sig first-table second-table) (g : BackwardMarks sig first-table second-table) (a : ℕ) → a < n → IsByte sig t u a (pick (sig .has-name a) (byteOf (f .mark (named a) (named a)) (g .mark (named a) (node (named a)))) 0)
   the-byte f g a l = elim (which (sig .has-name a)) [
     | inl e ↦ record {
-      outside = λ z. absurd (true≢false (sym e ∙ z));
+      outside = λ z. absurd (not-both e z);
       small = rw e (byte-small (f .mark (named a) (named a)) (g .mark (named a) (node (named a))));
       left = λ z. rw (e, byte-left (f .mark (named a) (named a)) (g .mark (named a) (node (named a)))) (left-exact f a l);
       right = λ z. rw (e, byte-right (f .mark (named a) (named a)) (g .mark (named a) (node (named a)))) (right-exact g a l);
     }
-    | inr e ↦ record { outside = λ z. rw e; small = rw e (omega arith); left = λ z. absurd (true≢false (sym z ∙ e)); right = λ z. absurd (true≢false (sym z ∙ e)) }
+    | inr e ↦ record { outside = λ z. rw e; small = rw e (omega arith); left = λ z. absurd (not-both z e); right = λ z. absurd (not-both z e) }
   ]
 
 -- such tables and marks there are

@@ -6,7 +6,7 @@
 --   refined-inversion     c ⊑ ∃r.d is derivable only where one conjunct of c lies below ∃r.d (OneBelowSome al c r d)
 use mathlib.Core.Path.{_≡_, refl, sym, ap, _∙_}
 use mathlib.Core.Logic.{_⊎_, inl, inr, _↔_}
-use mathlib.Core.Bool.{true, false, true≢false}
+use mathlib.Core.Bool.{true, false}
 use mathlib.Core.List.{List}
 use Prim.Native.Nat.{ℕ}
 use Rattle.el.specs.Lists.{In}
@@ -14,7 +14,7 @@ use Rattle.el.specs.Concepts.{Concept, top, name, both, some, conceptOf}
 use Rattle.el.specs.Axioms.{Axiom, rightOf, isConjunction, partsOf, roleOf, fillerOf}
 use Rattle.el.specs.Derivability.{Derives, same, to-top, one, other, meet, under, stated, defined}
 use Rattle.el.specs.Interpretations.{Interpretation, sat, Model}
-use Rattle.el.proofs.Tests.{which}
+use Rattle.el.proofs.Tests.{which, not-both}
 use Rattle.el.proofs.Derivations.{_▹_, Serves, Joins, Fills, Restricts, right-conjunction, right-restriction, to-part, from-parts, to-filler, from-filler, has-part}
 use Rattle.el.proofs.Soundness.{sound}
 use Rattle.el.proofs.CanonicalModel.{Within, itself, in-one, in-other, within-derives, within-one, within-other, within-some, Edge, written, implied, edge-derives, canonical, names-hold, hold-names, within-holds, derives-holds, inversion}
@@ -41,7 +41,7 @@ one-of-not-joined (each-part h j e f) k = absurd (k .none h j e)
 
 -- a name with a restriction is not joined
 restricted-plain : {al : List Axiom} → Terminology al → {a : Axiom} → In al a → isConjunction a ≡ false → NotJoined al (a .left)
-restricted-plain terms h k = record { none = λ hb j e. true≢false (sym (j .is-conjunction) ∙ rw (terms .one-axiom h hb (sym e)) at k) }
+restricted-plain terms h k = record { none = λ hb j e. not-both (j .is-conjunction) (rw (terms .one-axiom h hb (sym e)) at k) }
 
 -- the canonical model with one more point, the star, which is in the names that PartsBelow allows
 data Spot : Type 0 where
@@ -98,7 +98,7 @@ module _ (al : List Axiom) (c : Concept) where
     part-below h (at-once (name-below w p)) e z i = at-once (name-below w (p ▹ rw e at (to-part h i)))
     part-below {a} h (at-once (some-below h′ f e′ w p)) e z i =
         let s : isConjunction a ≡ false = rw (terms .one-axiom h′ h (cc)) at (f .is-restriction) in
-        absurd (true≢false (sym (has-part a i) ∙ s))
+        absurd (not-both (has-part a i) s)
     part-below h (each-part h′ j e′ f) e z i = at-once (f z (rw (terms .one-axiom h′ h (cc)) i))
 
     star-down : {a : Axiom} → In al a → PartsBelow al c (a .left) → sat (starred al c) star (rightOf a)

@@ -2,7 +2,7 @@
 --   Tells b A         the test b is true exactly where A holds
 --   decided           what a test tells of is decided
 -- Then one law for each operation from which tests are made: equations, and, or, not, if, any, all.
-use mathlib.Core.Path.{_≡_, refl}
+use mathlib.Core.Path.{_≡_, refl, sym, _∙_}
 use mathlib.Core.Logic.{_⊎_, inl, inr, _↔_}
 use mathlib.Core.Bool.{Bool, true, false, _&&_, _||_, not, false≢true, true≢false}
 use mathlib.Core.List.{List, [], _∷_}
@@ -30,6 +30,9 @@ which false = inr refl
 pub which-not : (b : Bool) → (b ≡ false) ⊎ (b ≡ true)
 which-not true = inr refl
 which-not false = inl refl
+
+pub not-both : {b : Bool} → b ≡ true → b ≡ false → ⊥
+not-both p q = true≢false (sym p ∙ q)
 
 pub and-left : (a b : Bool) → a && b ≡ true → a ≡ true
 and-left true b e = refl
