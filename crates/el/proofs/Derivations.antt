@@ -4,6 +4,7 @@
 --   Joins a            the axiom a is A ≡ B1 ⊓ .. ⊓ Bk
 --   Fills r a          a is A ≡ ∃s.B, and r serves for s: then ∃r.C ⊑ A for each C ⊑ B
 --   Restricts a r d    a is A ⊑ ∃s.B or A ≡ ∃s.B, s serves for r, and d is B: then A ⊑ ∃r.d
+-- Not here: what is not derivable (Terminologies).
 use mathlib.Core.Path.{_≡_, refl, sym, _∙_}
 use mathlib.Core.Logic.{_↔_}
 use mathlib.Core.Bool.{true, false, true≢false}

@@ -187,7 +187,7 @@ belowSome al m r d p (name b) = nodeBelow al m (named b) (some r d)
 belowSome al m r d p (both c e) = belowSome al m r d p c || belowSome al m r d p e
 belowSome al m r d p (some q c) = serves q r && p c
 
--- any concept below any other
+-- c below d, for any two
 abbrev pub belowBy : List Axiom → Test Node Node → Concept → Concept → Bool
 belowBy al m top c = true
 belowBy al m (name b) c = byPlain al (belowPlain al m c) (named b)
