@@ -26,8 +26,8 @@ getD-listed f (suc n) (suc a) l = getD-listed (λ b. f (suc b)) n a (omega arith
 pub comparison-bytes : {n : ℕ} {sig : Signature} {t u : List Axiom} → Comparable n sig t u → AreBytes n sig t u (comparisonBytes n sig t u)
 comparison-bytes {n} given = record {
   long = length-listed _ n;
-  each = λ a l. rw (getD-listed _ n a l) (the-byte given (first-table given) (second-table given) (forth given) (back given) a l);
+  each = λ a a-in. rw (getD-listed _ n a a-in) (the-byte given (first-table given) (second-table given) (forth given) (back given) a a-in);
 }
 
 pub only-bytes : {n : ℕ} {sig : Signature} {t u : List Axiom} {bs cs : List ℕ} → AreBytes n sig t u bs → AreBytes n sig t u cs → bs ≡ cs
-only-bytes {bs = bs} {cs = cs} p q = ext-getD 0 bs cs (p .long ∙ sym (q .long)) (λ a l. one-byte (p .each a (omega (arith, p .long))) (q .each a (omega (arith, p .long))))
+only-bytes {bs = bs} {cs = cs} p q = ext-getD 0 bs cs (p .long ∙ sym (q .long)) (λ a a-in. one-byte (p .each a (omega (arith, p .long))) (q .each a (omega (arith, p .long))))

@@ -5,9 +5,9 @@
 --   Backward sig t u in-t in-u f x y             a rule gives LostBelow from the marks f; in-t and in-u are the inclusions of t and u
 --   BackwardMarks sig first-table second-table   marks that are right and closed under the rule; some-backward-marks: there are such
 --   below-kept                                   where such marks leave x, y free, nothing that lies below x by t is lost for y by u
-use mathlib.Core.Path.{_≡_, refl, sym, ap, _∙_}
+use mathlib.Core.Path.{_≡_, refl, ap}
 use mathlib.Core.Logic.{_⊎_, inl, inr}
-use mathlib.Core.Bool.{Bool, true, false, _&&_, false≢true, true≢false}
+use mathlib.Core.Bool.{Bool, true, false, _&&_, false≢true}
 use mathlib.Core.List.{List, [], _∷_}
 use Prim.Native.Nat.{ℕ}
 use Rattle.el.specs.Lists.{In, first, later, pick}
@@ -17,7 +17,7 @@ use Rattle.el.specs.Derivability.{Derives, to-top, one, other}
 use Rattle.el.specs.Signatures.{Signature, isOver}
 use Rattle.el.specs.Answers.{Test, below, Column, nothing, node, sameColumn, isFill, isPlainColumn, nameUnder, partner, backward}
 use Rattle.el.proofs.Lists.{each, Some, Every, either}
-use Rattle.el.proofs.Tests.{Tells, tells-as, tells-true, tells-false, tells-and, tells-or, tells-any, tells-all, never, always, and-left, and-right, and-both, which, which-not}
+use Rattle.el.proofs.Tests.{Tells, tells-as, tells-true, tells-false, tells-and, tells-or, tells-any, tells-all, never, always, and-left, and-right, and-both, which, which-not, not-both}
 use Rattle.el.proofs.Derivations.{_▹_, Joins, Fills}
 use Rattle.el.proofs.Terminologies.{Terminology}
 use Rattle.el.proofs.Nodes.{IsNode, name-node, IsColumn, no-column, node-column, Formed, NamesBelow, Comparable, in-below, tells-node, tells-column, node-axis, column-axis}
@@ -138,8 +138,8 @@ module _ {n : ℕ} {sig : Signature} {t u : List Axiom} (given : Comparable n si
   in-u = second-table .says
 
   tells-under : {b : ℕ} → sig .has-name b ≡ true → (y : Column) → IsColumn n y → Tells (nameUnder in-u b y) (Below u (name b) y)
-  tells-under o nothing no-column = never (λ p. p)
-  tells-under {b} o (node y) (node-column j) = record { sound = λ h. second-table .sound (name-node (given .names-in b o)) j h; complete = λ p. second-table .complete (name-node (given .names-in b o)) j p }
+  tells-under over nothing no-column = never (λ p. p)
+  tells-under {b} over (node y) (node-column y-in) = record { sound = λ h. second-table .sound (name-node (given .names-in b over)) y-in h; complete = λ p. second-table .complete (name-node (given .names-in b over)) y-in p }
 
   -- ⊤ is lost below a plain column, and so is a conjunction of what is lost
   top-lost : (y : Column) → PlainColumn u y → Below u top y → ⊥
@@ -150,6 +150,7 @@ module _ {n : ℕ} {sig : Signature} {t u : List Axiom} (given : Comparable n si
   both-lost c d nothing plain-nothing f g p = p
   both-lost c d (node y) (plain-node k) f g p = elim (both-below-plain (given .second-terms) k .0 p) [ inl q ↦ f q | inr q ↦ g q ]
 
+  -- a concept below each of xs by t, and not below y by u
   record BelowAll (xs : List ℕ) (y : Column) : Type 0 where
     it : Concept
     over : isOver sig it ≡ true
@@ -157,94 +158,90 @@ module _ {n : ℕ} {sig : Signature} {t u : List Axiom} (given : Comparable n si
     not-second : Below u it y → ⊥
 
   below-all : (y : Column) → PlainColumn u y → (xs : List ℕ) → ((z : ℕ) → In xs z → LostBelow sig t u (named z) y) → BelowAll xs y
-  below-all y k [] f = record { it = top; over = refl; by-first = λ z h. elim h [ ]; not-second = top-lost y k }
-  below-all y k (x ∷ xs) f = let a = f x first in let b = below-all y k xs (λ z h. f z (later h)) in record {
+  below-all y y-plain [] lost = record { it = top; over = refl; by-first = λ z h. elim h [ ]; not-second = top-lost y y-plain }
+  below-all y y-plain (x ∷ xs) lost = let a = lost x first in let b = below-all y y-plain xs (λ z h. lost z (later h)) in record {
     it = both (a .it) (b .it);
     over = and-both (a .over) (b .over);
     by-first = each (λ z. Derives t (both (a .it) (b .it)) (name z)) (one ▹ a .by-first) (λ z h. other ▹ b .by-first z h);
-    not-second = both-lost (a .it) (b .it) y k (a .not-second) (b .not-second);
+    not-second = both-lost (a .it) (b .it) y y-plain (a .not-second) (b .not-second);
   }
 
   pub backward-sound : Keeps (IsNode n) (IsColumn n) (LostBelow sig t u) (Backward sig t u in-t in-u)
-  backward-sound f good x y i j (of-part {z = z} h e joins p k) =
-      let c = good x (node (named z)) i (node-column (part-node (given .second-formed) h p)) k in
-      record { it = c .it; over = c .over; by-first = c .by-first; not-second = λ q. c .not-second (to-part-of h refl p (rw (← e) at q)) }
-  backward-sound f good x y i j (of-everything q e) = record { it = top; over = refl; by-first = rw e to-top; not-second = top-lost y q }
-  backward-sound f good x y i j (of-parts {a = a} q h e joins k) =
-      let c = below-all y q (partsOf a) (λ z p. good (named z) y (part-node (given .first-formed) h p) j (k .at z p)) in
-      record { it = c .it; over = c .over; by-first = from-parts-of h e joins (c .by-first); not-second = c .not-second }
-  backward-sound f good x y i j (of-name {b = b} q k o h l) = record {
+  backward-sound f good x y x-in y-in (of-part {z = z} b-in b-is-y joins z-in marked) =
+      let c = good x (node (named z)) x-in (node-column (part-node (given .second-formed) b-in z-in)) marked in
+      record { it = c .it; over = c .over; by-first = c .by-first; not-second = λ p. c .not-second (to-part-of b-in refl z-in (rw (← b-is-y) at p)) }
+  backward-sound f good x y x-in y-in (of-everything y-plain e) = record { it = top; over = refl; by-first = rw e to-top; not-second = top-lost y y-plain }
+  backward-sound f good x y x-in y-in (of-parts {a = a} y-plain a-in a-is-x joins all-marked) =
+      let c = below-all y y-plain (partsOf a) (λ z z-in. good (named z) y (part-node (given .first-formed) a-in z-in) y-in (all-marked .at z z-in)) in
+      record { it = c .it; over = c .over; by-first = from-parts-of a-in a-is-x joins (c .by-first); not-second = c .not-second }
+  backward-sound f good x y x-in y-in (of-name {b = b} y-plain x-plain over below-x not-below-y) = record {
     it = name b;
-    over = o;
-    by-first = first-table .sound (name-node (given .names-in b o)) i h;
-    not-second = λ p. true≢false (sym (tells-under o y j .complete p) ∙ l);
+    over = over;
+    by-first = first-table .sound (name-node (given .names-in b over)) x-in below-x;
+    not-second = λ p. not-both (tells-under over y y-in .complete p) not-below-y;
   }
-  backward-sound f good x y i j (of-role {a = a} {r = r} q k h e fills o l) =
-      let c = good (fillerOf a) (partner u r y) (given .first-formed .filler-in h) (partner-column (given .second-formed) r y) l in
+  backward-sound f good x y x-in y-in (of-role {a = a} {r = r} y-plain x-plain a-in a-is-x fills over marked) =
+      let c = good (fillerOf a) (partner u r y) (given .first-formed .filler-in a-in) (partner-column (given .second-formed) r y) marked in
       record {
         it = some r (c .it);
-        over = and-both o (c .over);
-        by-first = from-filler-of h e fills (c .by-first);
-        not-second = λ p. c .not-second (below-partner u r (c .it) (given .second-terms) y q p);
+        over = and-both over (c .over);
+        by-first = from-filler-of a-in a-is-x fills (c .by-first);
+        not-second = λ p. c .not-second (below-partner u r (c .it) (given .second-terms) y y-plain p);
       }
 
   abbrev pub some-backward-marks : BackwardMarks sig first-table second-table
   some-backward-marks = saturated (node-axis n) (column-axis n) (LostBelow sig t u) (Backward sig t u in-t in-u) (backward n sig t u in-t in-u) (tells-backward sig (given .names-in) t u in-t in-u) backward-sound
 
+  -- for any closed marks
   module _ (f : Test Node Column) (closed : Closed (IsNode n) (IsColumn n) (Backward sig t u in-t in-u) f) where
-    abbrev Kept : Concept → Type 0
-    Kept c = (x : Node) (y : Column) → IsNode n x → IsColumn n y → f x y ≡ false → Derives t c (conceptOf x) → Below u c y
+    abbrev Kept : Concept → Node → Column → Type 0
+    Kept c x y = IsNode n x → IsColumn n y → f x y ≡ false → Derives t c (conceptOf x) → Below u c y
 
-    abbrev KeptPlain : Concept → Type 0
-    KeptPlain c = (x : Node) (y : Column) → IsNode n x → IsColumn n y → f x y ≡ false → Plain t x → PlainColumn u y → Derives t c (conceptOf x) → Below u c y
-
-    -- a free pair is not what the rule gives
-    clash : {x : Node} {y : Column} → IsNode n x → IsColumn n y → f x y ≡ false → Backward sig t u in-t in-u f x y → ⊥
-    clash {x} {y} i j free w = true≢false (sym (closed x y i j w) ∙ free)
-
-    -- from plain nodes to all: first x, by its parts, then y
-    kept-plain-column : (c : Concept) → KeptPlain c → (x : Node) (y : Column) → IsNode n x → IsColumn n y → f x y ≡ false → PlainColumn u y → Derives t c (conceptOf x) → Below u c y
-    kept-plain-column c keep x y i j free q p = elim (kind t x) [
-      | is-everything e ↦ absurd (clash i j free (of-everything q e))
-      | is-joined {a = a} h e joins ↦ elim (either (λ z. which-not (f (named z) y)) (partsOf a)) [
-        | inl s ↦ keep (named (s .it)) y (part-node (given .first-formed) h (s .member)) j (s .holds) (part-plain (given .first-terms) h (s .member)) q (to-part-of h e (s .member) p)
-        | inr k ↦ absurd (clash i j free (of-parts q h e joins (record { at = k })))
+    -- what is kept for plain nodes is kept for all: x by its parts, then y by its parts
+    module _ (c : Concept) (plain-kept : (x : Node) (y : Column) → Plain t x → PlainColumn u y → Kept c x y) where
+      kept-plain-column : (x : Node) (y : Column) → PlainColumn u y → Kept c x y
+      kept-plain-column x y y-plain x-in y-in free p = elim (kind t x) [
+        | is-everything e ↦ absurd (not-both (closed x y x-in y-in (of-everything y-plain e)) free)
+        | is-joined {a = a} a-in a-is-x joins ↦ elim (either (λ z. which-not (f (named z) y)) (partsOf a)) [
+          | inl s ↦ plain-kept (named (s .it)) y (part-plain (given .first-terms) a-in (s .member)) y-plain (part-node (given .first-formed) a-in (s .member)) y-in (s .holds) (to-part-of a-in a-is-x (s .member) p)
+          | inr all-marked ↦ absurd (not-both (closed x y x-in y-in (of-parts y-plain a-in a-is-x joins (record { at = all-marked }))) free)
+        ]
+        | is-plain x-plain ↦ plain-kept x y x-plain y-plain x-in y-in free p
       ]
-      | is-plain k ↦ keep x y i j free k q p
-    ]
 
-    kept-by-plain : (c : Concept) → KeptPlain c → Kept c
-    kept-by-plain c keep x nothing i j free p = kept-plain-column c keep x nothing i j free plain-nothing p
-    kept-by-plain c keep x (node y) i j free p = elim (kind u y) [
-      | is-everything e ↦ rw e to-top
-      | is-joined {a = b} h e joins ↦ elim (either (λ z. which (f x (node (named z)))) (partsOf b)) [
-        | inl s ↦ absurd (clash i j free (of-part h (ap node e) joins (s .member) (s .holds)))
-        | inr k ↦ from-parts-of h e joins (λ z m. kept-plain-column c keep x (node (named z)) i (node-column (part-node (given .second-formed) h m)) (k z m) (plain-node (part-plain (given .second-terms) h m)) p)
+      kept-all : (x : Node) (y : Column) → Kept c x y
+      kept-all x nothing x-in y-in free p = kept-plain-column x nothing plain-nothing x-in y-in free p
+      kept-all x (node y) x-in y-in free p = elim (kind u y) [
+        | is-everything e ↦ rw e to-top
+        | is-joined {a = b} b-in b-is-y joins ↦ elim (either (λ z. which (f x (node (named z)))) (partsOf b)) [
+          | inl s ↦ absurd (not-both (closed x (node y) x-in y-in (of-part b-in (ap node b-is-y) joins (s .member) (s .holds))) free)
+          | inr all-free ↦ from-parts-of b-in b-is-y joins (λ z z-in. kept-plain-column x (node (named z)) (plain-node (part-plain (given .second-terms) b-in z-in)) x-in (node-column (part-node (given .second-formed) b-in z-in)) (all-free z z-in) p)
+        ]
+        | is-plain y-plain ↦ kept-plain-column x (node y) (plain-node y-plain) x-in y-in free p
       ]
-      | is-plain k ↦ kept-plain-column c keep x (node y) i j free (plain-node k) p
-    ]
 
     below-first : {c d : Concept} (y : Column) → Derives u c d → Below u d y → Below u c y
     below-first nothing p q = q
     below-first (node y) p q = p ▹ q
 
-    kept-plain : (c : Concept) → isOver sig c ≡ true → KeptPlain c
-    kept-plain top o x y i j free k q p = absurd (top-below-plain (given .first-terms) k p)
-    kept-plain (name b) o x y i j free k q p = elim (which (nameUnder in-u b y)) [
-      | inl h ↦ tells-under o y j .sound h
-      | inr h ↦ absurd (clash i j free (of-name q k o (first-table .complete (name-node (given .names-in b o)) i p) h))
+    -- by the form of c
+    kept-plain : (c : Concept) → isOver sig c ≡ true → (x : Node) (y : Column) → Plain t x → PlainColumn u y → Kept c x y
+    kept-plain top over x y x-plain y-plain x-in y-in free p = absurd (top-below-plain (given .first-terms) x-plain p)
+    kept-plain (name b) over x y x-plain y-plain x-in y-in free p = elim (which (nameUnder in-u b y)) [
+      | inl h ↦ tells-under over y y-in .sound h
+      | inr h ↦ absurd (not-both (closed x y x-in y-in (of-name y-plain x-plain over (first-table .complete (name-node (given .names-in b over)) x-in p) h)) free)
     ]
-    kept-plain (both c d) o x y i j free k q p = elim (both-below-plain (given .first-terms) k .0 p) [
-      | inl v ↦ below-first y one (kept-plain c (and-left (isOver sig c) _ o) x y i j free k q v)
-      | inr v ↦ below-first y other (kept-plain d (and-right (isOver sig c) _ o) x y i j free k q v)
+    kept-plain (both c d) over x y x-plain y-plain x-in y-in free p = elim (both-below-plain (given .first-terms) x-plain .0 p) [
+      | inl q ↦ below-first y one (kept-plain c (and-left (isOver sig c) _ over) x y x-plain y-plain x-in y-in free q)
+      | inr q ↦ below-first y other (kept-plain d (and-right (isOver sig c) _ over) x y x-plain y-plain x-in y-in free q)
     ]
-    kept-plain (some r c) o x y i j free k q p =
-        let s = some-below-plain (given .first-terms) k .0 p in
+    kept-plain (some r c) over x y x-plain y-plain x-in y-in free p =
+        let s = some-below-plain (given .first-terms) x-plain .0 p in
         let a = s .it in
         elim (which (f (fillerOf a) (partner u r y))) [
-          | inl h ↦ absurd (clash i j free (of-role q k (s .member) (s .holds .0) (s .holds .1 .0) (and-left (sig .has-role r) _ o) h))
-          | inr h ↦ partner-below u r c y (kept-by-plain c (kept-plain c (and-right (sig .has-role r) _ o)) (fillerOf a) (partner u r y) (given .first-formed .filler-in (s .member)) (partner-column (given .second-formed) r y) h (s .holds .1 .1))
+          | inl h ↦ absurd (not-both (closed x y x-in y-in (of-role y-plain x-plain (s .member) (s .holds .0) (s .holds .1 .0) (and-left (sig .has-role r) _ over) h)) free)
+          | inr h ↦ partner-below u r c y (kept-all c (kept-plain c (and-right (sig .has-role r) _ over)) (fillerOf a) (partner u r y) (given .first-formed .filler-in (s .member)) (partner-column (given .second-formed) r y) h (s .holds .1 .1))
         ]
 
     pub below-kept : (c : Concept) → isOver sig c ≡ true → (x : Node) (y : Column) → IsNode n x → IsColumn n y → f x y ≡ false → Derives t c (conceptOf x) → Below u c y
-    below-kept c o = kept-by-plain c (kept-plain c o)
+    below-kept c over x y = kept-all c (kept-plain c over) x y

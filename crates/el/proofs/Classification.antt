@@ -5,7 +5,7 @@
 --   Inclusions n al     marks on pairs of nodes that are derivable and closed under the rules; some-inclusions: there are such
 --   Table n al          a table of all inclusions between nodes; table-of: any marks that are good and closed are one
 --   linked, links       a node lies below ∃r.d exactly by a link to a filler below d
-use mathlib.Core.Path.{_≡_, refl, _∙_}
+use mathlib.Core.Path.{_≡_, refl}
 use mathlib.Core.Logic.{_⊎_, inl, inr}
 use mathlib.Core.Bool.{Bool, true, false}
 use mathlib.Core.List.{List}
@@ -18,7 +18,7 @@ use Rattle.el.specs.Interpretations.{Interpretation, sat}
 use Rattle.el.specs.Answers.{Test, isLink, isJoin, isFill, includes}
 use Rattle.el.proofs.Lists.{Some, Every}
 use Rattle.el.proofs.Tests.{Tells, tells-as, tells-true, tells-false, tells-eq, tells-and, tells-or, tells-any, tells-all, which}
-use Rattle.el.proofs.Derivations.{_▹_, Serves, Joins, Fills, right-conjunction, right-restriction, to-part, from-parts, to-filler, from-filler}
+use Rattle.el.proofs.Derivations.{_▹_, Serves, Joins, Fills, Restricts, fills-by, right-conjunction, right-restriction, to-part, from-parts, to-filler, from-filler}
 use Rattle.el.proofs.Soundness.{sound}
 use Rattle.el.proofs.CanonicalModel.{Within, Edge, written, implied, names-hold, hold-names, inversion}
 use Rattle.el.proofs.Nodes.{IsNode, name-node, Formed, tells-node, node-axis}
@@ -28,6 +28,9 @@ pub record Link (m : Test Node Node) (x : Node) (r : ℕ) (a : Axiom) : Type 0 w
   pub above : m x (named (a .left)) ≡ true
   pub is-restriction : isConjunction a ≡ false
   pub role : Serves (roleOf a) r
+
+pub link-restricts : {m : Test Node Node} {x : Node} {r : ℕ} {a : Axiom} → Link m x r a → Restricts a r (conceptOf (fillerOf a))
+link-restricts link = record { is-restriction = link .is-restriction; role = link .role; filler = refl }
 
 pub data Includes (al : List Axiom) (m : Test Node Node) (x y : Node) : Type 0 where
   the-same : x ≡ y → Includes al m x y
@@ -70,12 +73,11 @@ tells-includes al m x y = tells-as there back (tells-or (tells-node x y) (tells-
     back : Includes al m x y → Cases
     back (the-same e) = inl e
     back (to-everything e) = inr (inl e)
-    back (by-part {a = a} {z = z} h k i e) = inr (inr (inl (record { it = a; member = h; holds = (k, record { it = z; member = i; holds = e }) })))
-    back (by-parts {a = a} h e j k) = inr (inr (inr (inl (record { it = a; member = h; holds = (e, (j, k)) }))))
-    back (by-filler {a = a} {b = b} h e f g l k) =
-        let fills : Fills (roleOf b) a = record { is-defined = f .is-defined; is-restriction = f .is-restriction; role = l .role ∙ f .role } in
-        let link : Link m x (roleOf b) b = record { above = l .above; is-restriction = l .is-restriction; role = refl } in
-        inr (inr (inr (inr (record { it = a; member = h; holds = (e, record { it = b; member = g; holds = (fills, (link, k)) }) }))))
+    back (by-part {a = a} {z = z} a-in above z-in z-is-y) = inr (inr (inl (record { it = a; member = a-in; holds = (above, record { it = z; member = z-in; holds = z-is-y }) })))
+    back (by-parts {a = a} a-in a-is-y joins all-above) = inr (inr (inr (inl (record { it = a; member = a-in; holds = (a-is-y, (joins, all-above)) }))))
+    back (by-filler {a = a} {b = b} a-in a-is-y fills b-in link marked) =
+        let own-link : Link m x (roleOf b) b = record { above = link .above; is-restriction = link .is-restriction; role = refl } in
+        inr (inr (inr (inr (record { it = a; member = a-in; holds = (a-is-y, record { it = b; member = b-in; holds = (fills-by (link .role) fills, (own-link, marked)) }) }))))
 
 -- the nodes as a model, by any marks m
 record Spot (n : ℕ) : Type 0 where
@@ -93,18 +95,18 @@ Inclusions n al = Marks (IsNode n) (IsNode n) (Included al) (Includes al)
 
 module _ {n : ℕ} {al : List Axiom} (formed : Formed n al) where
   pub left-node : {a : Axiom} → In al a → IsNode n (named (a .left))
-  left-node h = name-node (formed .left-in h)
+  left-node a-in = name-node (formed .left-in a-in)
 
   pub part-node : {a : Axiom} {z : ℕ} → In al a → In (partsOf a) z → IsNode n (named z)
-  part-node h i = name-node (formed .parts-in h i)
+  part-node a-in z-in = name-node (formed .parts-in a-in z-in)
 
   -- the rules are sound
   pub includes-sound : Keeps (IsNode n) (IsNode n) (Included al) (Includes al)
-  includes-sound m good x y i j (the-same e) = rw e same
-  includes-sound m good x y i j (to-everything e) = rw e to-top
-  includes-sound m good x y i j (by-part h k p e) = rw (← e) (good x _ i (left-node h) k ▹ to-part h p)
-  includes-sound m good x y i j (by-parts h e joins k) = rw (← e) (from-parts h joins (λ z p. good x (named z) i (part-node h p) (k .at z p)))
-  includes-sound m good x y i j (by-filler h e fills g l k) = rw (← e) (good x _ i (left-node g) (l .above) ▹ to-filler g (record { is-restriction = l .is-restriction; role = l .role; filler = refl }) ▹ from-filler h fills (good _ _ (formed .filler-in g) (formed .filler-in h) k))
+  includes-sound m good x y x-in y-in (the-same e) = rw e same
+  includes-sound m good x y x-in y-in (to-everything e) = rw e to-top
+  includes-sound m good x y x-in y-in (by-part a-in above z-in z-is-y) = rw (← z-is-y) (good x _ x-in (left-node a-in) above ▹ to-part a-in z-in)
+  includes-sound m good x y x-in y-in (by-parts a-in a-is-y joins all-above) = rw (← a-is-y) (from-parts a-in joins (λ z z-in. good x (named z) x-in (part-node a-in z-in) (all-above .at z z-in)))
+  includes-sound m good x y x-in y-in (by-filler a-in a-is-y fills b-in link marked) = rw (← a-is-y) (good x _ x-in (left-node b-in) (link .above) ▹ to-filler b-in (link-restricts link) ▹ from-filler a-in fills (good _ _ (formed .filler-in b-in) (formed .filler-in a-in) marked))
 
   abbrev pub some-inclusions : Inclusions n al
   some-inclusions = saturated (node-axis n) (node-axis n) (Included al) (Includes al) (includes al) (tells-includes al) includes-sound
@@ -112,35 +114,38 @@ module _ {n : ℕ} {al : List Axiom} (formed : Formed n al) where
   -- and complete
   module _ (m : Test Node Node) (closed : Closed (IsNode n) (IsNode n) (Includes al) m) where
     node-holds : (x : Spot n) (y : Node) → m (x .at) y ≡ true → sat (finite n al m) x (conceptOf y)
-    node-holds x everything h = tt
-    node-holds x (named y) h = h
+    node-holds x everything marked = tt
+    node-holds x (named y) marked = marked
 
     holds-node : (x : Spot n) (y : Node) → IsNode n y → sat (finite n al m) x (conceptOf y) → m (x .at) y ≡ true
-    holds-node x everything j s = closed (x .at) everything (x .is) j (to-everything refl)
-    holds-node x (named y) j s = s
+    holds-node x everything y-in s = closed (x .at) everything (x .is) y-in (to-everything refl)
+    holds-node x (named y) y-in s = s
+
+    itself-holds : (x : Spot n) → sat (finite n al m) x (conceptOf (x .at))
+    itself-holds x = node-holds x (x .at) (closed (x .at) (x .at) (x .is) (x .is) (the-same refl))
 
     finite-down : {a : Axiom} → In al a → (x : Spot n) → m (x .at) (named (a .left)) ≡ true → sat (finite n al m) x (rightOf a)
-    finite-down {a} h x s = elim (which (isConjunction a)) [
-      | inl k ↦ rw (right-conjunction a k) (names-hold (finite n al m) x (partsOf a) (λ z i. closed (x .at) (named z) (x .is) (part-node h i) (by-part h s i refl)))
+    finite-down {a} a-in x above = elim (which (isConjunction a)) [
+      | inl k ↦ rw (right-conjunction a k) (names-hold (finite n al m) x (partsOf a) (λ z z-in. closed (x .at) (named z) (x .is) (part-node a-in z-in) (by-part a-in above z-in refl)))
       | inr k ↦ (
-          let y : Spot n = record { at = fillerOf a; is = formed .filler-in h } in
-          let link : Link m (x .at) (roleOf a) a = record { above = s; is-restriction = k; role = refl } in
-          rw (right-restriction a k) (y, record { it = a; member = h; holds = (link, refl) }, node-holds y (fillerOf a) (closed (fillerOf a) (fillerOf a) (y .is) (y .is) (the-same refl))))
+          let y : Spot n = record { at = fillerOf a; is = formed .filler-in a-in } in
+          let link : Link m (x .at) (roleOf a) a = record { above = above; is-restriction = k; role = refl } in
+          rw (right-restriction a k) (y, record { it = a; member = a-in; holds = (link, refl) }, itself-holds y))
     ]
 
     finite-up : {a : Axiom} → In al a → a .defined ≡ true → (x : Spot n) → sat (finite n al m) x (rightOf a) → m (x .at) (named (a .left)) ≡ true
-    finite-up {a} h d x s = closed (x .at) (named (a .left)) (x .is) (left-node h) (elim (which (isConjunction a)) [
-      | inl k ↦ by-parts h refl (record { is-defined = d; is-conjunction = k }) (record { at = hold-names (finite n al m) x (partsOf a) (rw (right-conjunction a k) at s) })
+    finite-up {a} a-in d x s = closed (x .at) (named (a .left)) (x .is) (left-node a-in) (elim (which (isConjunction a)) [
+      | inl k ↦ by-parts a-in refl (record { is-defined = d; is-conjunction = k }) (record { at = hold-names (finite n al m) x (partsOf a) (rw (right-conjunction a k) at s) })
       | inr k ↦ (
           let t : sat (finite n al m) x (some (roleOf a) (conceptOf (fillerOf a))) = rw (right-restriction a k) at s in
-          let e = t .1 in
-          by-filler h refl (record { is-defined = d; is-restriction = k; role = refl }) (e .member) (e .holds .0) (rw (e .holds .1) (holds-node (t .0) (fillerOf a) (formed .filler-in h) (t .2))))
+          let b = t .1 in
+          by-filler a-in refl (record { is-defined = d; is-restriction = k; role = refl }) (b .member) (b .holds .0) (rw (b .holds .1) (holds-node (t .0) (fillerOf a) (formed .filler-in a-in) (t .2))))
     ])
 
     pub includes-complete : (x y : Node) → IsNode n x → IsNode n y → Included al x y → m x y ≡ true
-    includes-complete x y i j p =
-        let w : Spot n = record { at = x; is = i } in
-        holds-node w y j (sound p (record { down = finite-down; up = finite-up }) w (node-holds w x (closed x x i i (the-same refl))))
+    includes-complete x y x-in y-in p =
+        let point : Spot n = record { at = x; is = x-in } in
+        holds-node point y y-in (sound p (record { down = finite-down; up = finite-up }) point (itself-holds point))
 
 pub record Table (n : ℕ) (al : List Axiom) : Type 0 where
   pub says : Node → Node → Bool
@@ -148,7 +153,7 @@ pub record Table (n : ℕ) (al : List Axiom) : Type 0 where
   pub complete : {x y : Node} → IsNode n x → IsNode n y → Included al x y → says x y ≡ true
 
 abbrev pub table-of : {n : ℕ} {al : List Axiom} → Formed n al → Inclusions n al → Table n al
-table-of formed t = record { says = t .mark; sound = λ i j h. t .good _ _ i j h; complete = λ i j p. includes-complete formed (t .mark) (t .closed) _ _ i j p }
+table-of formed marks = record { says = marks .mark; sound = λ x-in y-in h. marks .good _ _ x-in y-in h; complete = λ x-in y-in p. includes-complete formed (marks .mark) (marks .closed) _ _ x-in y-in p }
 
 abbrev pub some-table : {n : ℕ} {al : List Axiom} → Formed n al → Table n al
 some-table formed = table-of formed (some-inclusions formed)
@@ -160,11 +165,11 @@ not-within (named y) w = elim w [ ]
 
 module _ {n : ℕ} {al : List Axiom} (formed : Formed n al) (table : Table n al) where
   pub linked : {r : ℕ} {y : Node} {d : Concept} {b : Axiom} → IsNode n y → In al b → Link (table .says) y r b → Derives al (conceptOf (fillerOf b)) d → Derives al (conceptOf y) (some r d)
-  linked j h l p = table .sound j (left-node formed h) (l .above) ▹ to-filler h (record { is-restriction = l .is-restriction; role = l .role; filler = refl }) ▹ under p
+  linked y-in b-in link p = table .sound y-in (left-node formed b-in) (link .above) ▹ to-filler b-in (link-restricts link) ▹ under p
 
   pub links : {r : ℕ} {y : Node} {d : Concept} → IsNode n y → Derives al (conceptOf y) (some r d) → Some al (λ b. Link (table .says) y r b × Derives al (conceptOf (fillerOf b)) d)
-  links {r} {y} {d} j p = let s = inversion p in by-edge (s .to) (s .by-edge) (s .then)
+  links {r} {y} {d} y-in p = let s = inversion p in by-edge (s .to) (s .by-edge) (s .then)
     where
       by-edge : (e : Concept) → Edge al r (conceptOf y) e → Derives al e d → Some al (λ b. Link (table .says) y r b × Derives al (conceptOf (fillerOf b)) d)
       by-edge e (written w) p = absurd (not-within y w)
-      by-edge e (implied {a = a} h q v) p = record { it = a; member = h; holds = (record { above = table .complete j (left-node formed h) v; is-restriction = q .is-restriction; role = q .role }, rw (q .filler) p) }
+      by-edge e (implied {a = a} a-in restricts above) p = record { it = a; member = a-in; holds = (record { above = table .complete y-in (left-node formed a-in) above; is-restriction = restricts .is-restriction; role = restricts .role }, rw (restricts .filler) p) }

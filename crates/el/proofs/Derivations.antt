@@ -4,7 +4,8 @@
 --   Joins a            the axiom a is A ≡ B1 ⊓ .. ⊓ Bk
 --   Fills r a          a is A ≡ ∃s.B, and r serves for s: then ∃r.C ⊑ A for each C ⊑ B
 --   Restricts a r d    a is A ⊑ ∃s.B or A ≡ ∃s.B, s serves for r, and d is B: then A ⊑ ∃r.d
-use mathlib.Core.Path.{_≡_, refl, sym}
+-- Not here: what is not derivable (Terminologies).
+use mathlib.Core.Path.{_≡_, refl, sym, _∙_}
 use mathlib.Core.Logic.{_↔_}
 use mathlib.Core.Bool.{true, false, true≢false}
 use mathlib.Core.List.{List, [], _∷_}
@@ -73,19 +74,22 @@ pub record Restricts (a : Axiom) (r : ℕ) (d : Concept) : Type 0 where
   pub role : Serves (roleOf a) r
   pub filler : conceptOf (fillerOf a) ≡ d
 
-module _ {al : List Axiom} {a : Axiom} (h : In al a) where
+pub fills-by : {q r : ℕ} {a : Axiom} → Serves q r → Fills r a → Fills q a
+fills-by e f = record { is-defined = f .is-defined; is-restriction = f .is-restriction; role = e ∙ f .role }
+
+module _ {al : List Axiom} {a : Axiom} (a-in : In al a) where
   pub to-part : {z : ℕ} → In (partsOf a) z → Derives al (name (a .left)) (name z)
-  to-part i = rw (right-conjunction a (has-part a i)) at (stated h) ▹ from-all i
+  to-part z-in = rw (right-conjunction a (has-part a z-in)) at (stated a-in) ▹ from-all z-in
 
   pub from-parts : {c : Concept} → Joins a → ((z : ℕ) → In (partsOf a) z → Derives al c (name z)) → Derives al c (name (a .left))
-  from-parts {c} j f =
-      let p : Derives al c (rightOf a) = rw (right-conjunction a (j .is-conjunction)) (to-all c (partsOf a) f) in
-      p ▹ defined h (j .is-defined)
+  from-parts {c} joins f =
+      let p : Derives al c (rightOf a) = rw (right-conjunction a (joins .is-conjunction)) (to-all c (partsOf a) f) in
+      p ▹ defined a-in (joins .is-defined)
 
   pub to-filler : {r : ℕ} {d : Concept} → Restricts a r d → Derives al (name (a .left)) (some r d)
-  to-filler q = rw (right-restriction a (q .is-restriction), q .role, q .filler) at (stated h)
+  to-filler restricts = rw (right-restriction a (restricts .is-restriction), restricts .role, restricts .filler) at (stated a-in)
 
   pub from-filler : {r : ℕ} {c : Concept} → Fills r a → Derives al c (conceptOf (fillerOf a)) → Derives al (some r c) (name (a .left))
-  from-filler {r} {c} f p =
-      let q : Derives al (some r c) (rightOf a) = rw (right-restriction a (f .is-restriction), f .role) (under p) in
-      q ▹ defined h (f .is-defined)
+  from-filler {r} {c} fills p =
+      let q : Derives al (some r c) (rightOf a) = rw (right-restriction a (fills .is-restriction), fills .role) (under p) in
+      q ▹ defined a-in (fills .is-defined)

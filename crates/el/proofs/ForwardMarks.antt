@@ -3,9 +3,9 @@
 --   Forward sig t u in-t in-u f x y             a rule gives that from the marks f; in-t and in-u are the inclusions of t and u
 --   ForwardMarks sig first-table second-table   marks that are right and closed under the rule; some-forward-marks: there are such
 --   above-kept                                  where such marks leave x, y free, nothing that lies above x by t is lost for y by u
-use mathlib.Core.Path.{_≡_, refl, sym, _∙_}
+use mathlib.Core.Path.{_≡_, refl}
 use mathlib.Core.Logic.{_⊎_, inl, inr}
-use mathlib.Core.Bool.{true, false, true≢false}
+use mathlib.Core.Bool.{true, false}
 use mathlib.Core.List.{List, [], _∷_}
 use Prim.Native.Nat.{ℕ}
 use Rattle.el.specs.Lists.{In, first, later}
@@ -15,7 +15,7 @@ use Rattle.el.specs.Derivability.{Derives, to-top, one, other, meet}
 use Rattle.el.specs.Signatures.{Signature, isOver}
 use Rattle.el.specs.Answers.{Test, below, forward}
 use Rattle.el.proofs.Lists.{each, Some, Every, either}
-use Rattle.el.proofs.Tests.{Tells, decided, tells-as, tells-true, tells-false, tells-and, tells-or, tells-if, tells-any, tells-all, and-left, and-right, and-both, which}
+use Rattle.el.proofs.Tests.{Tells, decided, tells-as, tells-true, tells-false, tells-and, tells-or, tells-if, tells-any, tells-all, and-left, and-right, and-both, which, not-both}
 use Rattle.el.proofs.Derivations.{_▹_}
 use Rattle.el.proofs.Nodes.{IsNode, name-node, NamesBelow, Comparable, in-below, node-axis}
 use Rattle.el.proofs.Saturation.{Closed, Keeps, Marks, saturated}
@@ -83,47 +83,46 @@ module _ {n : ℕ} {sig : Signature} {t u : List Axiom} (given : Comparable n si
   in-u = second-table .says
 
   pub forward-sound : Keeps (IsNode n) (IsNode n) (LostAbove sig t u) (Forward sig t u in-t in-u)
-  forward-sound f good x y i j (by-name {b = b} o h k) = record {
+  forward-sound f good x y x-in y-in (by-name {b = b} over above-x not-above-y) = record {
     it = name b;
-    over = o;
-    by-first = first-table .sound i (name-node (given .names-in b o)) h;
-    not-second = λ p. true≢false (sym (second-table .complete j (name-node (given .names-in b o)) p) ∙ k);
+    over = over;
+    by-first = first-table .sound x-in (name-node (given .names-in b over)) above-x;
+    not-second = λ p. not-both (second-table .complete y-in (name-node (given .names-in b over)) p) not-above-y;
   }
-  forward-sound f good x y i j (by-role {a = a} {r = r} h l o k) =
-      let c = above-none sig t u (fillerOf a) (Link in-u y r) (link-decided in-u y r) u (λ b g l. good (fillerOf a) (fillerOf b) (given .first-formed .filler-in h) (given .second-formed .filler-in g) (k .at b g l)) in
+  forward-sound f good x y x-in y-in (by-role {a = a} {r = r} a-in link over all-marked) =
+      let c = above-none sig t u (fillerOf a) (Link in-u y r) (link-decided in-u y r) u (λ b b-in l. good (fillerOf a) (fillerOf b) (given .first-formed .filler-in a-in) (given .second-formed .filler-in b-in) (all-marked .at b b-in l)) in
       record {
         it = some r (c .it);
-        over = and-both o (c .over);
-        by-first = linked (given .first-formed) first-table i h l (c .by-first);
-        not-second = λ p. let q = links (given .second-formed) second-table j p in c .none (q .it) (q .member) (q .holds .0) (q .holds .1);
+        over = and-both over (c .over);
+        by-first = linked (given .first-formed) first-table x-in a-in link (c .by-first);
+        not-second = λ p. let s = links (given .second-formed) second-table y-in p in c .none (s .it) (s .member) (s .holds .0) (s .holds .1);
       }
 
   abbrev pub some-forward-marks : ForwardMarks sig first-table second-table
   some-forward-marks = saturated (node-axis n) (node-axis n) (LostAbove sig t u) (Forward sig t u in-t in-u) (forward n sig t u in-t in-u) (tells-forward sig (given .names-in) t u in-t in-u) forward-sound
 
+  -- for any closed marks
   module _ (f : Test Node Node) (closed : Closed (IsNode n) (IsNode n) (Forward sig t u in-t in-u) f) where
-    -- whether the filler of b can serve for that of a
-    serves-or-lost : (y : Node) (r : ℕ) (a b : Axiom) → (Link in-u y r b × (f (fillerOf a) (fillerOf b) ≡ false)) ⊎ (Link in-u y r b → f (fillerOf a) (fillerOf b) ≡ true)
-    serves-or-lost y r a b = by-cases (link-decided in-u y r b) (which (f (fillerOf a) (fillerOf b)))
-      where
-        by-cases : Dec (Link in-u y r b) → (f (fillerOf a) (fillerOf b) ≡ true) ⊎ (f (fillerOf a) (fillerOf b) ≡ false) → (Link in-u y r b × (f (fillerOf a) (fillerOf b) ≡ false)) ⊎ (Link in-u y r b → f (fillerOf a) (fillerOf b) ≡ true)
-        by-cases (yes l) (inl h) = inr (λ k. h)
-        by-cases (yes l) (inr h) = inl (l, h)
-        by-cases (no k) h = inr (λ l. absurd (k l))
+    -- b is a link of y whose filler leaves that of a free; or, if b is a link, the two are marked
+    free-or-marked : (y : Node) (r : ℕ) (a b : Axiom) → (Link in-u y r b × (f (fillerOf a) (fillerOf b) ≡ false)) ⊎ (Link in-u y r b → f (fillerOf a) (fillerOf b) ≡ true)
+    free-or-marked y r a b = elim (which (f (fillerOf a) (fillerOf b))) [
+      | inl marked ↦ inr (λ link. marked)
+      | inr free ↦ elim (link-decided in-u y r b) [ yes link ↦ inl (link, free) | no none ↦ inr (λ link. absurd (none link)) ]
+    ]
 
-    pub above-kept : (x y : Node) → IsNode n x → IsNode n y → f x y ≡ false → (d : Concept) → isOver sig d ≡ true → Derives t (conceptOf x) d → Derives u (conceptOf y) d
-    above-kept x y i j free top o p = to-top
-    above-kept x y i j free (name b) o p =
-        let k : IsNode n (named b) = name-node (given .names-in b o) in
+    pub above-kept : (d : Concept) → isOver sig d ≡ true → (x y : Node) → IsNode n x → IsNode n y → f x y ≡ false → Derives t (conceptOf x) d → Derives u (conceptOf y) d
+    above-kept top over x y x-in y-in free p = to-top
+    above-kept (name b) over x y x-in y-in free p =
+        let b-in : IsNode n (named b) = name-node (given .names-in b over) in
         elim (which (in-u y (named b))) [
-          | inl h ↦ second-table .sound j k h
-          | inr h ↦ absurd (true≢false (sym (closed x y i j (by-name o (first-table .complete i k p) h)) ∙ free))
+          | inl h ↦ second-table .sound y-in b-in h
+          | inr h ↦ absurd (not-both (closed x y x-in y-in (by-name over (first-table .complete x-in b-in p) h)) free)
         ]
-    above-kept x y i j free (both c d) o p = meet (above-kept x y i j free c (and-left (isOver sig c) _ o) (p ▹ one)) (above-kept x y i j free d (and-right (isOver sig c) _ o) (p ▹ other))
-    above-kept x y i j free (some r d) o p =
-        let q = links (given .first-formed) first-table i p in
-        let a = q .it in
-        elim (either (serves-or-lost y r a) u) [
-          | inl w ↦ linked (given .second-formed) second-table j (w .member) (w .holds .0) (above-kept (fillerOf a) (fillerOf (w .it)) (given .first-formed .filler-in (q .member)) (given .second-formed .filler-in (w .member)) (w .holds .1) d (and-right (sig .has-role r) _ o) (q .holds .1))
-          | inr k ↦ absurd (true≢false (sym (closed x y i j (by-role (q .member) (q .holds .0) (and-left (sig .has-role r) _ o) (record { at = k }))) ∙ free))
+    above-kept (both c d) over x y x-in y-in free p = meet (above-kept c (and-left (isOver sig c) _ over) x y x-in y-in free (p ▹ one)) (above-kept d (and-right (isOver sig c) _ over) x y x-in y-in free (p ▹ other))
+    above-kept (some r d) over x y x-in y-in free p =
+        let s = links (given .first-formed) first-table x-in p in
+        let a = s .it in
+        elim (either (free-or-marked y r a) u) [
+          | inl w ↦ linked (given .second-formed) second-table y-in (w .member) (w .holds .0) (above-kept d (and-right (sig .has-role r) _ over) (fillerOf a) (fillerOf (w .it)) (given .first-formed .filler-in (s .member)) (given .second-formed .filler-in (w .member)) (w .holds .1) (s .holds .1))
+          | inr all-marked ↦ absurd (not-both (closed x y x-in y-in (by-role (s .member) (s .holds .0) (and-left (sig .has-role r) _ over) (record { at = all-marked }))) free)
         ]

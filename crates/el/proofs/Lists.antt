@@ -3,6 +3,7 @@
 --   Every xs P        all members of xs have P
 --   either d xs       one member has P, or all have Q, where each has one of the two
 --   in-pairs          a pair of members is a member of the pairs
+-- Not here: In, any and all (specs/Lists); tests over lists (Tests).
 use mathlib.Core.Logic.{_⊎_, inl, inr}
 use mathlib.Core.List.{List, [], _∷_, _++_, map}
 use Rattle.el.specs.Lists.{In, first, later}

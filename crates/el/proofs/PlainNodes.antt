@@ -3,7 +3,7 @@
 --   Kind al x, kind      the three kinds, and which one x is
 --   to-part-of, from-parts-of        a concept lies below a conjunction exactly if below all its parts, which are plain
 --   top-below-plain, both-below-plain, some-below-plain      what lies below a plain node, by its form
-use mathlib.Core.Path.{_≡_, refl, ap, _∙_}
+use mathlib.Core.Path.{_≡_, refl, ap}
 use mathlib.Core.Logic.{_⊎_, inl, inr, _↔_}
 use mathlib.Core.Bool.{_&&_}
 use mathlib.Core.List.{List}
@@ -15,9 +15,9 @@ use Rattle.el.specs.Derivability.{Derives, one, other}
 use Rattle.el.specs.Answers.{isPlain, isOf, isJoin}
 use Rattle.el.proofs.Lists.{Some}
 use Rattle.el.proofs.Tests.{Tells, decided, tells-as, tells-and, tells-not, tells-any, never}
-use Rattle.el.proofs.Derivations.{_▹_, Joins, Fills, to-part, from-parts, from-filler}
+use Rattle.el.proofs.Derivations.{_▹_, Joins, Fills, fills-by, to-part, from-parts, from-filler}
 use Rattle.el.proofs.CanonicalModel.{in-one, in-other, within-some}
-use Rattle.el.proofs.Terminologies.{Terminology, NotJoined, OneBelow, name-below, some-below, one-below-derives, below-not-joined}
+use Rattle.el.proofs.Terminologies.{Terminology, NotJoined, part-not-joined, OneBelow, name-below, some-below, one-below-derives, below-not-joined}
 use Rattle.el.proofs.Nodes.{tells-node}
 use Rattle.el.proofs.Classification.{tells-joins}
 
@@ -54,15 +54,15 @@ kind al (named x) = by-search (decided (tells-joined al (named x)))
     by-search (yes s) = is-joined (s .member) (s .holds .0) (s .holds .1)
     by-search (no k) = is-plain (none-joined k)
 
-module _ {al : List Axiom} {a : Axiom} {x : Node} (h : In al a) (e : named (a .left) ≡ x) where
+module _ {al : List Axiom} {a : Axiom} {x : Node} (a-in : In al a) (a-is-x : named (a .left) ≡ x) where
   pub to-part-of : {c : Concept} {z : ℕ} → In (partsOf a) z → Derives al c (conceptOf x) → Derives al c (name z)
-  to-part-of i p = rw (← e) at p ▹ to-part h i
+  to-part-of z-in p = rw (← a-is-x) at p ▹ to-part a-in z-in
 
   pub from-parts-of : {c : Concept} → Joins a → ((z : ℕ) → In (partsOf a) z → Derives al c (name z)) → Derives al c (conceptOf x)
-  from-parts-of j f = rw (← e) (from-parts h j f)
+  from-parts-of joins f = rw (← a-is-x) (from-parts a-in joins f)
 
   pub from-filler-of : {r : ℕ} {c : Concept} → Fills r a → Derives al c (conceptOf (fillerOf a)) → Derives al (some r c) (conceptOf x)
-  from-filler-of f p = rw (← e) (from-filler h f p)
+  from-filler-of fills p = rw (← a-is-x) (from-filler a-in fills p)
 
 -- ∃r.c below x by an axiom
 abbrev pub FilledBy : List Axiom → ℕ → Concept → Node → Axiom → Type 0
@@ -70,7 +70,7 @@ FilledBy al r c x a = (named (a .left) ≡ x) × (Fills r a × Derives al c (con
 
 module _ {al : List Axiom} (terms : Terminology al) where
   pub part-plain : {a : Axiom} {z : ℕ} → In al a → In (partsOf a) z → Plain al (named z)
-  part-plain h i = plain-name (record { none = λ g j e. terms .plain-parts h g j (rw e i) })
+  part-plain a-in z-in = plain-name (part-not-joined terms a-in z-in)
 
   pub top-below-plain : {x : Node} → Plain al x → ¬ Derives al top (conceptOf x)
   top-below-plain {x} (plain-name k) p = by-conjunct (below-not-joined terms k p)
@@ -97,4 +97,4 @@ module _ {al : List Axiom} (terms : Terminology al) where
           let s = within-some w in
           let role : r ≡ r′ = cc in
           let inner : c ≡ d = cc in
-          record { it = a; member = g; holds = (ap named e, (record { is-defined = f .is-defined; is-restriction = f .is-restriction; role = role ∙ f .role }, rw inner q)) }
+          record { it = a; member = g; holds = (ap named e, (fills-by role f, rw inner q)) }

@@ -27,19 +27,19 @@ Scoped n (some r c) = Scoped n c
 
 module _ {n : ℕ} {al : List Axiom} (formed : Formed n al) (terms : Terminology al) (table : Table n al) where
   tells-nodes : {x y : Node} → IsNode n x → IsNode n y → Tells (table .says x y) (Derives al (conceptOf x) (conceptOf y))
-  tells-nodes i j = record { sound = λ h. table .sound i j h; complete = λ p. table .complete i j p }
+  tells-nodes x-in y-in = record { sound = λ h. table .sound x-in y-in h; complete = λ p. table .complete x-in y-in p }
 
   tells-node-below : (d : Concept) → Scoped n d → (x : Node) → IsNode n x → Tells (nodeBelow al (table .says) x d) (Derives al (conceptOf x) d)
-  tells-node-below top o x i = always to-top
-  tells-node-below (name b) o x i = tells-nodes i (name-node o)
-  tells-node-below (both d e) o x i = tells-iff both-above (tells-and (tells-node-below d (o .0) x i) (λ _. tells-node-below e (o .1) x i))
-  tells-node-below (some r d) o x i = tells-as (λ s. linked formed table i (s .member) (s .holds .0) (s .holds .1)) (λ p. links formed table i p) (tells-any _ al (λ b h. tells-and (tells-link (table .says) x r b) (λ _. tells-node-below d o (fillerOf b) (formed .filler-in h))))
+  tells-node-below top d-in x x-in = always to-top
+  tells-node-below (name b) d-in x x-in = tells-nodes x-in (name-node d-in)
+  tells-node-below (both d e) d-in x x-in = tells-iff both-above (tells-and (tells-node-below d (d-in .0) x x-in) (λ _. tells-node-below e (d-in .1) x x-in))
+  tells-node-below (some r d) d-in x x-in = tells-as (λ s. linked formed table x-in (s .member) (s .holds .0) (s .holds .1)) (λ p. links formed table x-in p) (tells-any _ al (λ b b-in. tells-and (tells-link (table .says) x r b) (λ _. tells-node-below d d-in (fillerOf b) (formed .filler-in b-in))))
 
   -- from plain nodes to all
   tells-by-plain : {c : Concept} (p : Node → Bool) → ((y : Node) → IsNode n y → Plain al y → Tells (p y) (Derives al c (conceptOf y))) → (y : Node) → IsNode n y → Tells (byPlain al p y) (Derives al c (conceptOf y))
-  tells-by-plain {c} p tells y j = tells-as there back (tells-or (tells-node y everything) (tells-or
-      (tells-any {P = Split} _ al (λ a h. tells-and (tells-node (named (a .left)) y) (λ _. tells-and (tells-joins a) (λ _. tells-all _ (partsOf a) (λ z i. tells (named z) (part-node formed h i) (part-plain terms h i))))))
-      (tells-and (tells-plain al y) (λ k. tells y j k))))
+  tells-by-plain {c} p tells y y-in = tells-as there back (tells-or (tells-node y everything) (tells-or
+      (tells-any {P = Split} _ al (λ a a-in. tells-and (tells-node (named (a .left)) y) (λ _. tells-and (tells-joins a) (λ _. tells-all _ (partsOf a) (λ z z-in. tells (named z) (part-node formed a-in z-in) (part-plain terms a-in z-in))))))
+      (tells-and (tells-plain al y) (λ plain. tells y y-in plain))))
     where
       Split : Axiom → Type 0
       Split a = (named (a .left) ≡ y) × (Joins a × Every (partsOf a) (λ z. Derives al c (name z)))
@@ -52,27 +52,27 @@ module _ {n : ℕ} {al : List Axiom} (formed : Formed n al) (terms : Terminology
       back : Derives al c (conceptOf y) → (y ≡ everything) ⊎ (Some al Split ⊎ (Plain al y × Derives al c (conceptOf y)))
       back p = elim (kind al y) [
         | is-everything e ↦ inl e
-        | is-joined {a = a} h e joins ↦ inr (inl (record { it = a; member = h; holds = (e, (joins, record { at = λ z i. to-part-of h e i p })) }))
-        | is-plain k ↦ inr (inr (k, p))
+        | is-joined {a = a} a-in a-is-y joins ↦ inr (inl (record { it = a; member = a-in; holds = (a-is-y, (joins, record { at = λ z z-in. to-part-of a-in a-is-y z-in p })) }))
+        | is-plain plain ↦ inr (inr (plain, p))
       ]
 
   tells-below-plain : (c : Concept) → Scoped n c → (y : Node) → IsNode n y → Plain al y → Tells (belowPlain al (table .says) c y) (Derives al c (conceptOf y))
-  tells-below-plain top o y j k = never (top-below-plain terms k)
-  tells-below-plain (name b) o y j k = tells-nodes (name-node o) j
-  tells-below-plain (both c d) o y j k = tells-iff (both-below-plain terms k) (tells-or (tells-below-plain c (o .0) y j k) (tells-below-plain d (o .1) y j k))
-  tells-below-plain (some r c) o y j k = tells-iff (some-below-plain terms k) (tells-any _ al (λ a h. tells-and (tells-node (named (a .left)) y) (λ _. tells-and (tells-fills r a) (λ _. tells-by-plain (belowPlain al (table .says) c) (tells-below-plain c o) (fillerOf a) (formed .filler-in h)))))
+  tells-below-plain top c-in y y-in plain = never (top-below-plain terms plain)
+  tells-below-plain (name b) c-in y y-in plain = tells-nodes (name-node c-in) y-in
+  tells-below-plain (both c d) c-in y y-in plain = tells-iff (both-below-plain terms plain) (tells-or (tells-below-plain c (c-in .0) y y-in plain) (tells-below-plain d (c-in .1) y y-in plain))
+  tells-below-plain (some r c) c-in y y-in plain = tells-iff (some-below-plain terms plain) (tells-any _ al (λ a a-in. tells-and (tells-node (named (a .left)) y) (λ _. tells-and (tells-fills r a) (λ _. tells-by-plain (belowPlain al (table .says) c) (tells-below-plain c c-in) (fillerOf a) (formed .filler-in a-in)))))
 
   tells-below-some : (r : ℕ) (d : Concept) → Scoped n d → (p : Concept → Bool) → ((c : Concept) → Scoped n c → Tells (p c) (Derives al c d)) → (c : Concept) → Scoped n c → Tells (belowSome al (table .says) r d p c) (Derives al c (some r d))
-  tells-below-some r d q p tells top o = never (top-below-some terms)
-  tells-below-some r d q p tells (name b) o = tells-node-below (some r d) q (named b) (name-node o)
-  tells-below-some r d q p tells (both c e) o = tells-iff (both-below-some terms) (tells-or (tells-below-some r d q p tells c (o .0)) (tells-below-some r d q p tells e (o .1)))
-  tells-below-some r d q p tells (some s c) o = tells-iff (some-below-some terms) (tells-and (tells-eq s r) (λ _. tells c o))
+  tells-below-some r d d-in p tells top c-in = never (top-below-some terms)
+  tells-below-some r d d-in p tells (name b) c-in = tells-node-below (some r d) d-in (named b) (name-node c-in)
+  tells-below-some r d d-in p tells (both c e) c-in = tells-iff (both-below-some terms) (tells-or (tells-below-some r d d-in p tells c (c-in .0)) (tells-below-some r d d-in p tells e (c-in .1)))
+  tells-below-some r d d-in p tells (some s c) c-in = tells-iff (some-below-some terms) (tells-and (tells-eq s r) (λ _. tells c c-in))
 
   pub tells-below : (d : Concept) → Scoped n d → (c : Concept) → Scoped n c → Tells (belowBy al (table .says) d c) (Derives al c d)
-  tells-below top q c o = always to-top
-  tells-below (name b) q c o = tells-by-plain (belowPlain al (table .says) c) (tells-below-plain c o) (named b) (name-node q)
-  tells-below (both d e) q c o = tells-iff both-above (tells-and (tells-below d (q .0) c o) (λ _. tells-below e (q .1) c o))
-  tells-below (some r d) q c o = tells-below-some r d q (belowBy al (table .says) d) (tells-below d q) c o
+  tells-below top d-in c c-in = always to-top
+  tells-below (name b) d-in c c-in = tells-by-plain (belowPlain al (table .says) c) (tells-below-plain c c-in) (named b) (name-node d-in)
+  tells-below (both d e) d-in c c-in = tells-iff both-above (tells-and (tells-below d (d-in .0) c c-in) (λ _. tells-below e (d-in .1) c c-in))
+  tells-below (some r d) d-in c c-in = tells-below-some r d d-in (belowBy al (table .says) d) (tells-below d d-in) c c-in
 
 pub tells-included : {n : ℕ} {al : List Axiom} → Formed n al → Terminology al → (c d : Concept) → Scoped n c → Scoped n d → Tells (isIncluded n al c d) (Derives al c d)
-tells-included formed terms c d o q = tells-below formed terms (some-table formed) d q c o
+tells-included formed terms c d c-in d-in = tells-below formed terms (some-table formed) d d-in c c-in

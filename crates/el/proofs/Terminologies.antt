@@ -6,7 +6,7 @@
 --   refined-inversion     c ⊑ ∃r.d is derivable only where one conjunct of c lies below ∃r.d (OneBelowSome al c r d)
 use mathlib.Core.Path.{_≡_, refl, sym, ap, _∙_}
 use mathlib.Core.Logic.{_⊎_, inl, inr, _↔_}
-use mathlib.Core.Bool.{true, false, true≢false}
+use mathlib.Core.Bool.{true, false}
 use mathlib.Core.List.{List}
 use Prim.Native.Nat.{ℕ}
 use Rattle.el.specs.Lists.{In}
@@ -14,8 +14,8 @@ use Rattle.el.specs.Concepts.{Concept, top, name, both, some, conceptOf}
 use Rattle.el.specs.Axioms.{Axiom, rightOf, isConjunction, partsOf, roleOf, fillerOf}
 use Rattle.el.specs.Derivability.{Derives, same, to-top, one, other, meet, under, stated, defined}
 use Rattle.el.specs.Interpretations.{Interpretation, sat, Model}
-use Rattle.el.proofs.Tests.{which}
-use Rattle.el.proofs.Derivations.{_▹_, Serves, Joins, Fills, Restricts, right-conjunction, right-restriction, to-part, from-parts, to-filler, from-filler, has-part}
+use Rattle.el.proofs.Tests.{which, not-both}
+use Rattle.el.proofs.Derivations.{_▹_, Serves, Joins, Fills, Restricts, right-conjunction, right-restriction, fills-by, to-part, from-parts, to-filler, from-filler, has-part}
 use Rattle.el.proofs.Soundness.{sound}
 use Rattle.el.proofs.CanonicalModel.{Within, itself, in-one, in-other, within-derives, within-one, within-other, within-some, Edge, written, implied, edge-derives, canonical, names-hold, hold-names, within-holds, derives-holds, inversion}
 
@@ -36,12 +36,15 @@ pub data PartsBelow (al : List Axiom) (c : Concept) (x : ℕ) : Type 0 where
   each-part : {a : Axiom} → In al a → Joins a → a .left ≡ x → ((z : ℕ) → In (partsOf a) z → OneBelow al c z) → PartsBelow al c x
 
 one-of-not-joined : {al : List Axiom} {c : Concept} {x : ℕ} → PartsBelow al c x → NotJoined al x → OneBelow al c x
-one-of-not-joined (at-once o) k = o
-one-of-not-joined (each-part h j e f) k = absurd (k .none h j e)
+one-of-not-joined (at-once l) not-joined = l
+one-of-not-joined (each-part a-in joins e f) not-joined = absurd (not-joined .none a-in joins e)
 
--- a name with a restriction is not joined
+-- a name with a restriction is not joined, and by the normal form no part is
 restricted-plain : {al : List Axiom} → Terminology al → {a : Axiom} → In al a → isConjunction a ≡ false → NotJoined al (a .left)
-restricted-plain terms h k = record { none = λ hb j e. true≢false (sym (j .is-conjunction) ∙ rw (terms .one-axiom h hb (sym e)) at k) }
+restricted-plain terms a-in k = record { none = λ b-in joins e. not-both (joins .is-conjunction) (rw (terms .one-axiom a-in b-in (sym e)) at k) }
+
+pub part-not-joined : {al : List Axiom} → Terminology al → {a : Axiom} {z : ℕ} → In al a → In (partsOf a) z → NotJoined al z
+part-not-joined terms a-in z-in = record { none = λ b-in joins e. terms .plain-parts a-in b-in joins (rw e z-in) }
 
 -- the canonical model with one more point, the star, which is in the names that PartsBelow allows
 data Spot : Type 0 where
@@ -95,40 +98,42 @@ module _ (al : List Axiom) (c : Concept) where
   module _ (terms : Terminology al) where
     -- the star meets the axioms: conjunctions downwards
     part-below : {a : Axiom} {x : ℕ} → In al a → PartsBelow al c x → a .left ≡ x → (z : ℕ) → In (partsOf a) z → PartsBelow al c z
-    part-below h (at-once (name-below w p)) e z i = at-once (name-below w (p ▹ rw e at (to-part h i)))
-    part-below {a} h (at-once (some-below h′ f e′ w p)) e z i =
-        let s : isConjunction a ≡ false = rw (terms .one-axiom h′ h (cc)) at (f .is-restriction) in
-        absurd (true≢false (sym (has-part a i) ∙ s))
-    part-below h (each-part h′ j e′ f) e z i = at-once (f z (rw (terms .one-axiom h′ h (cc)) i))
+    part-below a-in (at-once (name-below w p)) e z z-in = at-once (name-below w (p ▹ rw e at (to-part a-in z-in)))
+    part-below {a} a-in (at-once (some-below b-in fills e′ w p)) e z z-in =
+        let k : isConjunction a ≡ false = rw (terms .one-axiom b-in a-in (cc)) at (fills .is-restriction) in
+        absurd (not-both (has-part a z-in) k)
+    part-below a-in (each-part b-in joins e′ f) e z z-in = at-once (f z (rw (terms .one-axiom b-in a-in (cc)) z-in))
 
     star-down : {a : Axiom} → In al a → PartsBelow al c (a .left) → sat (starred al c) star (rightOf a)
-    star-down {a} h l = elim (which (isConjunction a)) [
-      | inl k ↦ rw (right-conjunction a k) (names-hold (starred al c) star (partsOf a) (part-below h l refl))
+    star-down {a} a-in l = elim (which (isConjunction a)) [
+      | inl k ↦ rw (right-conjunction a k) (names-hold (starred al c) star (partsOf a) (part-below a-in l refl))
       | inr k ↦ (
           let d = conceptOf (fillerOf a) in
-          rw (right-restriction a k) (point d, put h (record { is-restriction = k; role = refl; filler = refl }) l, point-itself d))
+          rw (right-restriction a k) (point d, put a-in (record { is-restriction = k; role = refl; filler = refl }) l, point-itself d))
     ]
 
     -- from A ⊑ ∃r.f and f ⊑ B on to A′ ≡ ∃r.B
     on-to-filled : {a b : Axiom} {r : ℕ} {f : Concept} → In al a → Restricts a r f → In al b → Fills r b → Derives al f (conceptOf (fillerOf b)) → OneBelow al c (a .left) → OneBelow al c (b .left)
-    on-to-filled ha q hb fills p (name-below w g) = name-below w (g ▹ to-filler ha q ▹ from-filler hb fills p)
-    on-to-filled {a} ha q hb fills p (some-below {a = a′} h fills′ e w g) =
-        let s : a′ ≡ a = terms .one-axiom h ha e in
-        let to : conceptOf (fillerOf a′) ≡ _ = ap (λ (b : Axiom). conceptOf (fillerOf b)) s ∙ q .filler in
-        let role = fills′ .role ∙ ap (λ (b : Axiom). roleOf b) s ∙ q .role ∙ fills .role in
-        some-below hb (record { is-defined = fills .is-defined; is-restriction = fills .is-restriction; role = role }) refl w (rw to at g ▹ p)
+    on-to-filled a-in restricts b-in fills p (name-below w g) = name-below w (g ▹ to-filler a-in restricts ▹ from-filler b-in fills p)
+    on-to-filled {a} {f = f} a-in restricts b-in fills p (some-below {a = a′} a′-in fills′ e w g) =
+        let same-axiom : a′ ≡ a = terms .one-axiom a′-in a-in e in
+        let filler : conceptOf (fillerOf a′) ≡ f = ap (λ (b : Axiom). conceptOf (fillerOf b)) same-axiom ∙ restricts .filler in
+        let role = fills′ .role ∙ ap (λ (b : Axiom). roleOf b) same-axiom ∙ restricts .role in
+        some-below b-in (fills-by role fills) refl w (rw filler at g ▹ p)
 
     filled-up : {a : Axiom} → In al a → Fills (roleOf a) a → (y : Spot) → spotEdge al c (roleOf a) star y → sat (starred al c) y (conceptOf (fillerOf a)) → OneBelow al c (a .left)
-    filled-up h fills star g s = absurd g
-    filled-up h fills (point f) (own w) s = some-below h fills refl w (point-derives f _ s)
-    filled-up h fills (point f) (put h′ q l) s = on-to-filled h′ q h fills (point-derives f _ s) (one-of-not-joined l (restricted-plain terms h′ (q .is-restriction)))
+    filled-up a-in fills star g s = absurd g
+    filled-up a-in fills (point f) (own w) s = some-below a-in fills refl w (point-derives f _ s)
+    filled-up a-in fills (point f) (put b-in restricts l) s = on-to-filled b-in restricts a-in fills (point-derives f _ s) (one-of-not-joined l (restricted-plain terms b-in (restricts .is-restriction)))
 
     star-up : {a : Axiom} → In al a → a .defined ≡ true → sat (starred al c) star (rightOf a) → PartsBelow al c (a .left)
-    star-up {a} h d s = elim (which (isConjunction a)) [
-      | inl k ↦ each-part h (record { is-defined = d; is-conjunction = k }) refl (λ z i. one-of-not-joined (hold-names (starred al c) star (partsOf a) (rw (right-conjunction a k) at s) z i) (record { none = λ hb j e. terms .plain-parts h hb j (rw e i) }))
+    star-up {a} a-in d s = elim (which (isConjunction a)) [
+      | inl k ↦ (
+          let parts = hold-names (starred al c) star (partsOf a) (rw (right-conjunction a k) at s) in
+          each-part a-in (record { is-defined = d; is-conjunction = k }) refl (λ z z-in. one-of-not-joined (parts z z-in) (part-not-joined terms a-in z-in)))
       | inr k ↦ (
-          let s′ : sat (starred al c) star (some (roleOf a) (conceptOf (fillerOf a))) = rw (right-restriction a k) at s in
-          at-once (filled-up h (record { is-defined = d; is-restriction = k; role = refl }) (s′ .0) (s′ .1) (s′ .2)))
+          let t : sat (starred al c) star (some (roleOf a) (conceptOf (fillerOf a))) = rw (right-restriction a k) at s in
+          at-once (filled-up a-in (record { is-defined = d; is-restriction = k; role = refl }) (t .0) (t .1) (t .2)))
     ]
 
     starred-model : Model al (starred al c)
@@ -149,16 +154,16 @@ pub below-name : {al : List Axiom} → Terminology al → {c : Concept} {x : ℕ
 below-name {al} terms {c} p = star-below al c terms p
 
 pub below-not-joined : {al : List Axiom} → Terminology al → {c : Concept} {x : ℕ} → NotJoined al x → Derives al c (name x) → OneBelow al c x
-below-not-joined terms k p = one-of-not-joined (below-name terms p) k
+below-not-joined terms not-joined p = one-of-not-joined (below-name terms p) not-joined
 
 -- and the converse
 pub one-below-derives : {al : List Axiom} {c : Concept} {x : ℕ} → OneBelow al c x → Derives al c (name x)
 one-below-derives (name-below w p) = within-derives w ▹ p
-one-below-derives (some-below h fills e w p) = within-derives w ▹ rw e at (from-filler h fills p)
+one-below-derives (some-below a-in fills e w p) = within-derives w ▹ rw e at (from-filler a-in fills p)
 
 pub parts-below-derives : {al : List Axiom} {c : Concept} {x : ℕ} → PartsBelow al c x → Derives al c (name x)
-parts-below-derives (at-once o) = one-below-derives o
-parts-below-derives (each-part h j e f) = rw e at (from-parts h j (λ z i. one-below-derives (f z i)))
+parts-below-derives (at-once l) = one-below-derives l
+parts-below-derives (each-part a-in joins e f) = rw e at (from-parts a-in joins (λ z z-in. one-below-derives (f z z-in)))
 
 -- ∃r.d by one conjunct of c
 pub data OneBelowSome (al : List Axiom) (c : Concept) (r : ℕ) (d : Concept) : Type 0 where
@@ -171,16 +176,16 @@ one-below-some-derives (by-some w p) = within-derives w ▹ under p
 
 module _ {al : List Axiom} (terms : Terminology al) where
   some-of-one : {a : Axiom} {c : Concept} {r : ℕ} {e d : Concept} → In al a → Restricts a r e → Derives al e d → OneBelow al c (a .left) → OneBelowSome al c r d
-  some-of-one h q p (name-below w g) = by-name w (g ▹ to-filler h q ▹ under p)
-  some-of-one {a} {r = r} {e = e} h q p (some-below {a = a′} {r = r′} h′ fills l w g) =
-      let s : a′ ≡ a = terms .one-axiom h′ h l in
-      let to : conceptOf (fillerOf a′) ≡ e = ap (λ (b : Axiom). conceptOf (fillerOf b)) s ∙ q .filler in
-      let role : r′ ≡ r = fills .role ∙ ap (λ (b : Axiom). roleOf b) s ∙ q .role in
-      by-some (rw role at w) (rw to at g ▹ p)
+  some-of-one a-in restricts p (name-below w g) = by-name w (g ▹ to-filler a-in restricts ▹ under p)
+  some-of-one {a} {r = r} {e = e} a-in restricts p (some-below {a = a′} {r = r′} a′-in fills l w g) =
+      let same-axiom : a′ ≡ a = terms .one-axiom a′-in a-in l in
+      let filler : conceptOf (fillerOf a′) ≡ e = ap (λ (b : Axiom). conceptOf (fillerOf b)) same-axiom ∙ restricts .filler in
+      let role : r′ ≡ r = fills .role ∙ ap (λ (b : Axiom). roleOf b) same-axiom ∙ restricts .role in
+      by-some (rw role at w) (rw filler at g ▹ p)
 
   some-of-edge : {c : Concept} {r : ℕ} {e d : Concept} → Edge al r c e → Derives al e d → OneBelowSome al c r d
   some-of-edge (written w) p = by-some w p
-  some-of-edge {c} (implied h q g) p = some-of-one h q p (below-not-joined terms (restricted-plain terms h (q .is-restriction)) g)
+  some-of-edge {c} (implied a-in restricts g) p = some-of-one a-in restricts p (below-not-joined terms (restricted-plain terms a-in (restricts .is-restriction)) g)
 
   pub refined-inversion : {c : Concept} {r : ℕ} {d : Concept} → Derives al c (some r d) → OneBelowSome al c r d
   refined-inversion p = let s = inversion p in some-of-edge (s .by-edge) (s .then)

@@ -88,6 +88,7 @@ isJoin a = a .defined && isConjunction a
 abbrev pub isFill : ℕ → Axiom → Bool
 isFill r a = a .defined && (not (isConjunction a) && serves r (roleOf a))
 
+-- the axiom a is y's
 abbrev pub isOf : Node → Axiom → Bool
 isOf y a = sameNode (named (a .left)) y
 
@@ -119,6 +120,7 @@ abbrev pub isPlainColumn : List Axiom → Column → Bool
 isPlainColumn al nothing = true
 isPlainColumn al (node y) = isPlain al y
 
+-- the name b is below the column
 abbrev pub nameUnder : Test Node Node → ℕ → Column → Bool
 nameUnder m b nothing = false
 nameUnder m b (node y) = m (named b) y
@@ -139,6 +141,7 @@ backward n sig t u in-t in-u f x y =
     || (isPlain t x && (any (λ b. sig .has-name b && (in-t (named b) x && not (nameUnder in-u b y))) (below n)
     || any (λ a. isOf x a && (isFill (roleOf a) a && (sig .has-role (roleOf a) && f (fillerOf a) (partner u (roleOf a) y)))) t)))))
 
+-- the marks of a comparison, in-t and in-u the marked inclusions
 abbrev pub forwardMarks : ℕ → Signature → List Axiom → List Axiom → List (Node × Node) → List (Node × Node) → List (Node × Node)
 forwardMarks n sig t u in-t in-u = marks sameNode sameNode (nodes n) (nodes n) (forward n sig t u (marked sameNode sameNode in-t) (marked sameNode sameNode in-u))
 
@@ -187,7 +190,7 @@ belowSome al m r d p (name b) = nodeBelow al m (named b) (some r d)
 belowSome al m r d p (both c e) = belowSome al m r d p c || belowSome al m r d p e
 belowSome al m r d p (some q c) = serves q r && p c
 
--- any concept below any other
+-- c below d, for any two
 abbrev pub belowBy : List Axiom → Test Node Node → Concept → Concept → Bool
 belowBy al m top c = true
 belowBy al m (name b) c = byPlain al (belowPlain al m c) (named b)
