@@ -10,3 +10,4 @@ pub mod Decoding
 pub mod NormalForm
 pub mod Checks
 pub mod Linked
+pub mod Places

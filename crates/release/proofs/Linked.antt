@@ -54,7 +54,7 @@ module _ (s : List ℕ) (ok : fault s ≡ 0) where
       by-test true h = absurd (omega arith)
       by-test false h = refl
 
-  sound-at : {q : ℕ} → Stands (countOf s) s header q → Sound (namesOf s) (rolesOf s) 0 s q
+  pub sound-at : {q : ℕ} → Stands (countOf s) s header q → Sound (namesOf s) (rolesOf s) 0 s q
   sound-at {q} i = stands-sound (namesOf s) (rolesOf s) (countOf s) 0 s header q no-axiom-fault i .0
 
 -- an axiom's form, by its bytes
@@ -90,7 +90,7 @@ kind-is (suc (suc (suc (suc zero)))) e = refl
 kind-is (suc (suc (suc (suc (suc k))))) (inl e) = absurd (true≢false (sym e ∙ no-kind (suc (suc (suc (suc (suc k))))) (inr (omega arith)) .0))
 kind-is (suc (suc (suc (suc (suc k))))) (inr e) = absurd (true≢false (sym e ∙ no-kind (suc (suc (suc (suc (suc k))))) (inr (omega arith)) .1))
 
-tail-kind : {n m kind : ℕ} {s : List ℕ} {p : ℕ} → Tail n m kind s p → (joins kind ≡ true) ⊎ (restricts kind ≡ true)
+pub tail-kind : {n m kind : ℕ} {s : List ℕ} {p : ℕ} → Tail n m kind s p → (joins kind ≡ true) ⊎ (restricts kind ≡ true)
 tail-kind (joined e j) = inl e
 tail-kind (restricted e f r) = inr f
 
@@ -169,7 +169,7 @@ module _ (s : List ℕ) (ok : fault s ≡ 0) where
   }
 
   -- left names rise, so a name has one axiom at most
-  rises : (c least p j : ℕ) → axiomsFault (namesOf s) (rolesOf s) (suc c) least s p ≡ 0 → Stands c s (p + axiomLength s p) j → getD s p 0 < getD s j 0
+  pub rises : (c least p j : ℕ) → axiomsFault (namesOf s) (rolesOf s) (suc c) least s p ≡ 0 → Stands c s (p + axiomLength s p) j → getD s p 0 < getD s j 0
   unfolding axiomsFault
   rises c least p j h k = stands-sound (namesOf s) (rolesOf s) c (suc (getD s p 0)) s (p + axiomLength s p) j (both-none (axiomFault (namesOf s) (rolesOf s) least s p) _ h .1) k .1
 

@@ -2,3 +2,4 @@
 pub mod Files
 pub mod Readings
 pub mod Tables
+pub mod Shown

@@ -7,7 +7,7 @@ use crate::table::kind;
 use crate::table::part;
 
 // Whether a name's axiom is a conjunction.
-fn is_conjunction(table: &[u16], x: usize) -> bool
+pub fn is_conjunction(table: &[u16], x: usize) -> bool
     requires { ⌜ HasRow (now table) x ⌝ }
     ensures { λ r. ⌜ r ≡ joins (kindAt (now (table .entry)) x) ⌝ }
 {

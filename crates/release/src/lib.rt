@@ -11,6 +11,7 @@ use crate::table::read_axioms;
 mod axiom;
 mod conjuncts;
 mod header;
+pub mod show;
 pub mod table;
 
 // A concept name's number and a role name's: two types, so that neither can be passed for the other.
