@@ -1,0 +1,3 @@
+-- Laws of squares and passes.
+pub mod Squares
+pub mod Passes
