@@ -16,8 +16,8 @@ pub fn judge(case: &[u8]) -> Verdict {
     let side = value(case, 2);
     let name = value(case, 3);
     let part = field(case, 6);
-    let shown = release::show_axiom(first, second, side, ConceptName(name));
-    let place = release::axiom_place(first, second, side, ConceptName(name));
+    let shown = release::show::show_axiom(first, second, side, ConceptName(name));
+    let place = release::show::axiom_place(first, second, side, ConceptName(name));
     same_bytes(shown, part)
         .and(same(What::File, wide(place.side), value(case, 4)))
         .and(same(What::Start, place.start, value(case, 5)))

@@ -12,7 +12,8 @@ use lib.Seq.{set-out, length-take-le}
 use Rattle.el.specs.Lists.{pick, all}
 use Rattle.signature.specs.declared.Signature.{Signature}
 use Rattle.signature.specs.Bytes.{isBit, signatureFault}
-use Rattle.signature.specs.Building.{mostNames, mostRoles, mostBytes, lesser, emptySignature}
+use Rattle.release.specs.Files.{mostNames, mostRoles}
+use Rattle.signature.specs.Building.{mostBytes, lesser, emptySignature}
 use Rattle.signature.specs.Building.{chosen, withName, withRole, Built, lent}
 
 -- past the bytes a store changes nothing

@@ -12,17 +12,11 @@ use lib.Dec.{ltb, leb}
 use lib.ListN.{length, getD, take, set, replicate}
 use Rattle.el.specs.Lists.{pick, all}
 use Rattle.el.specs.Signatures as el
+use Rattle.release.specs.Files.{mostNames, mostRoles}
 use Rattle.signature.specs.Bytes.{isBit, signatureOf}
 use Rattle.signature.specs.declared.Signature.{Signature}
 
--- the limits of n and m
-abbrev pub mostNames : ℕ
-mostNames = 127
-
-abbrev pub mostRoles : ℕ
-mostRoles = 32
-
--- how many bytes a built signature holds
+-- how many bytes a built signature holds: as many as the limits of n and m
 abbrev pub mostBytes : ℕ
 mostBytes = mostNames + mostRoles
 

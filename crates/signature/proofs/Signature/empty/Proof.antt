@@ -2,7 +2,8 @@
 -- Not here: that the empty signature can be lent (Built).
 use native.Mathlib.Omega.{arith}
 use Rattle.signature.proofs.Built.{lesser-small}
-use Rattle.signature.specs.Building.{mostNames, mostRoles, emptySignature}
+use Rattle.release.specs.Files.{mostNames, mostRoles}
+use Rattle.signature.specs.Building.{emptySignature}
 use borrow.Author.Needs.{needs}
 use Rattle.signature.proofs.Signature.empty.Statement.{statement}
 use Rattle.signature.proofs.Signature.empty.Tie as tie
