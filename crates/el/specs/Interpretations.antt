@@ -1,5 +1,5 @@
--- Interpretations, and the entailment of Konev, Walther and Wolter ("Forgetting and uniform interpolation ..", "The logical
--- difference ..").
+-- Interpretations, and entailment as Konev, Walther and Wolter define it for terminologies ("The logical difference problem
+-- for description logic terminologies").
 --   Interpretation     points, the names that each is in, the points that it reaches by a role
 --   sat i x c          the point x of i is in the concept c
 --   Model al i         i satisfies the axioms al

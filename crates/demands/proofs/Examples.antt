@@ -1,0 +1,58 @@
+-- P1 to P10: tested all at once by computing, and so true of the definitions.
+use mathlib.Core.Path.{_≡_, refl, ap₂}
+use mathlib.Core.Bool.{true, false≢true}
+use mathlib.Core.List.{List, [], _∷_}
+use Prim.Native.Nat.{ℕ}
+use lib.Dec.{eqb}
+use borrow.Author.Tests.{eqb-true}
+use Rattle.el.specs.Lists.{pick, all}
+use Rattle.el.specs.Answers.{comparisonBytes, isIncluded}
+use Rattle.el.proofs.Lists.{Every}
+use Rattle.el.proofs.Tests.{tells-all, tells-true, and-left, and-right}
+use Rattle.release.specs.Files.{namesOf, rolesOf, axiomsOf, fault, headerFault, partsFault, conjunctionFault, restrictionFault, tailFault, axiomFault, axiomAt, axiomsFault, axiomsFrom, conjunctDefined}
+use Rattle.signature.specs.Bytes.{signatureFault}
+use Rattle.concept.specs.Bytes.{conceptOk}
+use Rattle.demands.specs.Inputs.{chosen, Accepted, AcceptedQuestion, conceptOf}
+use Rattle.demands.specs.Examples.{Example, compared, asked, Holds, sameBytes, passes, examples}
+use Rattle.demands.proofs.Files.{comparison-bytes, question-answer}
+
+same-bytes : (xs ys : List ℕ) → sameBytes xs ys ≡ true → xs ≡ ys
+same-bytes [] [] h = refl
+same-bytes [] (y ∷ ys) h = absurd (false≢true h)
+same-bytes (x ∷ xs) [] h = absurd (false≢true h)
+same-bytes (x ∷ xs) (y ∷ ys) h = ap₂ _∷_ (eqb-true x y (and-left (eqb x y) _ h)) (same-bytes xs ys (and-right (eqb x y) _ h))
+
+-- an example that passes holds
+pub passes-holds : (e : Example) → passes e ≡ true → Holds e
+passes-holds (compared s t g r) h =
+    let a = and-right (eqb (fault s) 0) _ h in
+    let b = and-right (eqb (fault t) 0) _ a in
+    let c = and-right (eqb (namesOf s) (namesOf t)) _ b in
+    let d = and-right (eqb (rolesOf s) (rolesOf t)) _ c in
+    let given : Accepted s t g = record {
+      first = eqb-true (fault s) 0 (and-left (eqb (fault s) 0) _ h);
+      second = eqb-true (fault t) 0 (and-left (eqb (fault t) 0) _ a);
+      names = eqb-true (namesOf s) (namesOf t) (and-left (eqb (namesOf s) (namesOf t)) _ b);
+      roles = eqb-true (rolesOf s) (rolesOf t) (and-left (eqb (rolesOf s) (rolesOf t)) _ c);
+      signature = eqb-true (signatureFault (namesOf s) (rolesOf s) g) 0 (and-left (eqb (signatureFault (namesOf s) (rolesOf s) g) 0) _ d);
+    } in
+    let e = same-bytes (comparisonBytes (namesOf s) (chosen s g) (axiomsOf s) (axiomsOf t)) r (and-right (eqb (signatureFault (namesOf s) (rolesOf s) g) 0) _ d) in
+    record { accepted = given; bytes = rw e at (comparison-bytes given) }
+passes-holds (asked s c d v) h =
+    let a = and-right (eqb (fault s) 0) _ h in
+    let b = and-right (conceptOk (namesOf s) (rolesOf s) c) _ a in
+    let given : AcceptedQuestion s c d = record {
+      release = eqb-true (fault s) 0 (and-left (eqb (fault s) 0) _ h);
+      below = and-left (conceptOk (namesOf s) (rolesOf s) c) _ a;
+      above = and-left (conceptOk (namesOf s) (rolesOf s) d) _ b;
+    } in
+    let e = eqb-true (pick (isIncluded (namesOf s) (axiomsOf s) (conceptOf s c) (conceptOf s d)) 1 0) v (and-right (conceptOk (namesOf s) (rolesOf s) d) _ b) in
+    record { accepted = given; answer = rw e at (question-answer given) }
+
+all-pass : all passes examples ≡ true
+unfolding fault headerFault partsFault conjunctionFault restrictionFault tailFault axiomFault axiomAt axiomsFault axiomsFrom conjunctDefined signatureFault conceptOk
+all-pass = refl
+
+-- P1 to P10
+pub examples-hold : Every examples Holds
+examples-hold = record { at = λ e i. passes-holds e (tells-all passes examples (λ e _. tells-true (passes e)) .sound all-pass .at e i) }

@@ -1,0 +1,3 @@
+-- Theorems about files.
+pub mod Files
+pub mod Examples

@@ -1,0 +1,3 @@
+-- What is demanded of files. To be read in this order.
+pub mod Inputs
+pub mod Examples
