@@ -1,0 +1,19 @@
+use Rattle.classification.proofs.Meaning.{setting, classified}
+use borrow.Author.Needs.{needs}
+use Rattle.classification.proofs.classify.Statement.{statement}
+use Rattle.classification.proofs.classify.Tie as tie
+use Rattle.classification.proofs.classify.Reads as reads
+use Rattle.classification.proofs.classify.Lts as lts
+use Rattle.classification.proofs.sweep.close.Reads as close-reads
+
+close-requires : tie.Need-close-requires
+close-requires c κs = setting (c .before .before .before .before .pre)
+
+same-length : tie.Need-same-length
+same-length c = search needs
+
+returns : tie.Need-returns
+returns c = classified (c .before .before .before .before .before .before .before .pre) (c .before .before .close .ensures)
+
+pub classify-spec : {M : Type 1} → statement M
+classify-spec = tie.close (tie.spec close-requires same-length returns)
