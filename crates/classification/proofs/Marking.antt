@@ -17,7 +17,7 @@ use Rattle.marks.specs.Squares.{Room, Marked, Put}
 use Rattle.marks.specs.Passes.{Grows, Pass, Below, Due}
 use Rattle.marks.proofs.Squares.{refuted}
 use Rattle.marks.proofs.Passes.{room-stays, marks-stay, below-end, pass-none, pass-as, pass-with, pass-changed, pass-unchanged, put-pass, due-as}
-use Rattle.classification.specs.Steps.{PartMarked, Gathers, Fills, Step, to-itself, to-top, to-part, to-gathered, to-filled, Filled, Spread, Looked, Seeded, Seeds, Row, Setting, InRow, Source, Pair}
+use Rattle.classification.specs.Steps.{PartMarked, Gathers, Fills, Step, to-itself, to-top, to-part, to-gathered, to-filled, Filled, Spread, Looked, Seeded, Seeds, Row, Setting, InRow, Source, Pair, Hint}
 
 not-both : {A : Type 0} (k : ℕ) → joins k ≡ true → restricts k ≡ true → A
 not-both k j r = absurd (false≢true (sym (restricts-not-joins k r) ∙ j))
@@ -32,6 +32,12 @@ module _ {s t : List ℕ} {q : Square} where
 
   pub source-stays : {w v : List ℕ} {x b : ℕ} → Grows (Step s t q) q w v → Source s t q w x b → Source s t q v x b
   source-stays g h = record { in-row = record { setting = setting-stays g (h .in-row .setting); row = h .in-row .row; name = h .in-row .name }; marked = marks-stay g (h .marked) }
+
+pub hint : {s t : List ℕ} {q : Square} {w : List ℕ} → Setting s t q w → Hint t q w
+hint h = record { rows = h .shaped .rows; room = h .room }
+
+pub hint-row : {t : List ℕ} {q : Square} {w : List ℕ} {b : ℕ} → Hint t q w → b < q .names → HasRow t b
+hint-row h l = record { row = omega (arith, h .rows) }
 
 module _ {s t : List ℕ} {q : Square} {w : List ℕ} {x b : ℕ} (h : InRow s t q w x b) where
   pub name-row : HasRow t b

@@ -84,3 +84,8 @@ pub record Pair (t : List ℕ) (q : Square) (w : List ℕ) (x b y : ℕ) : Type 
   pub left : b < q .names
   pub is-restriction : restricts (kindAt t b) ≡ true
   pub right : y < q .names
+
+-- what a search asks that is only a hint
+pub record Hint (t : List ℕ) (q : Square) (w : List ℕ) : Type 0 where
+  pub rows : 4 * q .names ≤ length t
+  pub room : Room q w

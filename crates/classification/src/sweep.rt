@@ -39,7 +39,7 @@ fn look_at_names(file: &[u8], table: &[u16], work: &mut [u8], square: Square, x:
 }
 
 // One pass over row x. Whether a mark is new.
-pub fn row(file: &[u8], table: &[u16], work: &mut [u8], square: Square, x: usize) -> bool
+fn row_pass(file: &[u8], table: &[u16], work: &mut [u8], square: Square, x: usize) -> bool
     requires { ⌜ Setting (now file) (now table) square (now work) ⌝ }
     requires { ⌜ x ≤ square .names ⌝ }
     ensures { λ r. ⌜ Pass (Step (now (file .entry)) (now (table .entry)) square) square (Row (now (file .entry)) (now (table .entry)) square x) (now (work .entry)) (now (work .exit)) r ⌝ }
@@ -51,7 +51,20 @@ pub fn row(file: &[u8], table: &[u16], work: &mut [u8], square: Square, x: usize
     changed
 }
 
-// One pass over all rows. Whether a mark is new.
+// Passes over row x until nothing is left to mark in it. Whether a mark is new.
+pub fn row(file: &[u8], table: &[u16], work: &mut [u8], square: Square, x: usize) -> bool
+    requires { ⌜ Setting (now file) (now table) square (now work) ⌝ }
+    requires { ⌜ x ≤ square .names ⌝ }
+    ensures { λ r. ⌜ Pass (Step (now (file .entry)) (now (table .entry)) square) square (Row (now (file .entry)) (now (table .entry)) square x) (now (work .entry)) (now (work .exit)) r ⌝ }
+{
+    let mut changed = false;
+    while row_pass(file, table, work, square, x) {
+        changed = true;
+    }
+    changed
+}
+
+// Passes over all rows, one after the other. Whether a mark is new.
 fn rows(file: &[u8], table: &[u16], work: &mut [u8], square: Square) -> bool
     requires { ⌜ Setting (now file) (now table) square (now work) ⌝ }
     ensures { λ r. ⌜ Pass (Step (now (file .entry)) (now (table .entry)) square) square (Below (Row (now (file .entry)) (now (table .entry)) square) (suc (square .names))) (now (work .entry)) (now (work .exit)) r ⌝ }
