@@ -10,6 +10,7 @@ use Rattle.classification.proofs.rules.is_restriction.Reads as is-restr
 use Rattle.marks.proofs.is_marked.Reads as is-marked-reads
 use Rattle.release.proofs.table.filler.Reads as filler-reads
 
+-- a search whose answer is only a hint: nothing but bounds
 abbrev Inv-loop : tie.InvT-loop
 Inv-loop table work square x z next₀ next = next ≤ square .names
 

@@ -15,6 +15,7 @@ use Rattle.classification.proofs.order.take.Reads as take-reads
 use Rattle.classification.proofs.order.wake.Reads as wake-reads
 use Rattle.classification.proofs.sweep.row.Reads as row-reads
 
+-- marks put by the rules; of what is left nothing is said
 abbrev Inv-loop : tie.InvT-loop
 Inv-loop file table work₀ waiting₀ square changed₀ next₀ work waiting changed next = (next ≤ suc (square .names)) × (length work ≡ length work₀) × (length waiting ≡ length waiting₀) × Pass (Step file table square) square Anything work₀ work changed
 

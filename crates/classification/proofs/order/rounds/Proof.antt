@@ -11,6 +11,7 @@ use Rattle.classification.proofs.order.rounds.Reads as reads
 use Rattle.classification.proofs.order.rounds.Lts as lts
 use Rattle.classification.proofs.order.round.Reads as round-reads
 
+-- marks put by the rules; each round leaves fewer bytes that are no mark
 abbrev Inv-loop : tie.InvT-loop
 Inv-loop file table work₀ waiting₀ square work waiting = (length work ≡ length work₀) × (length waiting ≡ length waiting₀) × Grows (Step file table square) square work₀ work
 

@@ -8,6 +8,7 @@ use Rattle.classification.proofs.order.wake.Reads as reads
 use Rattle.classification.proofs.order.wake.Lts as lts
 use Rattle.classification.proofs.order.depends.Reads as depends-reads
 
+-- flags that are only hints: nothing but bounds
 abbrev Inv-loop : tie.InvT-loop
 Inv-loop table work waiting₀ square z next₀ waiting next = (next ≤ length waiting) × (length waiting ≡ length waiting₀)
 

@@ -11,47 +11,36 @@ use Rattle.release.proofs.table.filler.Reads as filler-reads
 use Rattle.release.proofs.table.kind.Reads as kind-reads
 use Rattle.release.proofs.table.role.Reads as role-reads
 
--- src/rules.rt:64:8
 is-marked-requires : tie.Need-is-marked-requires
 is-marked-requires c κs = search needs
 
--- src/rules.rt:65:9
 returns : tie.Need-returns
 returns c = due-there (c .before .is-marked .ensures .sound (c .if1 .taken))
 
--- src/rules.rt:67:8
 kind-requires : tie.Need-kind-requires
 kind-requires c κs = search needs
 
--- src/rules.rt:68:9
 returns-2 : tie.Need-returns-2
 returns-2 c = due-not (λ f. c .if2 .taken (c .before .kind .ensures ∙ f .kind))
 
--- src/rules.rt:70:9
 role-requires : tie.Need-role-requires
 role-requires c κs = search needs
 
--- src/rules.rt:71:16
 role-requires-2 : tie.Need-role-requires-2
 role-requires-2 c κs = search needs
 
--- src/rules.rt:72:9
 returns-3 : tie.Need-returns-3
 returns-3 c = due-not (λ f. c .if3 .taken (c .before .before .role .ensures ∙ (f .role ∙ sym (c .before .role2 .ensures))))
 
--- src/rules.rt:74:9
 filler-requires : tie.Need-filler-requires
 filler-requires c κs = search needs
 
--- src/rules.rt:75:9
 filler-requires-2 : tie.Need-filler-requires-2
 filler-requires-2 c κs = search needs
 
--- src/rules.rt:76:5
 is-marked-requires-2 : tie.Need-is-marked-requires-2
 is-marked-requires-2 c κs = (c .before .before .before .before .before .before .before .before .before .before .before .pre .room, fillers-small (c .before .before .before .before .before .before .before .before .before .before .before .pre) (c .before .before .before .before .before .before .kind .ensures) (c .before .before .before .before .before .if2 .left) (c .before .filler .ensures) (c .filler2 .ensures))
 
--- src/rules.rt:60:1
 returns-4 : tie.Need-returns-4
 returns-4 c = due-fill (c .before .before .before .before .before .before .before .kind .ensures) (c .before .before .before .before .before .before .if2 .left) (c .before .before .before .before .before .role .ensures) (c .before .before .before .before .role2 .ensures) (c .before .before .before .if3 .left) (c .before .before .filler .ensures) (c .before .filler2 .ensures) (c .is-marked2 .ensures)
 

@@ -20,53 +20,43 @@ use Rattle.release.proofs.table.count.Reads as count-reads
 use Rattle.release.proofs.table.kind.Reads as kind-reads
 use Rattle.release.proofs.table.part.Reads as part-reads
 
+-- the conjuncts before i are marked
 abbrev Inv-loop : tie.InvT-loop
 Inv-loop file table work square x y count i₀ i = (i ≤ count) × Below (PartMarked file table square x y) i work
 
 abbrev μ-loop : tie.MeasureT-loop
 μ-loop file table work square x y count i₀ i = count - i
 
--- src/rules.rt:118:8
 kind-requires : tie.Need-kind-requires Inv-loop μ-loop
 kind-requires c κs = name-row (c .before .before .before .pre)
 
--- src/rules.rt:119:9
 returns : tie.Need-returns Inv-loop μ-loop
 returns c = never (λ g. c .if1 .taken (c .before .kind .ensures ∙ g .kind))
 
--- src/rules.rt:121:9
 count-requires : tie.Need-count-requires Inv-loop μ-loop
 count-requires c κs = has-count _ _ _ _ (conjunctive (c .before .before .before .before .before .pre) (joined (c .before .kind .ensures) (c .if1 .left)))
 
--- src/rules.rt:123:5
 loop-holds : tie.Need-loop-holds Inv-loop μ-loop
 loop-holds c = (search needs, below-none)
 
--- src/rules.rt:124:13
 part-requires : tie.Need-part-requires Inv-loop μ-loop
 part-requires c κs = has-part _ _ _ _ (conjunctive (c .before .before .before .before .before .before .before .before .pre) (joined (c .before .before .before .before .kind .ensures) (c .before .before .before .if1 .left))) _ (omega (arith, c .loop-test .taken, c .before .before .count .ensures))
 
--- src/rules.rt:125:12
 is-marked-requires : tie.Need-is-marked-requires Inv-loop μ-loop
 is-marked-requires c κs = (c .before .before .before .before .before .before .before .before .before .pre .setting .room, (c .before .before .before .before .before .before .before .before .before .pre .row, part-small (c .before .before .before .before .before .before .before .before .before .pre) (joined (c .before .before .before .before .before .kind .ensures) (c .before .before .before .before .if1 .left)) (omega (arith, c .before .loop-test .taken, c .before .before .before .count .ensures)) (c .part .ensures)))
 
--- src/rules.rt:126:13
 add-i : tie.Need-add-i Inv-loop μ-loop
 add-i c = search needs
 
--- src/rules.rt:123:5
 loop-less : tie.Need-loop-less Inv-loop μ-loop
 loop-less c = search needs
 
--- src/rules.rt:123:5
 loop-again : tie.Need-loop-again Inv-loop μ-loop
 loop-again c = (search needs, below-more (c .before .before .before .before .loop .inv .1) (part-marked (c .before .before .part .ensures) (c .before .is-marked .ensures) (c .if2 .taken)))
 
--- src/rules.rt:128:13
 returns-2 : tie.Need-returns-2 Inv-loop μ-loop
 returns-2 c = not-gathers (c .before .before .part .ensures) (omega (arith, c .before .before .before .loop-test .taken, c .before .before .before .before .before .count .ensures)) (c .before .is-marked .ensures) (c .if2 .left)
 
--- src/rules.rt:114:1
 returns-3 : tie.Need-returns-3 Inv-loop μ-loop
 returns-3 c = gathers-all (c .before .before .before .before .kind .ensures) (c .before .before .before .if1 .left) (c .before .before .count .ensures) (c .loop-test .left) (c .before .loop .inv .1)
 

@@ -7,15 +7,12 @@ use Rattle.classification.proofs.rules.is_conjunction.Reads as reads
 use Rattle.classification.proofs.rules.is_conjunction.Lts as lts
 use Rattle.release.proofs.table.kind.Reads as kind-reads
 
--- src/rules.rt:20:9
 kind-requires : tie.Need-kind-requires
 kind-requires c κs = search needs
 
--- src/rules.rt:22:9
 returns : tie.Need-returns
 returns c = rw (← c .before .kind .ensures, eq-eqb _ _ (c .if1 .taken))
 
--- src/rules.rt:16:1
 returns-2 : tie.Need-returns-2
 returns-2 c = rw (← c .before .kind .ensures, ne-eqb _ _ (c .if1 .left))
 

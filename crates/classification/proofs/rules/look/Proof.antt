@@ -10,43 +10,33 @@ use Rattle.classification.proofs.rules.spread.Reads as spread-reads
 use Rattle.marks.proofs.is_marked.Reads as is-marked-reads
 use Rattle.marks.proofs.mark.Reads as mark-reads
 
--- src/rules.rt:139:8
 is-marked-requires : tie.Need-is-marked-requires
 is-marked-requires c κs = search needs
 
--- src/rules.rt:140:9
 spread-requires : tie.Need-spread-requires
 spread-requires c κs = record { in-row = c .before .before .before .before .before .before .before .pre; marked = c .before .before .is-marked .ensures .sound (c .before .if1 .taken) }
 
--- src/rules.rt:140:9
 same-length : tie.Need-same-length
 same-length c = search needs
 
--- src/rules.rt:140:9
 returns : tie.Need-returns
 returns c = looked-marked (c .before .before .before .before .before .is-marked .ensures .sound (c .before .before .before .before .if1 .taken)) (c .before .before .spread .ensures)
 
--- src/rules.rt:142:8
 gathers-requires : tie.Need-gathers-requires
 gathers-requires c κs = search needs
 
--- src/rules.rt:143:9
 mark-requires : tie.Need-mark-requires
 mark-requires c κs = search needs
 
--- src/rules.rt:143:9
 same-length-2 : tie.Need-same-length-2
 same-length-2 c = search needs
 
--- src/rules.rt:143:9
 returns-2 : tie.Need-returns-2
 returns-2 c = gather-pass (c .before .before .before .before .before .before .before .before .before .before .before .before .before .pre) (refuted (c .before .before .before .before .before .before .before .before .is-marked .ensures) (c .before .before .before .before .before .before .before .if1 .left)) (c .before .before .before .before .before .gathers .ensures .sound (c .before .before .before .before .if2 .taken)) (c .before .before .mark .ensures)
 
--- src/rules.rt:135:1
 same-length-3 : tie.Need-same-length-3
 same-length-3 c = search needs
 
--- src/rules.rt:135:1
 returns-3 : tie.Need-returns-3
 returns-3 c = looked-unmarked (refuted (c .before .before .before .before .is-marked .ensures) (c .before .before .before .if1 .left)) (refuted (c .before .gathers .ensures) (c .if2 .left))
 

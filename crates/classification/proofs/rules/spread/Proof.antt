@@ -11,39 +11,30 @@ use Rattle.classification.proofs.rules.is_restriction.Reads as is-restr
 use Rattle.classification.proofs.rules.mark_filled.Reads as mark-filled-reads
 use Rattle.classification.proofs.rules.mark_parts.Reads as mark-parts-reads
 
--- src/rules.rt:104:8
 is-conjunction-requires : tie.Need-is-conjunction-requires
 is-conjunction-requires c κs = search needs
 
--- src/rules.rt:105:9
 mark-parts-requires : tie.Need-mark-parts-requires
 mark-parts-requires c κs = (c .before .before .before .before .before .before .pre, sym (c .before .before .is-conjunction .ensures) ∙ c .before .if1 .taken)
 
--- src/rules.rt:105:9
 same-length : tie.Need-same-length
 same-length c = search needs
 
--- src/rules.rt:105:9
 returns : tie.Need-returns
 returns c = pass-as (spread-parts (sym (c .before .before .before .before .before .is-conjunction .ensures) ∙ c .before .before .before .before .if1 .taken)) (c .before .before .mark-parts .ensures)
 
--- src/rules.rt:107:8
 is-restriction-requires : tie.Need-is-restriction-requires
 is-restriction-requires c κs = search needs
 
--- src/rules.rt:108:9
 mark-filled-requires : tie.Need-mark-filled-requires
 mark-filled-requires c κs = (c .before .before .before .before .before .before .before .before .pre, sym (c .before .before .is-restriction .ensures) ∙ c .before .if2 .taken)
 
--- src/rules.rt:108:9
 same-length-2 : tie.Need-same-length-2
 same-length-2 c = search needs
 
--- src/rules.rt:108:9
 returns-2 : tie.Need-returns-2
 returns-2 c = pass-as (spread-fillers (sym (c .before .before .before .before .before .is-restriction .ensures) ∙ c .before .before .before .before .if2 .taken)) (c .before .before .mark-filled .ensures)
 
--- src/rules.rt:100:1
 returns-3 : tie.Need-returns-3
 returns-3 c = pass-none (spread-none (sym (c .before .before .before .is-conjunction .ensures) ∙ c .before .before .if1 .left) (sym (c .before .is-restriction .ensures) ∙ c .if2 .left))
 

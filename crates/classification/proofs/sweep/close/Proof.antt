@@ -11,6 +11,7 @@ use Rattle.classification.proofs.sweep.close.Reads as reads
 use Rattle.classification.proofs.sweep.close.Lts as lts
 use Rattle.classification.proofs.sweep.rows.Reads as rows-reads
 
+-- marks put by the rules; each pass leaves fewer bytes that are no mark
 abbrev Inv-loop : tie.InvT-loop
 Inv-loop file table work₀ square work = (length work ≡ length work₀) × Grows (Step file table square) square work₀ work
 

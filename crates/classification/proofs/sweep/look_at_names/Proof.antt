@@ -12,45 +12,37 @@ use Rattle.classification.proofs.sweep.look_at_names.Reads as reads
 use Rattle.classification.proofs.sweep.look_at_names.Lts as lts
 use Rattle.classification.proofs.rules.look.Reads as look-reads
 
+-- a pass that has finished the names before next
 abbrev Inv-loop : tie.InvT-loop
 Inv-loop file table work₀ square x changed₀ next₀ work changed next = (next ≤ square .names) × (length work ≡ length work₀) × Pass (Step file table square) square (Below (Looked file table square x) next) work₀ work changed
 
 abbrev μ-loop : tie.MeasureT-loop
 μ-loop file table work₀ square x changed₀ next₀ work changed next = square .names - next
 
--- src/sweep.rt:31:5
 loop-holds : tie.Need-loop-holds Inv-loop μ-loop
 loop-holds c = (search needs, refl, turns-none)
 
--- src/sweep.rt:33:9
 add-next : tie.Need-add-next Inv-loop μ-loop
 add-next c = search needs
 
--- src/sweep.rt:34:12
 look-requires : tie.Need-look-requires Inv-loop μ-loop
 look-requires c κs = record { setting = setting-stays (c .before .before .before .loop .inv .2 .grows) (c .before .before .before .before .before .before .before .pre .0); row = c .before .before .before .before .before .before .before .pre .1; name = c .before .if1 .taken }
 
--- src/sweep.rt:31:5
 loop-less : tie.Need-loop-less Inv-loop μ-loop
 loop-less c = search needs
 
--- src/sweep.rt:31:5
 loop-again : tie.Need-loop-again Inv-loop μ-loop
 loop-again c = (search needs, search needs, turn-changed (c .before .before .before .before .before .before .before .loop .inv .2) (c .before .before .before .look .ensures) (c .if2 .taken))
 
--- src/sweep.rt:31:5
 loop-less-2 : tie.Need-loop-less-2 Inv-loop μ-loop
 loop-less-2 c = search needs
 
--- src/sweep.rt:31:5
 loop-again-2 : tie.Need-loop-again-2 Inv-loop μ-loop
 loop-again-2 c = (search needs, search needs, turn-unchanged (c .before .before .before .before .before .before .before .loop .inv .2) (c .before .before .before .look .ensures) (c .if2 .left))
 
--- src/sweep.rt:24:1
 same-length : tie.Need-same-length Inv-loop μ-loop
 same-length c = search needs
 
--- src/sweep.rt:24:1
 returns : tie.Need-returns Inv-loop μ-loop
 returns c = turns-end (c .if1 .left) (c .before .before .loop .inv .2)
 

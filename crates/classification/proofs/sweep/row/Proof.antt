@@ -11,6 +11,7 @@ use Rattle.classification.proofs.sweep.row.Reads as reads
 use Rattle.classification.proofs.sweep.row.Lts as lts
 use Rattle.classification.proofs.sweep.row_pass.Reads as row-pass-reads
 
+-- what the passes so far did: nothing is said of what they left, since another follows; each leaves fewer bytes that are no mark
 abbrev Inv-loop : tie.InvT-loop
 Inv-loop file table work₀ square x changed₀ work changed = (length work ≡ length work₀) × Pass (Step file table square) square Anything work₀ work changed
 

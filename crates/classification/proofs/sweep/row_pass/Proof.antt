@@ -7,27 +7,21 @@ use Rattle.classification.proofs.sweep.row_pass.Lts as lts
 use Rattle.classification.proofs.sweep.look_at_names.Reads as look-at-names-reads
 use Rattle.classification.proofs.sweep.seed.Reads as seed-reads
 
--- src/sweep.rt:47:9
 seed-requires : tie.Need-seed-requires
 seed-requires c κs = (c .before .before .before .before .pre .0 .room, c .before .before .before .before .pre .1)
 
--- src/sweep.rt:48:8
 look-at-names-requires : tie.Need-look-at-names-requires
 look-at-names-requires c κs = (setting-stays (c .before .before .before .seed .ensures .pass _ _ .grows) (c .before .before .before .before .before .before .before .before .pre .0), c .before .before .before .before .before .before .before .before .pre .1)
 
--- src/sweep.rt:49:9
 same-length : tie.Need-same-length
 same-length c = search needs
 
--- src/sweep.rt:49:9
 returns : tie.Need-returns
 returns c = row-changed (c .before .before .before .before .before .before .before .seed .ensures) (c .before .before .before .look-at-names .ensures) (c .if1 .taken)
 
--- src/sweep.rt:42:1
 same-length-2 : tie.Need-same-length-2
 same-length-2 c = search needs
 
--- src/sweep.rt:42:1
 returns-2 : tie.Need-returns-2
 returns-2 c = row-unchanged (c .before .before .before .before .before .before .before .seed .ensures) (c .before .before .before .look-at-names .ensures) (c .if1 .left)
 

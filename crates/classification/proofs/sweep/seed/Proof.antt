@@ -6,27 +6,21 @@ use Rattle.classification.proofs.sweep.seed.Reads as reads
 use Rattle.classification.proofs.sweep.seed.Lts as lts
 use Rattle.marks.proofs.mark.Reads as mark-reads
 
--- src/sweep.rt:16:9
 mark-requires : tie.Need-mark-requires
 mark-requires c κs = search needs
 
--- src/sweep.rt:17:8
 mark-requires-2 : tie.Need-mark-requires-2
 mark-requires-2 c κs = search needs
 
--- src/sweep.rt:18:9
 same-length : tie.Need-same-length
 same-length c = search needs
 
--- src/sweep.rt:18:9
 returns : tie.Need-returns
 returns c = seeds-changed (c .before .before .before .before .before .before .before .before .before .before .pre .0) (c .before .before .before .before .before .before .before .before .before .before .pre .1) (c .before .before .before .before .before .before .before .mark .ensures) (c .before .before .before .mark2 .ensures) (c .if1 .taken)
 
--- src/sweep.rt:11:1
 same-length-2 : tie.Need-same-length-2
 same-length-2 c = search needs
 
--- src/sweep.rt:11:1
 returns-2 : tie.Need-returns-2
 returns-2 c = seeds-unchanged (c .before .before .before .before .before .before .before .before .before .before .pre .0) (c .before .before .before .before .before .before .before .before .before .before .pre .1) (c .before .before .before .before .before .before .before .mark .ensures) (c .before .before .before .mark2 .ensures) (c .if1 .left)
 
