@@ -1,0 +1,2 @@
+-- Theorems about the calls' own promises.
+pub mod Demand3

@@ -1,0 +1,2 @@
+-- What a comparison promises.
+pub mod Comparing
