@@ -1,2 +1,3 @@
 -- Theorems about the calls' own promises.
 pub mod Demand3
+pub mod Judging

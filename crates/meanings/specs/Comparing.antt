@@ -6,12 +6,16 @@
 use mathlib.Core.Path.{_≡_}
 use mathlib.Core.Bool.{Bool, _&&_}
 use mathlib.Core.List.{List, _++_}
-use Prim.Native.Nat.{ℕ, suc, _*_}
+use Prim.Native.Nat.{ℕ, suc, _*_, _≤_}
 use lib.Dec.{eqb, leb}
 use lib.ListN.{length, take, drop, replicate}
 use Rattle.el.specs.Lists.{pick}
 use Rattle.el.specs.Comparison.{AreBytes}
-use Rattle.release.specs.Files.{fault, namesOf, rolesOf, axiomsOf}
+use Rattle.release.specs.Files.{namesOf, axiomsOf, mostNames}
+use Rattle.release.specs.Readings.{checked}
+use Rattle.release.specs.declared.Counts.{Counts}
+use Rattle.release.specs.declared.Checked.{Checked}
+use Rattle.release.specs.declared.Checked.the-variants as Check
 use Rattle.release.specs.declared.Refusal.{Refusal}
 use Rattle.signature.specs.Bytes.{signatureFault}
 use Rattle.demands.specs.Inputs.{chosen}
@@ -25,22 +29,36 @@ workLength n = 4 * (suc n * suc n)
 abbrev pub refused : ℕ → ℕ → Comparison
 refused number side = Refused (record { number = number; side = side })
 
--- the first release, the second, 16, 17 and 18, 31, 32
-unfoldable pub comparison : List ℕ → List ℕ → List ℕ → ℕ → ℕ → Comparison
-comparison s t g o w =
-    pick (eqb (fault s) 0)
-    (pick (eqb (fault t) 0)
-    (pick (eqb (namesOf s) (namesOf t) && eqb (rolesOf s) (rolesOf t))
-    (pick (eqb (signatureFault (namesOf s) (rolesOf s) g) 0)
-    (pick (leb (namesOf s) o)
-    (pick (leb (workLength (namesOf s)) w)
-    (Accepted (record { names = namesOf s; roles = rolesOf s }))
+-- 16, 17 and 18, 31, 32
+unfoldable pub counted : Counts → Counts → List ℕ → ℕ → ℕ → Comparison
+counted a b g o w =
+    pick (eqb (a .names) (b .names) && eqb (a .roles) (b .roles))
+    (pick (eqb (signatureFault (a .names) (a .roles) g) 0)
+    (pick (leb (a .names) o)
+    (pick (leb (workLength (a .names)) w)
+    (Accepted (record { names = a .names; roles = a .roles }))
     (refused 32 0))
     (refused 31 0))
-    (refused (signatureFault (namesOf s) (rolesOf s) g) 0))
-    (refused 16 0))
-    (refused (fault t) 2))
-    (refused (fault s) 1)
+    (refused (signatureFault (a .names) (a .roles) g) 0))
+    (refused 16 0)
+
+-- by what checking the two releases answers: the first release's refusal, then the second's, then the others
+abbrev pub judged : Checked → Checked → List ℕ → ℕ → ℕ → Comparison
+judged (Check.Refused k) second g o w = refused (k .number) 1
+judged (Check.Accepted a) (Check.Refused k) g o w = refused (k .number) 2
+judged (Check.Accepted a) (Check.Accepted b) g o w = counted a b g o w
+
+abbrev pub comparison : List ℕ → List ℕ → List ℕ → ℕ → ℕ → Comparison
+comparison s t g o w = judged (checked s) (checked t) g o w
+
+-- the number of a check's refusal, 0 for an accepted release
+abbrev pub numberOf : Checked → ℕ
+numberOf (Check.Accepted a) = 0
+numberOf (Check.Refused k) = k .number
+
+-- an accepted release has no more names than there can be
+pub record Limited (c : Checked) : Type 0 where
+  pub names : {a : Counts} → c ≡ Check.Accepted a → a .names ≤ mostNames
 
 pub record Result (s t g o o2 w w2 : List ℕ) : Type 0 where
   pub bytes : AreBytes (namesOf s) (chosen s g) (axiomsOf s) (axiomsOf t) (take (namesOf s) o2)

@@ -1,5 +1,12 @@
 // The meaning of releases compared.
+ghost use mathlib.Core.Path.{_≡_};
+ghost use lib.Dec.{ltb};
+ghost use Prim.Native.Nat.{_≤_};
+ghost use Rattle.release.specs.Files.{mostNames};
+ghost use Rattle.meanings.specs.Comparing.{workLength, numberOf, judged, Limited};
+use release::Checked;
 use release::Refusal;
+use signature::signature_fault;
 
 // What was compared: the counts of names and roles, which both releases have.
 pub struct Compared {
@@ -11,4 +18,70 @@ pub struct Compared {
 pub enum Comparison {
     Accepted(Compared),
     Refused(Refusal),
+}
+
+fn refused(number: u8, side: u8) -> Comparison
+    ensures { λ r. ⌜ r ≡ Comparison.Refused (record { number = number; side = side }) ⌝ }
+{
+    Comparison::Refused(Refusal {
+        number: number,
+        side: side,
+    })
+}
+
+// The number of a check's refusal, 0 for an accepted release.
+fn number_of(checked: Checked) -> u8
+    ensures { λ r. ⌜ r ≡ numberOf checked ⌝ }
+{
+    match checked {
+        Checked::Refused(refusal) => refusal.number,
+        Checked::Accepted(_) => 0,
+    }
+}
+
+// Whether work memory is shorter than a comparison of releases with this many names needs.
+fn lacks_work(work: usize, names: usize) -> bool
+    requires { ⌜ names ≤ mostNames ⌝ }
+    ensures { λ r. ⌜ r ≡ ltb work (workLength names) ⌝ }
+{
+    work < 4 * marks::size(names)
+}
+
+// The answer of a comparison, by what checking the two releases answered: refusals in their order.
+fn judge(
+    first: Checked,
+    second: Checked,
+    signature: &[u8],
+    result: usize,
+    work: usize,
+) -> Comparison
+    requires { ⌜ Limited first ⌝ }
+    ensures { λ r. ⌜ r ≡ judged first second (now (signature .entry)) result work ⌝ }
+{
+    let Checked::Accepted(one) = first else {
+        return refused(number_of(first), 1);
+    };
+    let Checked::Accepted(two) = second else {
+        return refused(number_of(second), 2);
+    };
+    if one.names != two.names {
+        return refused(16, 0);
+    }
+    if one.roles != two.roles {
+        return refused(16, 0);
+    }
+    let fault = signature_fault(signature, one.names, one.roles);
+    if fault != 0 {
+        return refused(fault, 0);
+    }
+    if result < one.names {
+        return refused(31, 0);
+    }
+    if lacks_work(work, one.names) {
+        return refused(32, 0);
+    }
+    Comparison::Accepted(Compared {
+        names: one.names,
+        roles: one.roles,
+    })
 }
