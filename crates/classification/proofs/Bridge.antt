@@ -10,7 +10,7 @@ use native.Mathlib.Omega.{arith}
 use lib.ListN.{length, getD, take, drop, length-drop}
 use lib.Seq.{getD-drop}
 use Rattle.el.specs.Lists.{In, pick}
-use Rattle.el.specs.Concepts.{Node, everything, named}
+use Rattle.el.specs.Concepts.{Node, named}
 use Rattle.el.specs.Axioms.{Axiom, isConjunction, partsOf, roleOf, fillerOf}
 use Rattle.el.proofs.Derivations.{has-part}
 use Rattle.el.proofs.Derivations as el
@@ -18,11 +18,10 @@ use Rattle.el.proofs.Nodes.{IsNode, Formed}
 use Rattle.el.proofs.Classification.{Link, Includes, the-same, to-everything, by-part, by-parts, by-filler}
 use Rattle.release.specs.Files.{namesOf, axiomsOf, joins, restricts}
 use Rattle.release.specs.Readings.{nodeNumber}
-use Rattle.release.specs.Tables.{kindAt, roleAt, fillerAt, tailAt, countAt, partAt, Shaped, Release, kindOf, AxiomRow, NameRow, no-axiom, has-axiom}
-use Rattle.release.proofs.Decoding.{in-take, At, take-at}
+use Rattle.release.specs.Tables.{kindAt, roleAt, fillerAt, tailAt, countAt, partAt, Shaped, Release, AxiomRow, NameRow, no-axiom, has-axiom}
+use Rattle.release.proofs.Decoding.{in-take, take-at}
 use Rattle.release.proofs.Linked as linked
 use Rattle.marks.specs.declared.Square.{Square}
-use Rattle.marks.specs.Squares.{Marked}
 use Rattle.marks.specs.Passes.{Below}
 use Rattle.classification.specs.Inclusions.{nodeAt, says}
 use Rattle.classification.specs.Steps.{PartMarked, Gathers, Fills, Step, to-itself, to-top, to-part, to-gathered, to-filled, Row}
