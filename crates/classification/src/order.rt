@@ -5,7 +5,6 @@ ghost use lib.ListN.{length};
 ghost use Rattle.marks.specs.Squares.{Room};
 ghost use Rattle.marks.specs.Passes.{Grows, Pass, Anything};
 ghost use Rattle.classification.specs.Steps.{Step, Setting, Hint};
-use crate::rules::is_restriction;
 use crate::sweep::row;
 use marks::Square;
 use marks::is_marked;
@@ -22,7 +21,7 @@ fn depends(table: &[u16], work: &[u8], square: Square, x: usize, z: usize) -> bo
         let b = next;
         next += 1;
         if table::filler(table, b) == z {
-            if is_restriction(table, b) {
+            if table::is_restriction(table, b) {
                 if is_marked(work, square, x, b) {
                     return true;
                 }

@@ -12,30 +12,6 @@ use marks::is_marked;
 use marks::mark;
 use release::table;
 
-// Whether a name's axiom is a conjunction.
-fn is_conjunction(table: &[u16], x: usize) -> bool
-    requires { ⌜ HasRow (now table) x ⌝ }
-    ensures { λ r. ⌜ r ≡ joins (kindAt (now (table .entry)) x) ⌝ }
-{
-    let kind = table::kind(table, x);
-    if kind == 1 {
-        return true;
-    }
-    kind == 2
-}
-
-// Whether a name's axiom is a restriction ∃r.B.
-pub fn is_restriction(table: &[u16], x: usize) -> bool
-    requires { ⌜ HasRow (now table) x ⌝ }
-    ensures { λ r. ⌜ r ≡ restricts (kindAt (now (table .entry)) x) ⌝ }
-{
-    let kind = table::kind(table, x);
-    if kind == 3 {
-        return true;
-    }
-    kind == 4
-}
-
 // Marks the conjuncts of b, which is marked in row x. Whether a mark is new.
 fn mark_parts(
     file: &[u8],
@@ -115,10 +91,10 @@ fn spread(file: &[u8], table: &[u16], work: &mut [u8], square: Square, x: usize,
     requires { ⌜ Source (now file) (now table) square (now work) x b ⌝ }
     ensures { λ r. ⌜ Pass (Step (now (file .entry)) (now (table .entry)) square) square (Spread (now (file .entry)) (now (table .entry)) square x b) (now (work .entry)) (now (work .exit)) r ⌝ }
 {
-    if is_conjunction(table, b) {
+    if table::is_conjunction(table, b) {
         return mark_parts(file, table, work, square, x, b);
     }
-    if is_restriction(table, b) {
+    if table::is_restriction(table, b) {
         return mark_filled(file, table, work, square, x, b);
     }
     false

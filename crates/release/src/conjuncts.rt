@@ -1,22 +1,9 @@
-ghost use mathlib.Core.Path.{_≡_};
 ghost use Rattle.el.proofs.Tests.{Tells};
-ghost use Rattle.release.specs.Files.{joins};
-ghost use Rattle.release.specs.Tables.{kindAt, HasRow, Shaped, Conjunctive, PartDefined, SomePartDefined};
+ghost use Rattle.release.specs.Tables.{Shaped, Conjunctive, PartDefined, SomePartDefined};
 use crate::table::count;
+use crate::table::is_conjunction;
 use crate::table::kind;
 use crate::table::part;
-
-// Whether a name's axiom is a conjunction.
-pub fn is_conjunction(table: &[u16], x: usize) -> bool
-    requires { ⌜ HasRow (now table) x ⌝ }
-    ensures { λ r. ⌜ r ≡ joins (kindAt (now (table .entry)) x) ⌝ }
-{
-    let k = kind(table, x);
-    if k == 1 {
-        return true;
-    }
-    k == 2
-}
 
 // Whether a conjunct of x is itself a left name of kind 2.
 fn part_defined(file: &[u8], table: &[u16], n: usize, x: usize) -> bool

@@ -4,10 +4,10 @@ ghost use Rattle.release.specs.Tables.{Release};
 ghost use Rattle.release.specs.Shown.{nowhere, placeIn, shownPlace, Shown};
 use crate::Checked;
 use crate::ConceptName;
-use crate::conjuncts::is_conjunction;
 use crate::read_release;
 use crate::table::Table;
 use crate::table::count;
+use crate::table::is_conjunction;
 use crate::table::kind;
 use crate::table::tail;
 

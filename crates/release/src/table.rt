@@ -1,5 +1,6 @@
 ghost use mathlib.Core.Path.{_≡_};
 ghost use Prim.Native.Nat.{_≤_};
+ghost use Rattle.release.specs.Files.{joins, restricts};
 ghost use Rattle.release.specs.Tables.{kindAt, roleAt, fillerAt, tailAt, countAt, partAt, HasRow, HasCount, HasPart, Fits, Put, Ready, AxiomsRead};
 use crate::Release;
 use crate::axiom::Entry;
@@ -26,6 +27,30 @@ pub fn kind(table: &[u16], x: usize) -> usize
     ensures { λ r. ⌜ r ≡ kindAt (now (table .entry)) x ⌝ }
 {
     wide_16(table[4 * x])
+}
+
+// Whether a name's axiom is a conjunction B1 ⊓ .. ⊓ Bk.
+pub fn is_conjunction(table: &[u16], x: usize) -> bool
+    requires { ⌜ HasRow (now table) x ⌝ }
+    ensures { λ r. ⌜ r ≡ joins (kindAt (now (table .entry)) x) ⌝ }
+{
+    let kind = kind(table, x);
+    if kind == 1 {
+        return true;
+    }
+    kind == 2
+}
+
+// Whether a name's axiom is a restriction ∃r.B.
+pub fn is_restriction(table: &[u16], x: usize) -> bool
+    requires { ⌜ HasRow (now table) x ⌝ }
+    ensures { λ r. ⌜ r ≡ restricts (kindAt (now (table .entry)) x) ⌝ }
+{
+    let kind = kind(table, x);
+    if kind == 3 {
+        return true;
+    }
+    kind == 4
 }
 
 pub fn role(table: &[u16], x: usize) -> usize

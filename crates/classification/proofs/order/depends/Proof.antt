@@ -6,7 +6,7 @@ use Rattle.classification.proofs.order.depends.Statement.{statement}
 use Rattle.classification.proofs.order.depends.Tie as tie
 use Rattle.classification.proofs.order.depends.Reads as reads
 use Rattle.classification.proofs.order.depends.Lts as lts
-use Rattle.classification.proofs.rules.is_restriction.Reads as is-restriction-reads
+use Rattle.release.proofs.table.is_restriction.Reads as is-restriction-reads
 use Rattle.marks.proofs.is_marked.Reads as is-marked-reads
 use Rattle.release.proofs.table.filler.Reads as filler-reads
 

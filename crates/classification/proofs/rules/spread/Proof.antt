@@ -6,8 +6,8 @@ use Rattle.classification.proofs.rules.spread.Statement.{statement}
 use Rattle.classification.proofs.rules.spread.Tie as tie
 use Rattle.classification.proofs.rules.spread.Reads as reads
 use Rattle.classification.proofs.rules.spread.Lts as lts
-use Rattle.classification.proofs.rules.is_conjunction.Reads as is-conjunction-reads
-use Rattle.classification.proofs.rules.is_restriction.Reads as is-restriction-reads
+use Rattle.release.proofs.table.is_conjunction.Reads as is-conjunction-reads
+use Rattle.release.proofs.table.is_restriction.Reads as is-restriction-reads
 use Rattle.classification.proofs.rules.mark_filled.Reads as mark-filled-reads
 use Rattle.classification.proofs.rules.mark_parts.Reads as mark-parts-reads
 

@@ -7,7 +7,7 @@ use Rattle.release.proofs.conjuncts.some_part_defined.Statement.{statem
 use Rattle.release.proofs.conjuncts.some_part_defined.Tie as tie
 use Rattle.release.proofs.conjuncts.some_part_defined.Reads as reads
 use Rattle.release.proofs.conjuncts.some_part_defined.Lts as lts
-use Rattle.release.proofs.conjuncts.is_conjunction.Reads as is-conjunction-reads
+use Rattle.release.proofs.table.is_conjunction.Reads as is-conjunction-reads
 use Rattle.release.proofs.conjuncts.part_defined.Reads as part-defined-reads
 
 abbrev Inv-loop : tie.InvT-loop

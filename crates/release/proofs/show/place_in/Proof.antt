@@ -7,7 +7,7 @@ use Rattle.release.proofs.show.place_in.Statement.{statement}
 use Rattle.release.proofs.show.place_in.Tie as tie
 use Rattle.release.proofs.show.place_in.Reads as reads
 use Rattle.release.proofs.show.place_in.Lts as lts
-use Rattle.release.proofs.conjuncts.is_conjunction.Reads as is-conjunction-reads
+use Rattle.release.proofs.table.is_conjunction.Reads as is-conjunction-reads
 use Rattle.release.proofs.show.nowhere.Reads as nowhere-reads
 use Rattle.release.proofs.table.count.Reads as count-reads
 use Rattle.release.proofs.table.kind.Reads as kind-reads

@@ -1,10 +1,10 @@
 use borrow.Author.Tests.{eq-eqb, ne-eqb}
 use borrow.Author.Needs.{needs}
-use Rattle.classification.proofs.rules.is_restriction.Statement.{statement}
-use Rattle.classification.proofs.rules.is_restriction.Tie as tie
-use Rattle.classification.proofs.rules.is_restriction.Reads as reads
-use Rattle.classification.proofs.rules.is_restriction.Lts as lts
+use Rattle.release.proofs.table.is_restriction.Statement.{statement}
+use Rattle.release.proofs.table.is_restriction.Tie as tie
+use Rattle.release.proofs.table.is_restriction.Reads as reads
+use Rattle.release.proofs.table.is_restriction.Lts as lts
 use Rattle.release.proofs.table.kind.Reads as kind-reads
 
 kind-requires : tie.Need-kind-requires
 kind-requires c κs = search needs
