@@ -39,7 +39,19 @@ VECTORS = {
     "check": dict(file=bytes.fromhex, number=number, side=number, n=number, m=number, a=number),
     "show": dict(first=bytes.fromhex, second=bytes.fromhex, side=number, name=number, file=number, start=number,
                  part=bytes.fromhex),
+    "question": dict(file=bytes.fromhex, c=bytes.fromhex, d=bytes.fromhex, work_len=number, number=number, side=number,
+                     value=number, zeros=number),
+    "compare": dict(first=bytes.fromhex, second=bytes.fromhex, sig=bytes.fromhex, result_len=number, work_len=number,
+                    number=number, side=number, result=bytes.fromhex, zeros=number),
 }
+
+
+def with_zeros(row):
+    """The row with `zeros`, how many bytes of its work memory are zero after the call: none where it is refused."""
+    if "work_len" in row:
+        n = bytes.fromhex(row.get("file") or row["first"])[5] if row["number"] == 0 else -1
+        row["zeros"] = 4 * (n + 1) * (n + 1)
+    return row
 
 
 def sized(content):
@@ -54,7 +66,7 @@ def write(family, cases):
 
 def vectors(folder, family):
     fields = VECTORS[family].items()
-    rows = map(json.loads, (folder / f"{family}.jsonl").read_text().splitlines())
+    rows = map(with_zeros, map(json.loads, (folder / f"{family}.jsonl").read_text().splitlines()))
     return [[form(row[key]) for key, form in fields] for row in rows]
 
 

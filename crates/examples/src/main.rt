@@ -5,7 +5,10 @@
 // tables of their names in tools/.
 mod cases;
 mod check;
+mod compare;
+mod memory;
 mod print;
+mod question;
 mod run;
 mod show;
 mod signatures;
@@ -19,4 +22,6 @@ fn main() {
     run::family(Call::Check, b"refusals");
     run::family(Call::Show, b"shows");
     run::family(Call::Signatures, b"signatures");
+    run::family(Call::Question, b"question");
+    run::family(Call::Compare, b"compare");
 }

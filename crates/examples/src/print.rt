@@ -55,8 +55,13 @@ fn thing(what: What) {
         What::File => text(b"file"),
         What::Start => text(b"start"),
         What::Length => text(b"length"),
+        What::Value => text(b"value"),
         What::Byte(place) => {
             text(b"byte ");
+            number(place as u64)
+        }
+        What::Work(place) => {
+            text(b"work byte ");
             number(place as u64)
         }
     }

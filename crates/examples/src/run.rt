@@ -2,7 +2,9 @@
 // four bytes, low byte first, and that many bytes.
 use crate::cases;
 use crate::check;
+use crate::compare;
 use crate::print;
+use crate::question;
 use crate::show;
 use crate::signatures;
 use crate::verdict::Verdict;
@@ -14,6 +16,8 @@ pub enum Call {
     Check,
     Show,
     Signatures,
+    Question,
+    Compare,
 }
 
 // What one turn of reading and trying came to.
@@ -89,6 +93,8 @@ fn judge(call: Call, case: &[u8]) -> Verdict {
         Call::Check => check::judge(case),
         Call::Show => show::judge(case),
         Call::Signatures => signatures::judge(case),
+        Call::Question => question::judge(case),
+        Call::Compare => compare::judge(case),
     }
 }
 
@@ -98,5 +104,7 @@ fn fields_of(call: Call) -> usize {
         Call::Check => check::FIELDS,
         Call::Show => show::FIELDS,
         Call::Signatures => signatures::FIELDS,
+        Call::Question => question::FIELDS,
+        Call::Compare => compare::FIELDS,
     }
 }

@@ -1,5 +1,6 @@
 // What comes of a case: the answer is the expected one, or the first thing that differs.
 use crate::cases::wide;
+use release::Refusal;
 
 // What an answer tells, and by which a difference is named.
 pub enum What {
@@ -13,7 +14,9 @@ pub enum What {
     File,
     Start,
     Length,
+    Value,
     Byte(usize),
+    Work(usize),
 }
 
 // `Differs` holds what was got and what was expected, in this order.
@@ -37,6 +40,16 @@ pub fn same(what: What, got: usize, expected: usize) -> Verdict {
         return Verdict::Same;
     }
     Verdict::Differs(what, got, expected)
+}
+
+// Compares a refusal with the expected number, 0 where none is expected, and side.
+pub fn same_refusal(refusal: Refusal, number: usize, side: usize) -> Verdict {
+    same(What::Accepted, 0, truth(number == 0)).and(same(
+            What::Number,
+            wide(refusal.number),
+            number,
+        ))
+        .and(same(What::Side, wide(refusal.side), side))
 }
 
 // Compares the lengths, and then byte by byte.
