@@ -1,0 +1,6 @@
+-- Laws of writing a text piece by piece, of numbers and of lines. To be read in this order.
+pub mod Puts
+pub mod Decimals
+pub mod Entries
+pub mod Pieces
+pub mod Answers

@@ -1,0 +1,41 @@
+-- A text written at a place of the output, and texts short enough that their lengths fit a machine's numbers.
+--   Room o p text          the output o has room for the text from place p on
+--   Put o p text q next    q is the output o with the text from place p on, and next is the place after it
+--   Small v x w y          the words and numbers of a line are small
+--   LinesLength bs k       k is the length of the lines of the result bytes bs
+--   Counted side bs k      k counts the bytes bs that report on a side
+--   Numbers n m x y bs     the numbers and result bytes of a report are small
+use mathlib.Core.Path.{_≡_}
+use mathlib.Core.List.{List}
+use Prim.Native.Nat.{ℕ, _+_, _*_, _≤_, _<_}
+use lib.ListN.{length}
+use lib.Seq.{sets}
+use Rattle.report.specs.Texts.{onSide, lines, count}
+
+pub record Room (o : List ℕ) (p : ℕ) (text : List ℕ) : Type 0 where
+  pub fits : p + length text ≤ length o
+
+pub record Put (o : List ℕ) (p : ℕ) (text q : List ℕ) (next : ℕ) : Type 0 where
+  pub stands : q ≡ sets o p text
+  pub after : next ≡ p + length text
+
+pub record Small (v : List ℕ) (x : ℕ) (w : List ℕ) (y : ℕ) : Type 0 where
+  pub first-word : length v ≤ 8
+  pub first-number : x < 65536
+  pub second-word : length w ≤ 8
+  pub second-number : y < 65536
+
+pub record LinesLength (bs : List ℕ) (k : ℕ) : Type 0 where
+  pub is : k ≡ length (lines 0 bs)
+  pub small : k ≤ length bs * 70000
+
+pub record Counted (side : ℕ) (bs : List ℕ) (k : ℕ) : Type 0 where
+  pub is : k ≡ count (onSide side) bs
+  pub small : k ≤ length bs
+
+pub record Numbers (n m x y : ℕ) (bs : List ℕ) : Type 0 where
+  pub names : n < 65536
+  pub roles : m < 65536
+  pub left : x < 65536
+  pub right : y < 65536
+  pub bytes : length bs < 65536
