@@ -43,6 +43,7 @@ VECTORS = {
                      value=number, zeros=number),
     "compare": dict(first=bytes.fromhex, second=bytes.fromhex, sig=bytes.fromhex, result_len=number, work_len=number,
                     number=number, side=number, result=bytes.fromhex, zeros=number),
+    "station": dict(first=bytes.fromhex, second=bytes.fromhex, sig=bytes.fromhex, out=text),
 }
 
 

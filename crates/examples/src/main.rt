@@ -12,6 +12,7 @@ mod question;
 mod run;
 mod show;
 mod signatures;
+mod station;
 mod verdict;
 
 use run::Call;
@@ -24,4 +25,5 @@ fn main() {
     run::family(Call::Signatures, b"signatures");
     run::family(Call::Question, b"question");
     run::family(Call::Compare, b"compare");
+    run::family(Call::Station, b"station");
 }

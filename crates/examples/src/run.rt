@@ -7,6 +7,7 @@ use crate::print;
 use crate::question;
 use crate::show;
 use crate::signatures;
+use crate::station;
 use crate::verdict::Verdict;
 use crate::verdict::What;
 use crate::verdict::same;
@@ -18,6 +19,7 @@ pub enum Call {
     Signatures,
     Question,
     Compare,
+    Station,
 }
 
 // What one turn of reading and trying came to.
@@ -95,6 +97,7 @@ fn judge(call: Call, case: &[u8]) -> Verdict {
         Call::Signatures => signatures::judge(case),
         Call::Question => question::judge(case),
         Call::Compare => compare::judge(case),
+        Call::Station => station::judge(case),
     }
 }
 
@@ -106,5 +109,6 @@ fn fields_of(call: Call) -> usize {
         Call::Signatures => signatures::FIELDS,
         Call::Question => question::FIELDS,
         Call::Compare => compare::FIELDS,
+        Call::Station => station::FIELDS,
     }
 }

@@ -11,7 +11,7 @@ use lib.Dec.{eqb, leb}
 use lib.ListN.{length, take, drop, replicate}
 use Rattle.el.specs.Lists.{pick}
 use Rattle.el.specs.Comparison.{AreBytes}
-use Rattle.release.specs.Files.{namesOf, axiomsOf, mostNames}
+use Rattle.release.specs.Files.{namesOf, axiomsOf, mostNames, mostRoles}
 use Rattle.release.specs.Readings.{checked}
 use Rattle.release.specs.declared.Counts.{Counts}
 use Rattle.release.specs.declared.Checked.{Checked}
@@ -56,9 +56,10 @@ abbrev pub numberOf : Checked → ℕ
 numberOf (Check.Accepted a) = 0
 numberOf (Check.Refused k) = k .number
 
--- an accepted release has no more names than there can be
+-- an accepted release has no more names and roles than there can be
 pub record Limited (c : Checked) : Type 0 where
   pub names : {a : Counts} → c ≡ Check.Accepted a → a .names ≤ mostNames
+  pub roles : {a : Counts} → c ≡ Check.Accepted a → a .roles ≤ mostRoles
 
 pub record Result (s t g o o2 w w2 : List ℕ) : Type 0 where
   pub bytes : AreBytes (namesOf s) (chosen s g) (axiomsOf s) (axiomsOf t) (take (namesOf s) o2)

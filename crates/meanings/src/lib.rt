@@ -10,8 +10,8 @@ use signature::signature_fault;
 
 // What was compared: the counts of names and roles, which both releases have.
 pub struct Compared {
-    pub names: usize,
-    pub roles: usize,
+    pub names: u16,
+    pub roles: u8,
 }
 
 // What a comparison answers.
@@ -81,7 +81,7 @@ fn judge(
         return refused(32, 0);
     }
     Comparison::Accepted(Compared {
-        names: one.names,
-        roles: one.roles,
+        names: one.names as u16,
+        roles: one.roles as u8,
     })
 }
