@@ -3,9 +3,12 @@ ghost use mathlib.Core.Path.{_≡_};
 ghost use lib.Dec.{ltb};
 ghost use Prim.Native.Nat.{_≤_};
 ghost use Rattle.release.specs.Files.{mostNames};
-ghost use Rattle.meanings.specs.Comparing.{workLength, numberOf, judged, Limited};
+ghost use Rattle.meanings.specs.Comparing.{workLength, numberOf, judged, Limited, Says};
+use comparison::compare_tables;
 use release::Checked;
 use release::Refusal;
+use release::read_release;
+use release::table::Table;
 use signature::signature_fault;
 
 // What was compared: the counts of names and roles, which both releases have.
@@ -84,4 +87,36 @@ fn judge(
         names: one.names as u16,
         roles: one.roles as u8,
     })
+}
+
+// Compares two releases over a signature: the byte of each name in the first result bytes, or the refusal, which changes nothing.
+pub fn compare_releases(
+    first: &[u8],
+    second: &[u8],
+    signature: &[u8],
+    result: &mut [u8],
+    work: &mut [u8],
+) -> Comparison
+    ensures { λ r. ⌜ Says (now (first .entry)) (now (second .entry)) (now (signature .entry)) (now (result .entry)) (now (result .exit)) (now (work .entry)) (now (work .exit)) r ⌝ }
+{
+    let mut first_table = [0u16; Table::LENGTH];
+    let first_checked = read_release(first, &mut first_table);
+    let mut second_table = [0u16; Table::LENGTH];
+    let second_checked = read_release(second, &mut second_table);
+    let answer = judge(first_checked, second_checked, signature, result.len(), work.len());
+    let Comparison::Accepted(counts) = answer else {
+        return answer;
+    };
+    compare_tables(
+        first,
+        second,
+        &first_table,
+        &second_table,
+        signature,
+        result,
+        work,
+        counts.names as usize,
+        counts.roles as usize,
+    );
+    answer
 }
