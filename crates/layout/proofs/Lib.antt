@@ -1,0 +1,3 @@
+-- Laws of searches and layouts.
+pub mod Searches
+pub mod Layouts
