@@ -1,0 +1,3 @@
+-- Laws of forward marks.
+pub mod Chains
+pub mod Tested
