@@ -1,5 +1,6 @@
 -- The rules over the table are the rules over the axioms.
---   Found s t n x        the axiom of the name x, with its row
+--   Found s t n x        the axiom of the name x, with its row; its laws say the one by the other
+--   own, find            the row of an axiom; the axiom of a row
 --   step-includes        a step is a rule of Includes, by the marks as a test: so steps are sound
 --   rows-closed          where no row has anything left to mark, the test is closed under Includes: so it is complete
 use mathlib.Core.Path.{_≡_, refl, sym, ap, subst, _∙_}
@@ -54,7 +55,7 @@ kind-4 true false h = absurd (omega arith)
 kind-4 false true h = (refl, refl)
 kind-4 false false h = absurd (omega arith)
 
-joins-kind : (b c : Bool) → b ≡ true → joins (kindBy b c) ≡ true
+pub joins-kind : (b c : Bool) → b ≡ true → joins (kindBy b c) ≡ true
 joins-kind true true h = refl
 joins-kind true false h = refl
 joins-kind false c h = absurd (false≢true h)
@@ -65,69 +66,69 @@ restricts-kind false true h = refl
 restricts-kind false false h = refl
 
 -- the axiom of a name
-record Found (s t : List ℕ) (n x : ℕ) : Type 0 where
-  it : Axiom
-  member : In (axiomsOf s) it
-  left : it .left ≡ x
-  row : AxiomRow n s t it
-  inside : isConjunction it ≡ true → tailAt t x + 1 + countAt s t x ≤ length s
+pub record Found (s t : List ℕ) (n x : ℕ) : Type 0 where
+  pub it : Axiom
+  pub member : In (axiomsOf s) it
+  pub left : it .left ≡ x
+  pub row : AxiomRow n s t it
+  pub inside : isConjunction it ≡ true → tailAt t x + 1 + countAt s t x ≤ length s
 
-record PartAt (s t : List ℕ) (x y : ℕ) : Type 0 where
-  at : ℕ
-  inside : at < countAt s t x
-  is : partAt s t x at ≡ y
+pub record PartAt (s t : List ℕ) (x y : ℕ) : Type 0 where
+  pub at : ℕ
+  pub inside : at < countAt s t x
+  pub is : partAt s t x at ≡ y
 
 module _ {s t : List ℕ} {n x : ℕ} (f : Found s t n x) where
-  abbrev joint : Bool
+  abbrev pub joint : Bool
   joint = isConjunction (f .it)
 
-  abbrev defining : Bool
+  abbrev pub defining : Bool
   defining = f .it .defined
 
   kind-is : kindAt t x ≡ kindBy joint defining
   kind-is = ap (kindAt t) (sym (f .left)) ∙ f .row .kind
 
-  is-conjunction : joins (kindAt t x) ≡ true → joint ≡ true
+  pub is-conjunction : joins (kindAt t x) ≡ true → joint ≡ true
   is-conjunction h = kind-joins joint defining (rw kind-is at h)
 
-  is-restriction : restricts (kindAt t x) ≡ true → joint ≡ false
+  pub is-restriction : restricts (kindAt t x) ≡ true → joint ≡ false
   is-restriction h = kind-restricts joint defining (rw kind-is at h)
 
-  conjunction-joins : joint ≡ true → joins (kindAt t x) ≡ true
+  pub conjunction-joins : joint ≡ true → joins (kindAt t x) ≡ true
   conjunction-joins h = rw kind-is (joins-kind joint defining h)
 
-  restriction-restricts : joint ≡ false → restricts (kindAt t x) ≡ true
+  pub restriction-restricts : joint ≡ false → restricts (kindAt t x) ≡ true
   restriction-restricts h = rw kind-is (restricts-kind joint defining h)
 
-  defined-conjunction : kindAt t x ≡ 2 → (joint ≡ true) × (defining ≡ true)
+  pub defined-conjunction : kindAt t x ≡ 2 → (joint ≡ true) × (defining ≡ true)
   defined-conjunction h = kind-2 joint defining (sym kind-is ∙ h)
 
-  defined-restriction : kindAt t x ≡ 4 → (joint ≡ false) × (defining ≡ true)
+  pub defined-restriction : kindAt t x ≡ 4 → (joint ≡ false) × (defining ≡ true)
   defined-restriction h = kind-4 joint defining (sym kind-is ∙ h)
 
-  is-2 : joint ≡ true → defining ≡ true → kindAt t x ≡ 2
+  pub is-2 : joint ≡ true → defining ≡ true → kindAt t x ≡ 2
   is-2 h l = kind-is ∙ rw (h, l)
 
-  is-4 : joint ≡ false → defining ≡ true → kindAt t x ≡ 4
+  pub is-4 : joint ≡ false → defining ≡ true → kindAt t x ≡ 4
   is-4 h l = kind-is ∙ rw (h, l)
 
-  role-is : joint ≡ false → roleAt t x ≡ roleOf (f .it)
+  pub role-is : joint ≡ false → roleAt t x ≡ roleOf (f .it)
   role-is h = ap (roleAt t) (sym (f .left)) ∙ f .row .role h
 
-  name-is : x < n → named (f .it .left) ≡ nodeAt n x
+  pub name-is : x < n → named (f .it .left) ≡ nodeAt n x
   name-is l = ap named (f .left) ∙ sym (at-name n x l)
 
-  filler-is : joint ≡ false → nodeNumber n (fillerOf (f .it)) ≡ fillerAt t x
+  pub filler-is : joint ≡ false → nodeNumber n (fillerOf (f .it)) ≡ fillerAt t x
   filler-is h = sym (f .row .filler h) ∙ ap (fillerAt t) (f .left)
 
   parts-are : joint ≡ true → partsOf (f .it) ≡ take (countAt s t x) (drop (tailAt t x + 1) s)
   parts-are h = f .row .parts h ∙ ap (λ y. take (countAt s t y) (drop (tailAt t y + 1) s)) (f .left)
 
-  part-in : joint ≡ true → (i : ℕ) → i < countAt s t x → In (partsOf (f .it)) (partAt s t x i)
+  pub part-in : joint ≡ true → (i : ℕ) → i < countAt s t x → In (partsOf (f .it)) (partAt s t x i)
   unfolding partAt
   part-in h i l = subst (λ ps. In ps (getD s (tailAt t x + 1 + i) 0)) (sym (parts-are h)) (rw getD-drop at (in-take (drop (tailAt t x + 1) s) (countAt s t x) i l (rw length-drop (omega (arith, f .inside h)))))
 
-  part-at : joint ≡ true → {y : ℕ} → In (partsOf (f .it)) y → PartAt s t x y
+  pub part-at : joint ≡ true → {y : ℕ} → In (partsOf (f .it)) y → PartAt s t x y
   unfolding partAt
   part-at h {y} i = let p = take-at (drop (tailAt t x + 1) s) (countAt s t x) (subst (λ ps. In ps y) (parts-are h) i) in record { at = p .place; inside = p .small; is = sym (getD-drop (tailAt t x + 1) s (p .place) 0) ∙ p .is }
 
@@ -138,22 +139,22 @@ module _ {s t : List ℕ} {n : ℕ} (r : Release s t) (names : n ≡ namesOf s) 
   pub ranges : Shaped n s t
   ranges = subst (λ k. Shaped k s t) (sym names) (linked.ranges r)
 
-  abbrev own : {a : Axiom} → In (axiomsOf s) a → Found s t n (a .left)
+  abbrev pub own : {a : Axiom} → In (axiomsOf s) a → Found s t n (a .left)
   own {a} i =
       let w : AxiomRow n s t a = subst (λ k. AxiomRow k s t a) (sym names) (linked.axiom-row r i) in
       record { it = a; member = i; left = refl; row = w; inside = λ h. ranges .inside (a .left) (formed .left-in i) (rw (w .kind) (joins-kind (isConjunction a) (a .defined) h)) }
 
-  find : (x : ℕ) → x < n → (kindAt t x ≡ 0 → ⊥) → Found s t n x
+  pub find : (x : ℕ) → x < n → (kindAt t x ≡ 0 → ⊥) → Found s t n x
   find x l k = by-row (linked.name-row r x (subst (λ m. x < m) names l))
     where
       by-row : NameRow (axiomsOf s) t x → Found s t n x
       by-row (no-axiom z f) = absurd (k z)
       by-row (has-axiom i e) = subst (Found s t n) e (own i)
 
-  joined : (x : ℕ) → x < n → joins (kindAt t x) ≡ true → Found s t n x
+  pub joined : (x : ℕ) → x < n → joins (kindAt t x) ≡ true → Found s t n x
   joined x l j = find x l (λ z. false≢true (rw z at j))
 
-  restricted : (x : ℕ) → x < n → restricts (kindAt t x) ≡ true → Found s t n x
+  pub restricted : (x : ℕ) → x < n → restricts (kindAt t x) ≡ true → Found s t n x
   restricted x l j = find x l (λ z. false≢true (rw z at j))
 
 -- a step is a rule

@@ -1,5 +1,5 @@
 -- Laws of the chains of names by filler.
---   indexed-none                                   before a name is put, all chains are empty
+--   indexed-none, indexed-filled                   before a name is put, all chains are empty
 --   unlinked, linked                               a name without a restriction is in no chain; one with a restriction begins its chain
 --   Passed n t y P v                               on the way along the chain of y, at v: of the names passed, none has P
 --   NoneWith n t P y                               no name with the filler y has P
@@ -10,7 +10,7 @@ use mathlib.Core.List.{List}
 use Prim.Native.Nat.{ℕ, _+_, _≤_, _<_}
 use native.Mathlib.Omega.{arith}
 use native.Mathlib.Decide.{ℕ-discrete, decLt}
-use lib.ListN.{length, getD, set, length-set}
+use lib.ListN.{length, getD, set, length-set, replicate, length-replicate, getD-replicate}
 use lib.Seq.{getD-set-same, getD-set-other}
 use Rattle.release.specs.Files.{restricts}
 use Rattle.release.specs.Tables.{kindAt, fillerAt}
@@ -31,6 +31,11 @@ module _ {n : ℕ} {t : List ℕ} where
     first = λ y h. record { from = high y h; holds = λ l. absurd (omega (arith, high y h)); least = λ b k l m. absurd (omega arith) };
     next = λ b y h l. absurd (omega arith);
   }
+
+  -- memory that is filled with a number above all names
+  pub indexed-filled : {k u : ℕ} → n + 1 + n ≤ k → n ≤ u → Indexed n t n (replicate k u)
+  unfolding firstAt
+  indexed-filled {k} {u} long high = indexed-none (rw (length-replicate {A = ℕ} k u) long) (λ y h. rw (getD-replicate k y u 0 (omega arith)) high)
 
   pub indexed-at : {j k : ℕ} {f : List ℕ} → k ≡ j → Indexed n t j f → Indexed n t k f
   indexed-at e i = rw e i

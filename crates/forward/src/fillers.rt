@@ -5,7 +5,17 @@ ghost use Prim.Native.Nat.{_+_, _≤_, _<_};
 ghost use Rattle.layout.specs.Layouts.{Rowed};
 ghost use Rattle.forward.specs.Fillers.{firstAt, nextAt, HasFirst, HasNext, Indexed};
 use layout::is_restriction;
+use release::Release;
 use release::table;
+
+// The memory of the chains: a beginning for each node that there can be, and a successor for each name. NONE is no name's number.
+pub struct Chains {}
+
+impl Chains {
+    pub const LENGTH: usize = 2 * Release::NAMES + 1;
+
+    pub const NONE: u16 = 65535;
+}
 
 fn wide(x: u16) -> usize
     ensures { λ r. ⌜ r ≡ x ⌝ }

@@ -29,7 +29,15 @@ fn reaches(table: &[u16], work: &[u8], layout: Layout, y: usize, role: usize, na
 
 // Whether y has an edge with the role by the second release, to a node that `end` is not marked with. Candidates are the nodes
 // that are not marked, and for each the names that have it as filler. The first one found ends both loops.
-pub fn has_partner(table: &[u16], fillers: &[u16], work: &[u8], layout: Layout, end: usize, y: usize, role: usize) -> bool
+pub fn has_partner(
+    table: &[u16],
+    fillers: &[u16],
+    work: &[u8],
+    layout: Layout,
+    end: usize,
+    y: usize,
+    role: usize,
+) -> bool
     requires { ⌜ Rowed (layout .names) (now table) ⌝ }
     requires { ⌜ Indexed (layout .names) (now table) 0 (now fillers) ⌝ }
     requires { ⌜ Room (secondSquare layout) (now work) × Room (markSquare layout) (now work) ⌝ }

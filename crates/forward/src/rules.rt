@@ -53,7 +53,17 @@ pub fn some_name_lost(signature: &[u8], work: &[u8], layout: Layout, x: usize, y
 }
 
 // Whether b gives x an edge by the first release, with a role of the signature, that no edge of y is a partner of.
-fn edge_lost(signature: &[u8], first: &[u16], second: &[u16], fillers: &[u16], work: &[u8], layout: Layout, x: usize, y: usize, b: usize) -> bool
+fn edge_lost(
+    signature: &[u8],
+    first: &[u16],
+    second: &[u16],
+    fillers: &[u16],
+    work: &[u8],
+    layout: Layout,
+    x: usize,
+    y: usize,
+    b: usize,
+) -> bool
     requires { ⌜ Setting (now signature) (now first) (now second) (now fillers) layout (now work) ⌝ }
     requires { ⌜ (x ≤ layout .names) × (y ≤ layout .names) × (b < layout .names) ⌝ }
     ensures { λ r. ⌜ Tells r (EdgeLost (now (signature .entry)) (now (first .entry)) (now (second .entry)) layout (now (work .entry)) x y b) ⌝ }
@@ -76,7 +86,16 @@ fn edge_lost(signature: &[u8], first: &[u16], second: &[u16], fillers: &[u16], w
 }
 
 // Whether there is such an edge.
-pub fn some_edge_lost(signature: &[u8], first: &[u16], second: &[u16], fillers: &[u16], work: &[u8], layout: Layout, x: usize, y: usize) -> bool
+pub fn some_edge_lost(
+    signature: &[u8],
+    first: &[u16],
+    second: &[u16],
+    fillers: &[u16],
+    work: &[u8],
+    layout: Layout,
+    x: usize,
+    y: usize,
+) -> bool
     requires { ⌜ Setting (now signature) (now first) (now second) (now fillers) layout (now work) ⌝ }
     requires { ⌜ (x ≤ layout .names) × (y ≤ layout .names) ⌝ }
     ensures { λ r. ⌜ Tells r (SomeBelow (EdgeLost (now (signature .entry)) (now (first .entry)) (now (second .entry)) layout (now (work .entry)) x y) (layout .names)) ⌝ }

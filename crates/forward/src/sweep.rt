@@ -10,7 +10,16 @@ use layout::is_marked;
 use layout::mark;
 
 // Marks the pair x, y if a rule allows it. Whether the mark is new. A pair that is marked already is asked no rule.
-fn look(signature: &[u8], first: &[u16], second: &[u16], fillers: &[u16], work: &mut [u8], layout: Layout, x: usize, y: usize) -> bool
+fn look(
+    signature: &[u8],
+    first: &[u16],
+    second: &[u16],
+    fillers: &[u16],
+    work: &mut [u8],
+    layout: Layout,
+    x: usize,
+    y: usize,
+) -> bool
     requires { ⌜ Setting (now signature) (now first) (now second) (now fillers) layout (now work) ⌝ }
     requires { ⌜ (x ≤ layout .names) × (y ≤ layout .names) ⌝ }
     ensures { λ r. ⌜ Pass (Step (now (signature .entry)) (now (first .entry)) (now (second .entry)) layout) (markSquare layout) (Cell (now (signature .entry)) (now (first .entry)) (now (second .entry)) layout x y) (now (work .entry)) (now (work .exit)) r ⌝ }
@@ -28,7 +37,15 @@ fn look(signature: &[u8], first: &[u16], second: &[u16], fillers: &[u16], work: 
 }
 
 // One pass over row x. Whether a mark is new.
-fn row(signature: &[u8], first: &[u16], second: &[u16], fillers: &[u16], work: &mut [u8], layout: Layout, x: usize) -> bool
+fn row(
+    signature: &[u8],
+    first: &[u16],
+    second: &[u16],
+    fillers: &[u16],
+    work: &mut [u8],
+    layout: Layout,
+    x: usize,
+) -> bool
     requires { ⌜ Setting (now signature) (now first) (now second) (now fillers) layout (now work) ⌝ }
     requires { ⌜ x ≤ layout .names ⌝ }
     ensures { λ r. ⌜ Pass (Step (now (signature .entry)) (now (first .entry)) (now (second .entry)) layout) (markSquare layout) (Row (now (signature .entry)) (now (first .entry)) (now (second .entry)) layout x) (now (work .entry)) (now (work .exit)) r ⌝ }
@@ -46,7 +63,14 @@ fn row(signature: &[u8], first: &[u16], second: &[u16], fillers: &[u16], work: &
 }
 
 // One pass over all rows. Whether a mark is new.
-fn rows(signature: &[u8], first: &[u16], second: &[u16], fillers: &[u16], work: &mut [u8], layout: Layout) -> bool
+fn rows(
+    signature: &[u8],
+    first: &[u16],
+    second: &[u16],
+    fillers: &[u16],
+    work: &mut [u8],
+    layout: Layout,
+) -> bool
     requires { ⌜ Setting (now signature) (now first) (now second) (now fillers) layout (now work) ⌝ }
     ensures { λ r. ⌜ Pass (Step (now (signature .entry)) (now (first .entry)) (now (second .entry)) layout) (markSquare layout) (Below (Row (now (signature .entry)) (now (first .entry)) (now (second .entry)) layout) (suc (layout .names))) (now (work .entry)) (now (work .exit)) r ⌝ }
 {
@@ -63,7 +87,14 @@ fn rows(signature: &[u8], first: &[u16], second: &[u16], fillers: &[u16], work: 
 }
 
 // Passes until nothing is left to mark.
-pub fn close(signature: &[u8], first: &[u16], second: &[u16], fillers: &[u16], work: &mut [u8], layout: Layout)
+pub fn close(
+    signature: &[u8],
+    first: &[u16],
+    second: &[u16],
+    fillers: &[u16],
+    work: &mut [u8],
+    layout: Layout,
+)
     requires { ⌜ Setting (now signature) (now first) (now second) (now fillers) layout (now work) ⌝ }
     ensures { λ _. ⌜ Closed (Step (now (signature .entry)) (now (first .entry)) (now (second .entry)) layout) (markSquare layout) (Below (Row (now (signature .entry)) (now (first .entry)) (now (second .entry)) layout) (suc (layout .names))) (now (work .entry)) (now (work .exit)) ⌝ }
 {

@@ -1,3 +1,4 @@
 -- Laws of searches and layouts.
 pub mod Searches
 pub mod Layouts
+pub mod Comparing

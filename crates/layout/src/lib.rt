@@ -26,7 +26,15 @@ pub fn first_includes(work: &[u8], layout: Layout, x: usize, y: usize) -> bool
     requires { ⌜ (x ≤ layout .names) × (y ≤ layout .names) ⌝ }
     ensures { λ r. ⌜ Tells r (Marked (firstSquare layout) (now (work .entry)) x y) ⌝ }
 {
-    marks::is_marked(work, Square { base: layout.first, names: layout.names }, x, y)
+    marks::is_marked(
+        work,
+        Square {
+            base: layout.first,
+            names: layout.names,
+        },
+        x,
+        y,
+    )
 }
 
 // Whether x ⊑ y is derivable from the second release.
@@ -35,7 +43,15 @@ pub fn second_includes(work: &[u8], layout: Layout, x: usize, y: usize) -> bool
     requires { ⌜ (x ≤ layout .names) × (y ≤ layout .names) ⌝ }
     ensures { λ r. ⌜ Tells r (Marked (secondSquare layout) (now (work .entry)) x y) ⌝ }
 {
-    marks::is_marked(work, Square { base: layout.second, names: layout.names }, x, y)
+    marks::is_marked(
+        work,
+        Square {
+            base: layout.second,
+            names: layout.names,
+        },
+        x,
+        y,
+    )
 }
 
 // Whether the comparison has marked the pair x, y.
@@ -44,7 +60,15 @@ pub fn is_marked(work: &[u8], layout: Layout, x: usize, y: usize) -> bool
     requires { ⌜ (x ≤ layout .names) × (y ≤ layout .names) ⌝ }
     ensures { λ r. ⌜ Tells r (Marked (markSquare layout) (now (work .entry)) x y) ⌝ }
 {
-    marks::is_marked(work, Square { base: layout.marks, names: layout.names }, x, y)
+    marks::is_marked(
+        work,
+        Square {
+            base: layout.marks,
+            names: layout.names,
+        },
+        x,
+        y,
+    )
 }
 
 // Marks the pair x, y. Whether it was not marked yet.
@@ -53,7 +77,15 @@ pub fn mark(work: &mut [u8], layout: Layout, x: usize, y: usize) -> bool
     requires { ⌜ (x ≤ layout .names) × (y ≤ layout .names) ⌝ }
     ensures { λ r. ⌜ Put (markSquare layout) x y (now (work .entry)) (now (work .exit)) r ⌝ }
 {
-    marks::mark(work, Square { base: layout.marks, names: layout.names }, x, y)
+    marks::mark(
+        work,
+        Square {
+            base: layout.marks,
+            names: layout.names,
+        },
+        x,
+        y,
+    )
 }
 
 // Whether a name is in the signature.

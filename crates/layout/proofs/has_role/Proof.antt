@@ -15,11 +15,11 @@ shared-slice-read-result c = search needs
 
 -- src/lib.rt:76:9
 returns : tie.Need-returns
-returns c = role-inside (c  .before .before .before .before .args .layout) (c  .before .before .before .before .args .signature .now) (c  .before .before .before .before .args .role) (c  .before .before .if1 .taken)
+returns c = role-inside (c .before .before .before .before .args .layout) (c .before .before .before .before .args .signature .now) (c .before .before .before .before .args .role) (c .before .before .if1 .taken)
 
 -- src/lib.rt:71:1
 returns-2 : tie.Need-returns-2
-returns-2 c = role-outside (c  .before .before .args .layout) (c  .before .before .args .signature .now) (c  .before .before .args .role) (c .if1 .left)
+returns-2 c = role-outside (c .before .before .args .layout) (c .before .before .args .signature .now) (c .before .before .args .role) (c .if1 .left)
 
 pub has-role-spec : {M : Type 1} → statement M
 has-role-spec = tie.close (tie.spec add-result shared-slice-read-result returns returns-2)

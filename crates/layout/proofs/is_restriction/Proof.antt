@@ -13,11 +13,11 @@ kind-requires c κs = search needs
 
 -- src/lib.rt:88:9
 returns : tie.Need-returns
-returns c = rw (← c  .before .kind .ensures, eq-eqb _ _ (c .if1 .taken))
+returns c = rw (← c .before .kind .ensures, eq-eqb _ _ (c .if1 .taken))
 
 -- src/lib.rt:82:1
 returns-2 : tie.Need-returns-2
-returns-2 c = rw (← c  .before .kind .ensures, ne-eqb _ _ (c .if1 .left))
+returns-2 c = rw (← c .before .kind .ensures, ne-eqb _ _ (c .if1 .left))
 
 pub is-restriction-spec : {M : Type 1} → statement M
 is-restriction-spec = tie.close (tie.spec kind-requires returns returns-2)

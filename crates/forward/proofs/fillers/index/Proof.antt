@@ -19,7 +19,7 @@ abbrev μ-loop : tie.MeasureT-loop
 
 -- src/fillers.rt:62:5
 loop-holds : tie.Need-loop-holds Inv-loop μ-loop
-loop-holds c = (search needs, refl, c  .before .before .pre .1 .1)
+loop-holds c = (search needs, refl, c .before .before .pre .1 .1)
 
 -- src/fillers.rt:63:9
 sub-left : tie.Need-sub-left Inv-loop μ-loop
@@ -35,7 +35,7 @@ loop-less c = search needs
 
 -- src/fillers.rt:62:5
 loop-again : tie.Need-loop-again Inv-loop μ-loop
-loop-again c = (search needs, search needs, c  .before .before .link .ensures)
+loop-again c = (search needs, search needs, c .before .before .link .ensures)
 
 -- src/fillers.rt:55:1
 same-length : tie.Need-same-length Inv-loop μ-loop

@@ -51,15 +51,15 @@ search-less c = search needs
 
 -- src/partner.rt:41:5
 search-again : tie.Need-search-again Inv-loop μ-loop Inv-search μ-search
-search-again c = (search needs, c  .before .before .before .before .search .inv .1, each-more (c  .before .before .before .before .search .inv .2) (marked-none (c  .before .is-marked .ensures .sound (c .if2 .taken))))
+search-again c = (search needs, c .before .before .before .before .search .inv .1, each-more (c .before .before .before .before .search .inv .2) (marked-none (c .before .is-marked .ensures .sound (c .if2 .taken))))
 
 -- src/partner.rt:47:13
 first-requires : tie.Need-first-requires Inv-loop μ-loop Inv-search μ-search
-first-requires c κs = record { inside = omega (arith, c  .before .before .before .before .before .before .before .before .pre .1 .0 .long) }
+first-requires c κs = record { inside = omega (arith, c .before .before .before .before .before .before .before .before .pre .1 .0 .long) }
 
 -- src/partner.rt:48:9
 loop-holds : tie.Need-loop-holds Inv-loop μ-loop Inv-search μ-search
-loop-holds c = (c  .before .before .before .before .before .search .inv .1, passed-start (c .first .ensures) (c  .before .before .before .before .before .before .before .before .before .pre .1 .0 .first (c  .before .before .before .before .before .search .next) (c  .before .before .before .if1 .taken)))
+loop-holds c = (c .before .before .before .before .before .search .inv .1, passed-start (c .first .ensures) (c .before .before .before .before .before .before .before .before .before .pre .1 .0 .first (c .before .before .before .before .before .search .next) (c .before .before .before .if1 .taken)))
 
 -- src/partner.rt:41:5
 search-less-2 : tie.Need-search-less-2 Inv-loop μ-loop Inv-search μ-search
@@ -67,7 +67,7 @@ search-less-2 c = search needs
 
 -- src/partner.rt:41:5
 search-again-2 : tie.Need-search-again-2 Inv-loop μ-loop Inv-search μ-search
-search-again-2 c = (search needs, c  .before .before .loop .inv .0, each-more (c  .before .before .before .before .before .before .before .before .search .inv .2) (passed-end (c .if3 .left) (c  .before .before .loop .inv .1)))
+search-again-2 c = (search needs, c .before .before .loop .inv .0, each-more (c .before .before .before .before .before .before .before .before .search .inv .2) (passed-end (c .if3 .left) (c .before .before .loop .inv .1)))
 
 -- src/partner.rt:49:16
 reaches-requires : tie.Need-reaches-requires Inv-loop μ-loop Inv-search μ-search
@@ -75,23 +75,23 @@ reaches-requires c κs = search needs
 
 -- src/partner.rt:53:13
 next-requires : tie.Need-next-requires Inv-loop μ-loop Inv-search μ-search
-next-requires c κs = record { inside = omega (arith, c  .before .before .before .before .before .before .before .before .before .before .before .before .before .before .pre .1 .0 .long) }
+next-requires c κs = record { inside = omega (arith, c .before .before .before .before .before .before .before .before .before .before .before .before .before .before .pre .1 .0 .long) }
 
 -- src/partner.rt:48:9
 loop-less : tie.Need-loop-less Inv-loop μ-loop Inv-search μ-search
-loop-less c = omega (arith, c .next .ensures, c  .before .before .before .before .before .before .before .before .before .before .before .before .before .before .before .pre .1 .0 .next (c  .before .before .before .before .before .loop .name) (c  .before .before .before .before .before .before .before .before .before .before .before .search .next) (omega arith) (c  .before .before .before .if3 .taken) (c  .before .before .before .before .before .loop .inv .1 .here (c  .before .before .before .if3 .taken)) .from)
+loop-less c = omega (arith, c .next .ensures, c .before .before .before .before .before .before .before .before .before .before .before .before .before .before .before .pre .1 .0 .next (c .before .before .before .before .before .loop .name) (c .before .before .before .before .before .before .before .before .before .before .before .search .next) (omega arith) (c .before .before .before .if3 .taken) (c .before .before .before .before .before .loop .inv .1 .here (c .before .before .before .if3 .taken)) .from)
 
 -- src/partner.rt:48:9
 loop-again : tie.Need-loop-again Inv-loop μ-loop Inv-search μ-search
-loop-again c = (c  .before .before .before .before .before .loop .inv .0, passed-next (c  .before .before .before .before .before .loop .name) (c .next .ensures) (c  .before .before .before .before .before .loop .inv .1) (λ p. refuted (c  .before .before .reaches .ensures) (c  .before .if4 .left) (p .reaches)) (c  .before .before .before .before .before .before .before .before .before .before .before .before .before .before .before .pre .1 .0 .next (c  .before .before .before .before .before .loop .name) (c  .before .before .before .before .before .before .before .before .before .before .before .search .next) (omega arith) (c  .before .before .before .if3 .taken) (c  .before .before .before .before .before .loop .inv .1 .here (c  .before .before .before .if3 .taken))))
+loop-again c = (c .before .before .before .before .before .loop .inv .0, passed-next (c .before .before .before .before .before .loop .name) (c .next .ensures) (c .before .before .before .before .before .loop .inv .1) (λ p. refuted (c .before .before .reaches .ensures) (c .before .if4 .left) (p .reaches)) (c .before .before .before .before .before .before .before .before .before .before .before .before .before .before .before .pre .1 .0 .next (c .before .before .before .before .before .loop .name) (c .before .before .before .before .before .before .before .before .before .before .before .search .next) (omega arith) (c .before .before .before .if3 .taken) (c .before .before .before .before .before .loop .inv .1 .here (c .before .before .before .if3 .taken))))
 
 -- src/partner.rt:32:1
 returns : tie.Need-returns Inv-loop μ-loop Inv-search μ-search
-returns c = tells-none (c  .before .before .search .inv .1) (no-partner-found (c  .before .before .before .before .before .before .pre .0) (c .if1 .left) (c  .before .before .search .inv .2))
+returns c = tells-none (c .before .before .search .inv .1) (no-partner-found (c .before .before .before .before .before .before .pre .0) (c .if1 .left) (c .before .before .search .inv .2))
 
 -- src/partner.rt:32:1
 returns-2 : tie.Need-returns-2 Inv-loop μ-loop Inv-search μ-search
-returns-2 c = always (found-partner (c  .before .before .before .before .loop .name) (c  .before .before .if3 .taken) (c  .before .before .before .before .loop .inv .1 .here (c  .before .before .if3 .taken)) (c  .before .reaches .ensures .sound (c .if4 .taken)) (refuted (c  .before .before .before .before .before .before .before .is-marked .ensures) (c  .before .before .before .before .before .before .if2 .left)))
+returns-2 c = always (found-partner (c .before .before .before .before .loop .name) (c .before .before .if3 .taken) (c .before .before .before .before .loop .inv .1 .here (c .before .before .if3 .taken)) (c .before .reaches .ensures .sound (c .if4 .taken)) (refuted (c .before .before .before .before .before .before .before .is-marked .ensures) (c .before .before .before .before .before .before .if2 .left)))
 
 pub has-partner-spec : {M : Type 1} → statement M
 has-partner-spec =

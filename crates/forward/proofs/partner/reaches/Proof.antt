@@ -14,7 +14,7 @@ role-requires c κs = search needs
 
 -- src/partner.rt:25:9
 returns : tie.Need-returns
-returns c = never (λ p. c .if1 .taken (c  .before .role .ensures ∙ p .role))
+returns c = never (λ p. c .if1 .taken (c .before .role .ensures ∙ p .role))
 
 -- src/partner.rt:27:5
 second-includes-requires : tie.Need-second-includes-requires
@@ -22,7 +22,7 @@ second-includes-requires c κs = search needs
 
 -- src/partner.rt:17:1
 returns-2 : tie.Need-returns-2
-returns-2 c = tells-as (λ m. record { role = sym (c  .before .before .role .ensures) ∙ c  .before .if1 .left; second = m }) (λ p. p .second) (c .second-includes .ensures)
+returns-2 c = tells-as (λ m. record { role = sym (c .before .before .role .ensures) ∙ c .before .if1 .left; second = m }) (λ p. p .second) (c .second-includes .ensures)
 
 pub reaches-spec : {M : Type 1} → statement M
 reaches-spec = tie.close (tie.spec role-requires returns second-includes-requires returns-2)

@@ -37,27 +37,27 @@ filler-requires c κs = search needs
 
 -- src/rules.rt:66:20
 has-partner-requires : tie.Need-has-partner-requires
-has-partner-requires c κs = let p = c  .before .before .before .before .before .before .before .before .before .before .before .before .before .pre in (p .0 .places .second-table, (p .0 .indexed, ((p .0 .places .second, p .0 .places .marks), (omega (arith, c .filler .ensures, p .0 .places .first-table .filler (c  .before .before .before .before .before .before .before .before .before .before .before .before .before .args .b) (p .1 .2) (sym (c  .before .before .before .before .before .before .before .is-restriction .ensures) ∙ c  .before .before .before .before .before .before .if1 .taken)), p .1 .1))))
+has-partner-requires c κs = let p = c .before .before .before .before .before .before .before .before .before .before .before .before .before .pre in (p .0 .places .second-table, (p .0 .indexed, ((p .0 .places .second, p .0 .places .marks), (omega (arith, c .filler .ensures, p .0 .places .first-table .filler (c .before .before .before .before .before .before .before .before .before .before .before .before .before .args .b) (p .1 .2) (sym (c .before .before .before .before .before .before .before .is-restriction .ensures) ∙ c .before .before .before .before .before .before .if1 .taken)), p .1 .1))))
 
 -- src/rules.rt:67:21
 returns : tie.Need-returns
-returns c = never (edge-is-kept (c  .before .before .before .before .before .role .ensures) (c  .before .before .filler .ensures) (c  .before .has-partner .ensures .sound (c .if4 .taken)))
+returns c = never (edge-is-kept (c .before .before .before .before .before .role .ensures) (c .before .before .filler .ensures) (c .before .has-partner .ensures .sound (c .if4 .taken)))
 
 -- src/rules.rt:69:17
 returns-2 : tie.Need-returns-2
-returns-2 c = always (edge-is-lost (sym (c  .before .before .before .before .before .before .before .before .before .is-restriction .ensures) ∙ c  .before .before .before .before .before .before .before .before .if1 .taken) (c  .before .before .before .before .before .before .before .first-includes .ensures .sound (c  .before .before .before .before .before .before .if2 .taken)) (c  .before .before .before .before .before .role .ensures) (sym (c  .before .before .before .before .has-role .ensures) ∙ c  .before .before .before .if3 .taken) (c  .before .before .filler .ensures) (refuted (c  .before .has-partner .ensures) (c .if4 .left)))
+returns-2 c = always (edge-is-lost (sym (c .before .before .before .before .before .before .before .before .before .is-restriction .ensures) ∙ c .before .before .before .before .before .before .before .before .if1 .taken) (c .before .before .before .before .before .before .before .first-includes .ensures .sound (c .before .before .before .before .before .before .if2 .taken)) (c .before .before .before .before .before .role .ensures) (sym (c .before .before .before .before .has-role .ensures) ∙ c .before .before .before .if3 .taken) (c .before .before .filler .ensures) (refuted (c .before .has-partner .ensures) (c .if4 .left)))
 
 -- src/rules.rt:71:13
 returns-3 : tie.Need-returns-3
-returns-3 c = never (role-not-chosen (c  .before .before .role .ensures) (sym (c  .before .has-role .ensures) ∙ c .if3 .left))
+returns-3 c = never (role-not-chosen (c .before .before .role .ensures) (sym (c .before .has-role .ensures) ∙ c .if3 .left))
 
 -- src/rules.rt:73:9
 returns-4 : tie.Need-returns-4
-returns-4 c = never (λ e. refuted (c  .before .first-includes .ensures) (c .if2 .left) (e .first))
+returns-4 c = never (λ e. refuted (c .before .first-includes .ensures) (c .if2 .left) (e .first))
 
 -- src/rules.rt:56:1
 returns-5 : tie.Need-returns-5
-returns-5 c = never (λ e. not-both (e .is-restriction) (sym (c  .before .is-restriction .ensures) ∙ c .if1 .left))
+returns-5 c = never (λ e. not-both (e .is-restriction) (sym (c .before .is-restriction .ensures) ∙ c .if1 .left))
 
 pub edge-lost-spec : {M : Type 1} → statement M
 edge-lost-spec =

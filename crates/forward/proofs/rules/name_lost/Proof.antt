@@ -24,19 +24,19 @@ second-includes-requires c κs = search needs
 
 -- src/rules.rt:29:17
 returns : tie.Need-returns
-returns c = never (λ p. p .not-second (c  .before .second-includes .ensures .sound (c .if3 .taken)))
+returns c = never (λ p. p .not-second (c .before .second-includes .ensures .sound (c .if3 .taken)))
 
 -- src/rules.rt:31:13
 returns-2 : tie.Need-returns-2
-returns-2 c = always (record { chosen-name = sym (c  .before .before .before .before .before .has-name .ensures) ∙ c  .before .before .before .before .if1 .taken; first = c  .before .before .before .first-includes .ensures .sound (c  .before .before .if2 .taken); not-second = refuted (c  .before .second-includes .ensures) (c .if3 .left) })
+returns-2 c = always (record { chosen-name = sym (c .before .before .before .before .before .has-name .ensures) ∙ c .before .before .before .before .if1 .taken; first = c .before .before .before .first-includes .ensures .sound (c .before .before .if2 .taken); not-second = refuted (c .before .second-includes .ensures) (c .if3 .left) })
 
 -- src/rules.rt:33:9
 returns-3 : tie.Need-returns-3
-returns-3 c = never (λ p. refuted (c  .before .first-includes .ensures) (c .if2 .left) (p .first))
+returns-3 c = never (λ p. refuted (c .before .first-includes .ensures) (c .if2 .left) (p .first))
 
 -- src/rules.rt:20:1
 returns-4 : tie.Need-returns-4
-returns-4 c = never (λ p. not-both (p .chosen-name) (sym (c  .before .has-name .ensures) ∙ c .if1 .left))
+returns-4 c = never (λ p. not-both (p .chosen-name) (sym (c .before .has-name .ensures) ∙ c .if1 .left))
 
 pub name-lost-spec : {M : Type 1} → statement M
 name-lost-spec =

@@ -27,7 +27,7 @@ edge-lost-requires c κs = search needs
 
 -- src/rules.rt:87:13
 returns : tie.Need-returns Inv-loop μ-loop
-returns c = always (record { it = c  .before .before .before .before .loop .b; below = c  .before .before .if1 .taken; holds = c  .before .edge-lost .ensures .sound (c .if2 .taken) })
+returns c = always (record { it = c .before .before .before .before .loop .b; below = c .before .before .if1 .taken; holds = c .before .edge-lost .ensures .sound (c .if2 .taken) })
 
 -- src/rules.rt:89:9
 add-b : tie.Need-add-b Inv-loop μ-loop
@@ -39,11 +39,11 @@ loop-less c = search needs
 
 -- src/rules.rt:85:5
 loop-again : tie.Need-loop-again Inv-loop μ-loop
-loop-again c = (search needs, none-more (c  .before .before .before .before .loop .inv .1) (refuted (c  .before .edge-lost .ensures) (c .if2 .left)))
+loop-again c = (search needs, none-more (c .before .before .before .before .loop .inv .1) (refuted (c .before .edge-lost .ensures) (c .if2 .left)))
 
 -- src/rules.rt:79:1
 returns-2 : tie.Need-returns-2 Inv-loop μ-loop
-returns-2 c = never (none-end (c .if1 .left) (c  .before .before .loop .inv .1))
+returns-2 c = never (none-end (c .if1 .left) (c .before .before .loop .inv .1))
 
 pub some-edge-lost-spec : {M : Type 1} → statement M
 some-edge-lost-spec =

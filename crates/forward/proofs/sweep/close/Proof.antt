@@ -24,15 +24,15 @@ loop-holds c = (refl, none)
 
 -- src/sweep.rt:70:11
 rows-requires : tie.Need-rows-requires Inv-loop μ-loop
-rows-requires c κs = setting-stays (c  .before .loop .inv .1) (c  .before .before .before .before .before .before .before .pre)
+rows-requires c κs = setting-stays (c .before .loop .inv .1) (c .before .before .before .before .before .before .before .pre)
 
 -- src/sweep.rt:70:5
 loop-less : tie.Need-loop-less Inv-loop μ-loop
-loop-less c = c  .before .before .before .rows .ensures .fewer (c .if1 .taken)
+loop-less c = c .before .before .before .rows .ensures .fewer (c .if1 .taken)
 
 -- src/sweep.rt:70:5
 loop-again : tie.Need-loop-again Inv-loop μ-loop
-loop-again c = (search needs, grows-further (c  .before .before .before .before .before .loop .inv .1) (c  .before .before .before .rows .ensures .grows))
+loop-again c = (search needs, grows-further (c .before .before .before .before .before .loop .inv .1) (c .before .before .before .rows .ensures .grows))
 
 -- src/sweep.rt:66:1
 same-length : tie.Need-same-length Inv-loop μ-loop
@@ -40,7 +40,7 @@ same-length c = search needs
 
 -- src/sweep.rt:66:1
 returns : tie.Need-returns Inv-loop μ-loop
-returns c = pass-closed (c  .before .before .before .before .before .loop .inv .1) (c  .before .before .before .rows .ensures) (c .if1 .left)
+returns c = pass-closed (c .before .before .before .before .before .loop .inv .1) (c .before .before .before .rows .ensures) (c .if1 .left)
 
 pub close-spec : {M : Type 1} → statement M
 close-spec =

@@ -21,7 +21,7 @@ same-length c = search needs
 
 -- src/sweep.rt:19:9
 returns : tie.Need-returns
-returns c = cell-marked (c  .before .is-marked .ensures .sound (c .if1 .taken))
+returns c = cell-marked (c .before .is-marked .ensures .sound (c .if1 .taken))
 
 -- src/sweep.rt:21:8
 some-name-lost-requires : tie.Need-some-name-lost-requires
@@ -37,7 +37,7 @@ same-length-2 c = search needs
 
 -- src/sweep.rt:22:9
 returns-2 : tie.Need-returns-2
-returns-2 c = let p = c  .before .before .before .before .before .before .before .before .before .before .before .before .before .before .before .pre in cell-put (p .0 .places .marks) (p .1 .0) (p .1 .1) (by-name (c  .before .before .before .before .before .some-name-lost .ensures .sound (c  .before .before .before .before .if2 .taken))) (c  .before .before .mark .ensures)
+returns-2 c = let p = c .before .before .before .before .before .before .before .before .before .before .before .before .before .before .before .pre in cell-put (p .0 .places .marks) (p .1 .0) (p .1 .1) (by-name (c .before .before .before .before .before .some-name-lost .ensures .sound (c .before .before .before .before .if2 .taken))) (c .before .before .mark .ensures)
 
 -- src/sweep.rt:24:8
 some-edge-lost-requires : tie.Need-some-edge-lost-requires
@@ -53,7 +53,7 @@ same-length-3 c = search needs
 
 -- src/sweep.rt:25:9
 returns-3 : tie.Need-returns-3
-returns-3 c = let p = c  .before .before .before .before .before .before .before .before .before .before .before .before .before .before .before .before .before .before .pre in cell-put (p .0 .places .marks) (p .1 .0) (p .1 .1) (by-edge (c  .before .before .before .before .before .some-edge-lost .ensures .sound (c  .before .before .before .before .if3 .taken))) (c  .before .before .mark2 .ensures)
+returns-3 c = let p = c .before .before .before .before .before .before .before .before .before .before .before .before .before .before .before .before .before .before .pre in cell-put (p .0 .places .marks) (p .1 .0) (p .1 .1) (by-edge (c .before .before .before .before .before .some-edge-lost .ensures .sound (c .before .before .before .before .if3 .taken))) (c .before .before .mark2 .ensures)
 
 -- src/sweep.rt:13:1
 same-length-4 : tie.Need-same-length-4
@@ -61,7 +61,7 @@ same-length-4 c = search needs
 
 -- src/sweep.rt:13:1
 returns-4 : tie.Need-returns-4
-returns-4 c = cell-none (refuted (c  .before .before .before .before .some-name-lost .ensures) (c  .before .before .before .if2 .left)) (refuted (c  .before .some-edge-lost .ensures) (c .if3 .left))
+returns-4 c = cell-none (refuted (c .before .before .before .before .some-name-lost .ensures) (c .before .before .before .if2 .left)) (refuted (c .before .some-edge-lost .ensures) (c .if3 .left))
 
 pub look-spec : {M : Type 1} → statement M
 look-spec =

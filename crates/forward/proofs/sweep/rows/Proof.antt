@@ -29,7 +29,7 @@ add-next c = search needs
 
 -- src/sweep.rt:58:12
 row-requires : tie.Need-row-requires Inv-loop μ-loop
-row-requires c κs = (setting-stays (c  .before .before .before .loop .inv .2 .grows) (c  .before .before .before .before .before .before .before .before .before .pre), c  .before .if1 .taken)
+row-requires c κs = (setting-stays (c .before .before .before .loop .inv .2 .grows) (c .before .before .before .before .before .before .before .before .before .pre), c .before .if1 .taken)
 
 -- src/sweep.rt:55:5
 loop-less : tie.Need-loop-less Inv-loop μ-loop
@@ -37,7 +37,7 @@ loop-less c = search needs
 
 -- src/sweep.rt:55:5
 loop-again : tie.Need-loop-again Inv-loop μ-loop
-loop-again c = (search needs, search needs, turn-changed (c  .before .before .before .before .before .before .before .loop .inv .2) (c  .before .before .before .row .ensures) (c .if2 .taken))
+loop-again c = (search needs, search needs, turn-changed (c .before .before .before .before .before .before .before .loop .inv .2) (c .before .before .before .row .ensures) (c .if2 .taken))
 
 -- src/sweep.rt:55:5
 loop-less-2 : tie.Need-loop-less-2 Inv-loop μ-loop
@@ -45,7 +45,7 @@ loop-less-2 c = search needs
 
 -- src/sweep.rt:55:5
 loop-again-2 : tie.Need-loop-again-2 Inv-loop μ-loop
-loop-again-2 c = (search needs, search needs, turn-unchanged (c  .before .before .before .before .before .before .before .loop .inv .2) (c  .before .before .before .row .ensures) (c .if2 .left))
+loop-again-2 c = (search needs, search needs, turn-unchanged (c .before .before .before .before .before .before .before .loop .inv .2) (c .before .before .before .row .ensures) (c .if2 .left))
 
 -- src/sweep.rt:49:1
 same-length : tie.Need-same-length Inv-loop μ-loop
@@ -53,7 +53,7 @@ same-length c = search needs
 
 -- src/sweep.rt:49:1
 returns : tie.Need-returns Inv-loop μ-loop
-returns c = turns-end (c .if1 .left) (c  .before .before .loop .inv .2)
+returns c = turns-end (c .if1 .left) (c .before .before .loop .inv .2)
 
 pub rows-spec : {M : Type 1} → statement M
 rows-spec =
