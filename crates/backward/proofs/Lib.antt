@@ -1,0 +1,2 @@
+-- Laws of backward marks.
+pub mod Tested

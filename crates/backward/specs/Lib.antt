@@ -1,0 +1,2 @@
+-- Backward marks. To be read in this order.
+pub mod Rules
