@@ -6,18 +6,19 @@
 use mathlib.Core.Path.{_≡_, refl, sym, _∙_}
 use mathlib.Core.Bool.{Bool, true, false, false≢true}
 use mathlib.Core.List.{List}
-use Prim.Native.Nat.{ℕ, _+_, _≤_, _<_}
+use Prim.Native.Nat.{ℕ, _≤_, _<_}
 use native.Mathlib.Omega.{arith}
 use Rattle.el.proofs.Tests.{Tells, tells-as, never, always}
+use Rattle.el.proofs.Derivations.{Serves}
 use Rattle.release.specs.Files.{joins, restricts}
-use Rattle.release.specs.Tables.{kindAt, roleAt, fillerAt, countAt, partAt, HasRow, HasCount, HasPart, Shaped, Conjunctive}
+use Rattle.release.specs.Tables.{kindAt, roleAt, fillerAt, countAt, partAt, HasRow, Conjunctive}
 use Rattle.release.proofs.Faults.{restricts-not-joins}
 use Rattle.marks.specs.declared.Square.{Square}
 use Rattle.marks.specs.Squares.{Room, Marked, Put}
 use Rattle.marks.specs.Passes.{Grows, Pass, Below, Due}
 use Rattle.marks.proofs.Squares.{refuted}
 use Rattle.marks.proofs.Passes.{room-stays, marks-stay, below-end, pass-none, pass-as, pass-with, pass-changed, pass-unchanged, put-pass, due-as}
-use Rattle.classification.specs.Steps.{PartMarked, Gathers, Fills, Step, to-itself, to-top, to-part, to-gathered, to-filled, Filled, Spread, Looked, Seeded, Seeds, Row, Setting, InRow, Source, Pair, Hint}
+use Rattle.classification.specs.Steps.{PartMarked, Gathers, Fills, Step, to-itself, to-top, to-part, to-gathered, to-filled, Filled, Spread, Looked, Seeds, Row, Setting, InRow, Source, Pair, Hint}
 
 not-both : {A : Type 0} (k : ℕ) → joins k ≡ true → restricts k ≡ true → A
 not-both k j r = absurd (false≢true (sym (restricts-not-joins k r) ∙ j))
@@ -68,7 +69,7 @@ module _ {t : List ℕ} {q : Square} {w : List ℕ} {x b y : ℕ} (h : Pair t q 
   pub fillers-small : {k under over : ℕ} → k ≡ kindAt t y → k ≡ 4 → under ≡ fillerAt t b → over ≡ fillerAt t y → (under ≤ q .names) × (over ≤ q .names)
   fillers-small e f g i = let z : restricts (kindAt t y) ≡ true = rw (← e, f) refl in (rw g (h .fillers b (h .left) (h .is-restriction)), rw i (h .fillers y (h .right) z))
 
-pub due-fill : {t : List ℕ} {q : Square} {w : List ℕ} {x b y k role role-y under over : ℕ} {r : Bool} → k ≡ kindAt t y → k ≡ 4 → role ≡ roleAt t b → role-y ≡ roleAt t y → role ≡ role-y → under ≡ fillerAt t b → over ≡ fillerAt t y → Tells r (Marked q w under over) → Due r (Fills t q b y w) (Marked q w x y)
+pub due-fill : {t : List ℕ} {q : Square} {w : List ℕ} {x b y k role role-y under over : ℕ} {r : Bool} → k ≡ kindAt t y → k ≡ 4 → role ≡ roleAt t b → role-y ≡ roleAt t y → Serves role role-y → under ≡ fillerAt t b → over ≡ fillerAt t y → Tells r (Marked q w under over) → Due r (Fills t q b y w) (Marked q w x y)
 due-fill e four f g same i j m = due-as (tells-as (λ z. record { kind = sym e ∙ four; role = sym f ∙ same ∙ g; filler = rw (← i, ← j) z }) (λ z. rw (i, j) (z .filler)) m)
 
 -- the conjuncts of a name, all marked or one not

@@ -1,7 +1,8 @@
 -- What the square holds when no row has anything left to mark: the inclusions.
 --   classified       what classifying gives
+--   inclusions-stay  a change elsewhere leaves them
 --   table-by         such a square is a Table, from which forward and backward marks are computed
-use mathlib.Core.Path.{_≡_, refl, sym, subst}
+use mathlib.Core.Path.{_≡_, refl}
 use mathlib.Core.Bool.{true}
 use mathlib.Core.List.{List}
 use Prim.Native.Nat.{ℕ, suc, _≤_}
@@ -12,13 +13,15 @@ use Rattle.release.specs.Files.{namesOf, axiomsOf}
 use Rattle.release.specs.Readings.{nodeNumber}
 use Rattle.release.specs.Tables.{Release}
 use Rattle.marks.specs.declared.Square.{Square}
-use Rattle.marks.specs.Squares.{Marked}
+use Rattle.marks.specs.Squares.{Marked, Apart, Frame}
 use Rattle.marks.specs.Passes.{Closed, Below, AllGood}
+use Rattle.marks.proofs.Squares.{frame-marked, marked-frame}
 use Rattle.marks.proofs.Passes.{grows-frame, grows-good, unmarked-good}
 use Rattle.classification.specs.Inclusions.{nodeAt, says, Unclassified, Inclusions, Classified}
 use Rattle.classification.specs.Steps.{Step, Row, Setting}
 use Rattle.classification.proofs.Nodes.{at-node, number-at, at-number, number-small, said, marked}
-use Rattle.classification.proofs.Bridge.{formed, ranges, step-includes, rows-closed}
+use Rattle.classification.proofs.AxiomRows.{formed, ranges}
+use Rattle.classification.proofs.Bridge.{step-includes, rows-closed}
 
 abbrev Means : List ℕ → ℕ → ℕ → ℕ → Type 0
 Means s n x y = Included (axiomsOf s) (nodeAt n x) (nodeAt n y)
@@ -42,6 +45,10 @@ classified {v = v} u c = record {
   frame = grows-frame (c .grows);
   inclusions = record { sound = grows-good (λ z x y g k h l o. step-sound (u .release) (u .names) z x y k h l o) (unmarked-good (u .unmarked)) (c .grows) .good; complete = rows-complete (u .release) (u .names) v (c .done) };
 }
+
+-- a square apart from the one that changed keeps them
+pub inclusions-stay : {s : List ℕ} {p q : Square} {w v : List ℕ} → Frame q w v → Apart p q → Inclusions s p w → Inclusions s p v
+inclusions-stay f apart m = record { sound = λ x y h l k. m .sound x y h l (marked-frame f apart h l k); complete = λ x y h l k. frame-marked f apart h l (m .complete x y h l k) }
 
 -- the square as a table over the nodes
 module _ {s : List ℕ} {q : Square} {w : List ℕ} (m : Inclusions s q w) where

@@ -3,14 +3,12 @@
 --   at-node, number-small      the numbers up to n are the nodes' numbers
 --   said, marked               the test says what the square marks
 use mathlib.Core.Path.{_≡_, refl, sym}
-use mathlib.Core.Bool.{Bool, true, false}
+use mathlib.Core.Bool.{true}
 use mathlib.Core.List.{List}
 use Prim.Native.Nat.{ℕ, _≤_, _<_}
 use native.Mathlib.Omega.{arith}
 use native.Mathlib.Decide.{ℕ-discrete}
 use borrow.Author.Tests.{eqb-true, eq-eqb, ne-eqb}
-use lib.Dec.{eqb}
-use Rattle.el.specs.Lists.{pick}
 use Rattle.el.specs.Concepts.{Node, everything, named}
 use Rattle.el.proofs.Nodes.{IsNode, top-node, name-node}
 use Rattle.release.specs.Readings.{nodeNumber}

@@ -9,8 +9,9 @@
 use mathlib.Core.Path.{_≡_}
 use mathlib.Core.Bool.{Bool, true}
 use mathlib.Core.List.{List}
-use Prim.Native.Nat.{ℕ, suc, _*_, _≤_, _<_}
+use Prim.Native.Nat.{ℕ, _*_, _≤_, _<_}
 use lib.ListN.{length}
+use Rattle.el.proofs.Derivations.{Serves}
 use Rattle.release.specs.Files.{joins, restricts}
 use Rattle.release.specs.Tables.{kindAt, roleAt, fillerAt, countAt, partAt, Shaped}
 use Rattle.marks.specs.declared.Square.{Square}
@@ -27,7 +28,7 @@ pub record Gathers (s t : List ℕ) (q : Square) (x y : ℕ) (w : List ℕ) : Ty
 
 pub record Fills (t : List ℕ) (q : Square) (b y : ℕ) (w : List ℕ) : Type 0 where
   pub kind : kindAt t y ≡ 4
-  pub role : roleAt t b ≡ roleAt t y
+  pub role : Serves (roleAt t b) (roleAt t y)
   pub filler : Marked q w (fillerAt t b) (fillerAt t y)
 
 pub data Step (s t : List ℕ) (q : Square) (w : List ℕ) (x y : ℕ) : Type 0 where

@@ -1,4 +1,5 @@
-use mathlib.Core.Path.{_≡_, sym, _∙_}
+use mathlib.Core.Path.{sym, _∙_}
+use native.Mathlib.Omega.{arith}
 use Rattle.marks.proofs.Passes.{due-there, due-not}
 use Rattle.classification.proofs.Marking.{fillers-small, due-fill}
 use borrow.Author.Needs.{needs}
@@ -39,7 +40,10 @@ filler-requires-2 : tie.Need-filler-requires-2
 filler-requires-2 c κs = search needs
 
 is-marked-requires-2 : tie.Need-is-marked-requires-2
-is-marked-requires-2 c κs = (c .before .before .before .before .before .before .before .before .before .before .before .pre .room, fillers-small (c .before .before .before .before .before .before .before .before .before .before .before .pre) (c .before .before .before .before .before .before .kind .ensures) (c .before .before .before .before .before .if2 .left) (c .before .filler .ensures) (c .filler2 .ensures))
+is-marked-requires-2 c κs =
+    let h = c .before .before .before .before .before .before .before .before .before .before .before .pre in
+    let small = fillers-small h (c .before .before .before .before .before .before .kind .ensures) (c .before .before .before .before .before .if2 .left) (c .before .filler .ensures) (c .filler2 .ensures) in
+    (h .room, omega (arith, small .0, small .1))
 
 returns-4 : tie.Need-returns-4
 returns-4 c = due-fill (c .before .before .before .before .before .before .before .kind .ensures) (c .before .before .before .before .before .before .if2 .left) (c .before .before .before .before .before .role .ensures) (c .before .before .before .before .role2 .ensures) (c .before .before .before .if3 .left) (c .before .before .filler .ensures) (c .before .filler2 .ensures) (c .is-marked2 .ensures)

@@ -1,11 +1,8 @@
 use Prim.Native.Nat.{_≤_, _-_}
-use mathlib.Core.Path.{_≡_, refl, sym, _∙_}
-use mathlib.Core.Bool.{true}
+use mathlib.Core.Path.{_∙_}
 use native.Mathlib.Omega.{arith}
 use borrow.Author.Needs.{needs}
 use Rattle.el.proofs.Tests.{never}
-use Rattle.release.specs.Files.{joins}
-use Rattle.release.specs.Tables.{kindAt}
 use Rattle.release.proofs.DefinedParts.{has-count, has-part}
 use Rattle.marks.specs.Passes.{Below}
 use Rattle.marks.proofs.Passes.{below-none, below-more}

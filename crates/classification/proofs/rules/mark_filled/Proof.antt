@@ -4,7 +4,7 @@ use native.Mathlib.Omega.{arith}
 use borrow.Author.Needs.{needs}
 use lib.ListN.{length}
 use Rattle.marks.specs.Passes.{Pass, Below}
-use Rattle.marks.proofs.Passes.{room-stays, turns-none, turn-changed, turn-unchanged, turn-skipped, turns-end}
+use Rattle.marks.proofs.Passes.{turns-none, turn-changed, turn-unchanged, turn-skipped, turns-end}
 use Rattle.classification.specs.Steps.{Step, Filled}
 use Rattle.classification.proofs.Marking.{source-stays, pair, fill-pass, filled}
 use Rattle.classification.proofs.rules.mark_filled.Statement.{statement}

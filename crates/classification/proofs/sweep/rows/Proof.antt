@@ -27,7 +27,7 @@ add-next : tie.Need-add-next Inv-loop μ-loop
 add-next c = omega (arith, c .before .before .before .before .before .before .pre .room .small .few)
 
 row-requires : tie.Need-row-requires Inv-loop μ-loop
-row-requires c κs = (setting-stays (c .before .before .before .loop .inv .2 .grows) (c .before .before .before .before .before .before .before .pre), c .before .if1 .taken)
+row-requires c κs = (setting-stays (c .before .before .before .loop .inv .2 .grows) (c .before .before .before .before .before .before .before .pre), omega (arith, c .before .if1 .taken))
 
 loop-less : tie.Need-loop-less Inv-loop μ-loop
 loop-less c = search needs
