@@ -24,7 +24,7 @@ use Rattle.marks.specs.Squares.{Marked}
 use Rattle.marks.specs.Passes.{Below}
 use Rattle.classification.specs.Inclusions.{nodeAt, says}
 use Rattle.classification.proofs.Nodes.{at-top, number-at, number-small, said, marked}
-use Rattle.classification.proofs.Bridge.{Found, defined-conjunction, defined-restriction, role-is, name-is, filler-is, part-in, part-at, formed, own}
+use Rattle.classification.proofs.AxiomRows.{Found, defined-conjunction, defined-restriction, role-is, name-is, filler-is, part-in, part-at, formed, own}
 use Rattle.layout.specs.declared.Layout.{Layout}
 use Rattle.layout.specs.Layouts.{firstSquare, secondSquare, markSquare, chosen}
 use Rattle.layout.specs.Searches.{SomeBelow, EachBelow}

@@ -17,7 +17,7 @@ use Rattle.release.specs.Readings.{nodeNumber}
 use Rattle.release.specs.Tables.{kindAt, Release}
 use Rattle.classification.specs.Inclusions.{nodeAt}
 use Rattle.classification.proofs.Nodes.{at-name}
-use Rattle.classification.proofs.Bridge.{Found, defined-conjunction, defined-restriction, is-2, is-4, role-is, formed, own, find}
+use Rattle.classification.proofs.AxiomRows.{Found, defined-conjunction, defined-restriction, is-2, is-4, role-is, formed, own, find}
 use Rattle.backward.specs.Rules.{Filled}
 
 module _ {s t : List ℕ} {n : ℕ} (r : Release s t) (names : n ≡ namesOf s) where

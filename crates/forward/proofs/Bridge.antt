@@ -22,7 +22,7 @@ use Rattle.marks.specs.Squares.{Marked}
 use Rattle.marks.specs.Passes.{Below}
 use Rattle.classification.specs.Inclusions.{nodeAt, says}
 use Rattle.classification.proofs.Nodes.{number-at, number-small, said, marked}
-use Rattle.classification.proofs.Bridge.{Found, is-restriction, restriction-restricts, role-is, filler-is, formed, own, restricted}
+use Rattle.classification.proofs.AxiomRows.{Found, is-restriction, restriction-restricts, role-is, filler-is, formed, own, restricted}
 use Rattle.layout.specs.declared.Layout.{Layout}
 use Rattle.layout.specs.Layouts.{firstSquare, secondSquare, markSquare, chosen}
 use Rattle.layout.specs.Searches.{SomeBelow}

@@ -2,6 +2,7 @@
 // holds is said in specs/Fillers.
 ghost use mathlib.Core.Path.{_≡_};
 ghost use Prim.Native.Nat.{_+_, _≤_, _<_};
+ghost use Rattle.release.specs.Files.{mostNames};
 ghost use Rattle.layout.specs.Layouts.{Rowed};
 ghost use Rattle.forward.specs.Fillers.{firstAt, nextAt, HasFirst, HasNext, Indexed};
 use layout::is_restriction;
@@ -49,7 +50,7 @@ pub fn next(fillers: &[u16], names: usize, name: usize) -> usize
 // Puts a name before the later ones with the same filler.
 fn link(table: &[u16], fillers: &mut [u16], names: usize, name: usize)
     requires { ⌜ Rowed names (now table) ⌝ }
-    requires { ⌜ (names ≤ 4095) × (name < names) ⌝ }
+    requires { ⌜ (names ≤ mostNames) × (name < names) ⌝ }
     requires { ⌜ Indexed names (now table) (name + 1) (now fillers) ⌝ }
     ensures { λ _. ⌜ Indexed names (now (table .entry)) name (now (fillers .exit)) ⌝ }
 {
@@ -64,7 +65,7 @@ fn link(table: &[u16], fillers: &mut [u16], names: usize, name: usize)
 // Puts all names into their chains, the last one first.
 pub fn index(table: &[u16], fillers: &mut [u16], names: usize)
     requires { ⌜ Rowed names (now table) ⌝ }
-    requires { ⌜ names ≤ 4095 ⌝ }
+    requires { ⌜ names ≤ mostNames ⌝ }
     requires { ⌜ Indexed names (now table) names (now fillers) ⌝ }
     ensures { λ _. ⌜ Indexed names (now (table .entry)) 0 (now (fillers .exit)) ⌝ }
 {

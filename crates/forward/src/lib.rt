@@ -1,5 +1,6 @@
 // Forward marks: the pairs x, y such that some signature concept lies above x by the first release and not above y by the second.
 ghost use Prim.Native.Nat.{_≤_};
+ghost use Rattle.release.specs.Files.{mostNames};
 ghost use Rattle.layout.specs.Layouts.{Setting};
 ghost use Rattle.forward.specs.Forward.{ForwardFrom};
 use crate::fillers::Chains;
@@ -19,7 +20,7 @@ pub fn mark_lost_above(
     layout: Layout,
 )
     requires { ⌜ Setting (now signature) (now first) (now second) layout (now work) ⌝ }
-    requires { ⌜ layout .names ≤ 127 ⌝ }
+    requires { ⌜ layout .names ≤ mostNames ⌝ }
     ensures { λ _. ⌜ ForwardFrom (now (signature .entry)) (now (first .entry)) (now (second .entry)) layout (now (work .entry)) (now (work .exit)) ⌝ }
 {
     let mut chains = [Chains::NONE; Chains::LENGTH];

@@ -1,12 +1,11 @@
 -- Laws of what both kinds of marks ask.
 --   comparable                       the two terminologies and the signature are over the names below n
 --   setting, first-shaped, ..        what the functions read is in its place
---   apart, inclusions-stay           squares apart from the one that changed; they keep their inclusions
 --   first-table-by, second-table-by  the tables of inclusions, at every memory on the way
 use mathlib.Core.Path.{_≡_, refl, sym, subst}
 use mathlib.Core.Bool.{true}
 use mathlib.Core.List.{List}
-use mathlib.Core.Logic.{_⊎_, inl, inr}
+use mathlib.Core.Logic.{inl}
 use Prim.Native.Nat.{ℕ, _+_, _≤_, _<_}
 use borrow.Author.Tests.{ltb-true}
 use lib.Dec.{ltb}
@@ -16,21 +15,12 @@ use Rattle.el.proofs.Classification.{Table}
 use Rattle.release.specs.Files.{axiomsOf}
 use Rattle.release.specs.Tables.{Shaped}
 use Rattle.release.proofs.Linked as linked
-use Rattle.marks.specs.declared.Square.{Square}
-use Rattle.marks.specs.Squares.{size, Frame}
-use Rattle.marks.proofs.Squares.{frame-marked, marked-frame}
-use Rattle.classification.specs.Inclusions.{Inclusions}
-use Rattle.classification.proofs.Bridge.{formed, ranges}
-use Rattle.classification.proofs.Meaning.{table-by}
+use Rattle.marks.specs.Squares.{Frame}
+use Rattle.classification.proofs.AxiomRows.{formed, ranges}
+use Rattle.classification.proofs.Meaning.{inclusions-stay, table-by}
 use Rattle.layout.specs.declared.Layout.{Layout}
 use Rattle.layout.specs.Layouts.{firstSquare, secondSquare, markSquare, chosen, Rowed, Setting}
 use Rattle.layout.specs.Comparing.{Comparing}
-
-abbrev pub apart : Square → Square → Type 0
-apart p q = (p .base + size (p .names) ≤ q .base) ⊎ (q .base + size (q .names) ≤ p .base)
-
-pub inclusions-stay : {s : List ℕ} {p q : Square} {w v : List ℕ} → Frame q w v → apart p q → Inclusions s p w → Inclusions s p v
-inclusions-stay f d i = record { sound = λ x y h l m. i .sound x y h l (marked-frame f d h l m); complete = λ x y h l m. frame-marked f d h l (i .complete x y h l m) }
 
 pub chosen-below : (l : Layout) (g : List ℕ) → NamesBelow (l .names) (chosen l g)
 chosen-below l g x h = ltb-true x (l .names) (and-left (ltb x (l .names)) _ h)
