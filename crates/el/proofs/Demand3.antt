@@ -34,19 +34,19 @@ pub record KeptBelow (sig : Signature) (t u : List Axiom) (a : ℕ) : Type 0 whe
   pub keeps : (c : Concept) → isOver sig c ≡ true → Derives t c (name a) → Derives u c (name a)
 
 -- bytes
-byte-left : (l r : Bool) → onLeft (byteOf l r) ≡ l
+pub byte-left : (l r : Bool) → onLeft (byteOf l r) ≡ l
 byte-left true true = refl
 byte-left true false = refl
 byte-left false true = refl
 byte-left false false = refl
 
-byte-right : (l r : Bool) → onRight (byteOf l r) ≡ r
+pub byte-right : (l r : Bool) → onRight (byteOf l r) ≡ r
 byte-right true true = refl
 byte-right true false = refl
 byte-right false true = refl
 byte-right false false = refl
 
-byte-small : (l r : Bool) → byteOf l r ≤ 3
+pub byte-small : (l r : Bool) → byteOf l r ≤ 3
 byte-small true true = omega arith
 byte-small true false = omega arith
 byte-small false true = omega arith

@@ -1,0 +1,3 @@
+-- Backward marks. To be read in this order.
+pub mod Rules
+pub mod Backward

@@ -1,0 +1,270 @@
+// The rules by which a pair x, y is marked. What they ask is said in specs/Rules.
+ghost use mathlib.Core.Path.{_≡_};
+ghost use Prim.Native.Nat.{_+_, _≤_, _<_};
+ghost use lib.ListN.{length};
+ghost use Rattle.el.proofs.Tests.{Tells};
+ghost use Rattle.release.specs.Tables.{kindAt, countAt, Shaped};
+ghost use Rattle.marks.specs.Squares.{Room};
+ghost use Rattle.layout.specs.Searches.{SomeBelow, EachBelow};
+ghost use Rattle.layout.specs.Layouts.{firstSquare, secondSquare, markSquare, Rowed};
+ghost use Rattle.backward.specs.Rules.{Setting, PlainColumn, ColumnPart, RowPart, NameLost, Filled, RoleLost, Step};
+use layout::Layout;
+use layout::first_includes;
+use layout::has_name;
+use layout::has_role;
+use layout::is_marked;
+use layout::second_includes;
+use release::table;
+
+// Whether x is marked with a conjunct of the conjunction y of the second release.
+fn some_part_lost(
+    second: &[u8],
+    table: &[u16],
+    work: &[u8],
+    layout: Layout,
+    x: usize,
+    y: usize,
+) -> bool
+    requires { ⌜ Shaped (layout .names) (now second) (now table) ⌝ }
+    requires { ⌜ Room (markSquare layout) (now work) ⌝ }
+    requires { ⌜ (x ≤ layout .names) × (y < layout .names) × (kindAt (now table) y ≡ 2) ⌝ }
+    ensures { λ r. ⌜ Tells r (SomeBelow (ColumnPart (now (second .entry)) (now (table .entry)) layout (now (work .entry)) x y) (countAt (now (second .entry)) (now (table .entry)) y)) ⌝ }
+{
+    let count = table::count(second, table, y);
+    let mut i = 0;
+    while i < count {
+        let part = table::part(second, table, y, i);
+        if is_marked(work, layout, x, part) {
+            return true;
+        }
+        i += 1;
+    }
+    false
+}
+
+// Whether all conjuncts of the conjunction x of the first release are marked with y.
+fn all_parts_lost(
+    first: &[u8],
+    table: &[u16],
+    work: &[u8],
+    layout: Layout,
+    x: usize,
+    y: usize,
+) -> bool
+    requires { ⌜ Shaped (layout .names) (now first) (now table) ⌝ }
+    requires { ⌜ Room (markSquare layout) (now work) ⌝ }
+    requires { ⌜ (x < layout .names) × (y ≤ layout .names) × (kindAt (now table) x ≡ 2) ⌝ }
+    ensures { λ r. ⌜ Tells r (EachBelow (RowPart (now (first .entry)) (now (table .entry)) layout (now (work .entry)) x y) (countAt (now (first .entry)) (now (table .entry)) x)) ⌝ }
+{
+    let count = table::count(first, table, x);
+    let mut i = 0;
+    while i < count {
+        let part = table::part(first, table, x, i);
+        if is_marked(work, layout, part, y) {
+            i += 1;
+        } else {
+            return false;
+        }
+    }
+    true
+}
+
+// Whether b is a name of the signature below x by the first release, and not below y by the second.
+fn name_lost(signature: &[u8], work: &[u8], layout: Layout, x: usize, y: usize, b: usize) -> bool
+    requires { ⌜ layout .names + layout .roles ≤ length (now signature) ⌝ }
+    requires { ⌜ Room (firstSquare layout) (now work) × Room (secondSquare layout) (now work) ⌝ }
+    requires { ⌜ (x ≤ layout .names) × (y ≤ layout .names) × (b < layout .names) ⌝ }
+    ensures { λ r. ⌜ Tells r (NameLost (now (signature .entry)) layout (now (work .entry)) x y b) ⌝ }
+{
+    if has_name(signature, layout, b) {
+        if first_includes(work, layout, b, x) {
+            if y == layout.names {
+                return true;
+            }
+            if second_includes(work, layout, b, y) {
+                return false;
+            }
+            return true;
+        }
+        return false;
+    }
+    false
+}
+
+// Whether there is such a name.
+fn some_name_lost(signature: &[u8], work: &[u8], layout: Layout, x: usize, y: usize) -> bool
+    requires { ⌜ layout .names + layout .roles ≤ length (now signature) ⌝ }
+    requires { ⌜ Room (firstSquare layout) (now work) × Room (secondSquare layout) (now work) ⌝ }
+    requires { ⌜ (x ≤ layout .names) × (y ≤ layout .names) ⌝ }
+    ensures { λ r. ⌜ Tells r (SomeBelow (NameLost (now (signature .entry)) layout (now (work .entry)) x y) (layout .names)) ⌝ }
+{
+    let mut b = 0;
+    while b < layout.names {
+        if name_lost(signature, work, layout, x, y, b) {
+            return true;
+        }
+        b += 1;
+    }
+    false
+}
+
+// Whether y is defined by a restriction with the role.
+fn is_filled(table: &[u16], layout: Layout, y: usize, role: usize) -> bool
+    requires { ⌜ Rowed (layout .names) (now table) ⌝ }
+    ensures { λ r. ⌜ Tells r (Filled (now (table .entry)) (layout .names) y role) ⌝ }
+{
+    if layout.names <= y {
+        return false;
+    }
+    let kind = table::kind(table, y);
+    if kind != 4 {
+        return false;
+    }
+    let own = table::role(table, y);
+    if own != role {
+        return false;
+    }
+    true
+}
+
+// Whether the filler of x, which is defined by a restriction, is marked with what has to lie above it for y: the filler of y, if y
+// is defined by a restriction with the same role, else nothing. A filler ⊤ of y is above all.
+fn role_lost(
+    signature: &[u8],
+    first: &[u16],
+    second: &[u16],
+    work: &[u8],
+    layout: Layout,
+    x: usize,
+    y: usize,
+) -> bool
+    requires { ⌜ layout .names + layout .roles ≤ length (now signature) ⌝ }
+    requires { ⌜ Rowed (layout .names) (now first) × Rowed (layout .names) (now second) ⌝ }
+    requires { ⌜ Room (markSquare layout) (now work) ⌝ }
+    requires { ⌜ (x < layout .names) × (kindAt (now first) x ≡ 4) ⌝ }
+    ensures { λ r. ⌜ Tells r (RoleLost (now (signature .entry)) (now (first .entry)) (now (second .entry)) layout (now (work .entry)) x y) ⌝ }
+{
+    let role = table::role(first, x);
+    let end = table::filler(first, x);
+    if has_role(signature, layout, role) {
+        if is_filled(second, layout, y, role) {
+            let over = table::filler(second, y);
+            if layout.names <= over {
+                return false;
+            }
+            return is_marked(work, layout, end, over);
+        }
+        return is_marked(work, layout, end, layout.names);
+    }
+    false
+}
+
+// Whether a rule allows the mark x, y, where neither is defined by a conjunction, and x is a name.
+fn plain_lost(
+    signature: &[u8],
+    first: &[u8],
+    second: &[u8],
+    first_table: &[u16],
+    second_table: &[u16],
+    work: &[u8],
+    layout: Layout,
+    x: usize,
+    y: usize,
+) -> bool
+    requires { ⌜ Setting (now signature) (now first) (now second) (now «first_table») (now «second_table») layout (now work) ⌝ }
+    requires { ⌜ PlainColumn (now «second_table») (layout .names) y ⌝ }
+    requires { ⌜ (x < layout .names) × (y ≤ layout .names) × (kindAt (now «first_table») x ≡ 2 → ⊥) ⌝ }
+    ensures { λ r. ⌜ Tells r (Step (now (signature .entry)) (now (first .entry)) (now (second .entry)) (now («first_table» .entry)) (now («second_table» .entry)) layout (now (work .entry)) x y) ⌝ }
+{
+    if some_name_lost(signature, work, layout, x, y) {
+        return true;
+    }
+    let kind = table::kind(first_table, x);
+    if kind == 4 {
+        return role_lost(signature, first_table, second_table, work, layout, x, y);
+    }
+    false
+}
+
+// Whether a rule allows the mark x, y, where y is not defined by a conjunction.
+fn column_lost(
+    signature: &[u8],
+    first: &[u8],
+    second: &[u8],
+    first_table: &[u16],
+    second_table: &[u16],
+    work: &[u8],
+    layout: Layout,
+    x: usize,
+    y: usize,
+) -> bool
+    requires { ⌜ Setting (now signature) (now first) (now second) (now «first_table») (now «second_table») layout (now work) ⌝ }
+    requires { ⌜ PlainColumn (now «second_table») (layout .names) y ⌝ }
+    requires { ⌜ (x ≤ layout .names) × (y ≤ layout .names) ⌝ }
+    ensures { λ r. ⌜ Tells r (Step (now (signature .entry)) (now (first .entry)) (now (second .entry)) (now («first_table» .entry)) (now («second_table» .entry)) layout (now (work .entry)) x y) ⌝ }
+{
+    if layout.names <= x {
+        return true;
+    }
+    let kind = table::kind(first_table, x);
+    if kind == 2 {
+        return all_parts_lost(first, first_table, work, layout, x, y);
+    }
+    plain_lost(
+        signature,
+        first,
+        second,
+        first_table,
+        second_table,
+        work,
+        layout,
+        x,
+        y,
+    )
+}
+
+// Whether a rule allows the mark x, y.
+pub fn is_lost(
+    signature: &[u8],
+    first: &[u8],
+    second: &[u8],
+    first_table: &[u16],
+    second_table: &[u16],
+    work: &[u8],
+    layout: Layout,
+    x: usize,
+    y: usize,
+) -> bool
+    requires { ⌜ Setting (now signature) (now first) (now second) (now «first_table») (now «second_table») layout (now work) ⌝ }
+    requires { ⌜ (x ≤ layout .names) × (y ≤ layout .names) ⌝ }
+    ensures { λ r. ⌜ Tells r (Step (now (signature .entry)) (now (first .entry)) (now (second .entry)) (now («first_table» .entry)) (now («second_table» .entry)) layout (now (work .entry)) x y) ⌝ }
+{
+    if layout.names <= y {
+        return column_lost(
+            signature,
+            first,
+            second,
+            first_table,
+            second_table,
+            work,
+            layout,
+            x,
+            y,
+        );
+    }
+    let kind = table::kind(second_table, y);
+    if kind == 2 {
+        return some_part_lost(second, second_table, work, layout, x, y);
+    }
+    column_lost(
+        signature,
+        first,
+        second,
+        first_table,
+        second_table,
+        work,
+        layout,
+        x,
+        y,
+    )
+}

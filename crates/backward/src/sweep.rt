@@ -1,0 +1,139 @@
+// Passes over all pairs, until one finds nothing left to mark.
+ghost use Prim.Native.Nat.{suc, _≤_};
+ghost use Rattle.marks.specs.Passes.{Pass, Closed, Below};
+ghost use Rattle.layout.specs.Layouts.{markSquare};
+ghost use Rattle.backward.specs.Rules.{Setting, Step, Cell, Row};
+use crate::rules::is_lost;
+use layout::Layout;
+use layout::is_marked;
+use layout::mark;
+
+// Marks the pair x, y if a rule allows it. Whether the mark is new. A pair that is marked already is asked no rule.
+fn look(
+    signature: &[u8],
+    first: &[u8],
+    second: &[u8],
+    first_table: &[u16],
+    second_table: &[u16],
+    work: &mut [u8],
+    layout: Layout,
+    x: usize,
+    y: usize,
+) -> bool
+    requires { ⌜ Setting (now signature) (now first) (now second) (now «first_table») (now «second_table») layout (now work) ⌝ }
+    requires { ⌜ (x ≤ layout .names) × (y ≤ layout .names) ⌝ }
+    ensures { λ r. ⌜ Pass (Step (now (signature .entry)) (now (first .entry)) (now (second .entry)) (now («first_table» .entry)) (now («second_table» .entry)) layout) (markSquare layout) (Cell (now (signature .entry)) (now (first .entry)) (now (second .entry)) (now («first_table» .entry)) (now («second_table» .entry)) layout x y) (now (work .entry)) (now (work .exit)) r ⌝ }
+{
+    if is_marked(work, layout, x, y) {
+        return false;
+    }
+    if is_lost(
+        signature,
+        first,
+        second,
+        first_table,
+        second_table,
+        work,
+        layout,
+        x,
+        y,
+    ) {
+        return mark(work, layout, x, y);
+    }
+    false
+}
+
+// One pass over row x. Whether a mark is new.
+fn row(
+    signature: &[u8],
+    first: &[u8],
+    second: &[u8],
+    first_table: &[u16],
+    second_table: &[u16],
+    work: &mut [u8],
+    layout: Layout,
+    x: usize,
+) -> bool
+    requires { ⌜ Setting (now signature) (now first) (now second) (now «first_table») (now «second_table») layout (now work) ⌝ }
+    requires { ⌜ x ≤ layout .names ⌝ }
+    ensures { λ r. ⌜ Pass (Step (now (signature .entry)) (now (first .entry)) (now (second .entry)) (now («first_table» .entry)) (now («second_table» .entry)) layout) (markSquare layout) (Row (now (signature .entry)) (now (first .entry)) (now (second .entry)) (now («first_table» .entry)) (now («second_table» .entry)) layout x) (now (work .entry)) (now (work .exit)) r ⌝ }
+{
+    let mut changed = false;
+    let mut next = 0;
+    while next <= layout.names {
+        let y = next;
+        next += 1;
+        if look(
+            signature,
+            first,
+            second,
+            first_table,
+            second_table,
+            work,
+            layout,
+            x,
+            y,
+        ) {
+            changed = true;
+        }
+    }
+    changed
+}
+
+// One pass over all rows. Whether a mark is new.
+fn rows(
+    signature: &[u8],
+    first: &[u8],
+    second: &[u8],
+    first_table: &[u16],
+    second_table: &[u16],
+    work: &mut [u8],
+    layout: Layout,
+) -> bool
+    requires { ⌜ Setting (now signature) (now first) (now second) (now «first_table») (now «second_table») layout (now work) ⌝ }
+    ensures { λ r. ⌜ Pass (Step (now (signature .entry)) (now (first .entry)) (now (second .entry)) (now («first_table» .entry)) (now («second_table» .entry)) layout) (markSquare layout) (Below (Row (now (signature .entry)) (now (first .entry)) (now (second .entry)) (now («first_table» .entry)) (now («second_table» .entry)) layout) (suc (layout .names))) (now (work .entry)) (now (work .exit)) r ⌝ }
+{
+    let mut changed = false;
+    let mut next = 0;
+    while next <= layout.names {
+        let x = next;
+        next += 1;
+        if row(
+            signature,
+            first,
+            second,
+            first_table,
+            second_table,
+            work,
+            layout,
+            x,
+        ) {
+            changed = true;
+        }
+    }
+    changed
+}
+
+// Passes until nothing is left to mark.
+pub fn close(
+    signature: &[u8],
+    first: &[u8],
+    second: &[u8],
+    first_table: &[u16],
+    second_table: &[u16],
+    work: &mut [u8],
+    layout: Layout,
+)
+    requires { ⌜ Setting (now signature) (now first) (now second) (now «first_table») (now «second_table») layout (now work) ⌝ }
+    ensures { λ _. ⌜ Closed (Step (now (signature .entry)) (now (first .entry)) (now (second .entry)) (now («first_table» .entry)) (now («second_table» .entry)) layout) (markSquare layout) (Below (Row (now (signature .entry)) (now (first .entry)) (now (second .entry)) (now («first_table» .entry)) (now («second_table» .entry)) layout) (suc (layout .names))) (now (work .entry)) (now (work .exit)) ⌝ }
+{
+    while rows(
+        signature,
+        first,
+        second,
+        first_table,
+        second_table,
+        work,
+        layout,
+    ) {}
+}

@@ -1,0 +1,3 @@
+-- Laws of the comparison.
+pub mod Bytes
+pub mod Pipeline

@@ -1,0 +1,43 @@
+use borrow.Author.Needs.{needs}
+use Rattle.comparison.proofs.result.byte_of.Statement.{statement}
+use Rattle.comparison.proofs.result.byte_of.Tie as tie
+use Rattle.comparison.proofs.result.byte_of.Reads as reads
+use Rattle.comparison.proofs.result.byte_of.Lts as lts
+use Rattle.comparison.proofs.result.byte.Reads as byte-reads
+use Rattle.layout.proofs.has_name.Reads as has-name-reads
+use Rattle.layout.proofs.is_marked.Reads as is-marked-reads
+
+-- src/result.rt:33:8
+has-name-requires : tie.Need-has-name-requires
+has-name-requires c κs = search needs
+
+-- src/result.rt:34:13
+is-marked-requires : tie.Need-is-marked-requires
+is-marked-requires c κs = search needs
+
+-- src/result.rt:35:13
+is-marked-requires-2 : tie.Need-is-marked-requires-2
+is-marked-requires-2 c κs = search needs
+
+-- src/result.rt:36:9
+byte-requires : tie.Need-byte-requires
+byte-requires c κs = search needs
+
+-- src/result.rt:36:9
+returns : tie.Need-returns
+returns c = ?
+
+-- src/result.rt:28:1
+returns-2 : tie.Need-returns-2
+returns-2 c = ?
+
+pub byte-of-spec : {M : Type 1} → statement M
+byte-of-spec =
+    tie.close
+    (tie.spec
+    has-name-requires
+    is-marked-requires
+    is-marked-requires-2
+    byte-requires
+    returns
+    returns-2)

@@ -1,0 +1,51 @@
+-- What a comparison asks and gives: signature bytes g, the files s and t of two releases with n names and their tables a and b, m
+-- roles, the memory w.
+--   Given g s t a b n m w           accepted releases and an accepted signature, and memory for four squares
+--   AllMarked g s t n m k w v       the memory w became v: forward marks and backward marks stand in the third and fourth square,
+--                                   of k cells each, and later bytes are as before
+--   Compared g s t n m r p w v      the result r became p: the bytes of the n names, later ones as before; the memory w became v:
+--                                   0 as far as the four squares go, later bytes as before
+use mathlib.Core.Path.{_≡_}
+use mathlib.Core.List.{List}
+use Prim.Native.Nat.{ℕ, _*_, _≤_, _<_}
+use lib.ListN.{length, getD}
+use Rattle.el.specs.Comparison.{IsByte}
+use Rattle.release.specs.Files.{namesOf, axiomsOf}
+use Rattle.release.specs.Tables.{Release}
+use Rattle.signature.specs.Bytes.{signatureFault, signatureOf}
+use Rattle.marks.specs.Squares.{size, mostCells}
+use Rattle.layout.specs.declared.Layout.{Layout}
+use Rattle.forward.specs.Forward.{ForwardMarked}
+use Rattle.backward.specs.Backward.{BackwardMarked}
+
+-- the number of cells of one square
+pub record IsSize (n k : ℕ) : Type 0 where
+  pub is : k ≡ size n
+  pub small : k ≤ mostCells
+
+-- the four squares one after the other
+abbrev pub forwardLayout : ℕ → ℕ → ℕ → Layout
+forwardLayout n m k = record { names = n; roles = m; first = 0; second = k; marks = 2 * k }
+
+abbrev pub backwardLayout : ℕ → ℕ → ℕ → Layout
+backwardLayout n m k = record { names = n; roles = m; first = 0; second = k; marks = 3 * k }
+
+pub record Given (g s t a b : List ℕ) (n m : ℕ) (w : List ℕ) : Type 0 where
+  pub first : Release s a
+  pub second : Release t b
+  pub first-names : n ≡ namesOf s
+  pub second-names : n ≡ namesOf t
+  pub signature : signatureFault n m g ≡ 0
+  pub room : 4 * size n ≤ length w
+
+pub record AllMarked (g s t : List ℕ) (n m k : ℕ) (w v : List ℕ) : Type 0 where
+  pub long : length v ≡ length w
+  pub past : (i : ℕ) → 4 * k ≤ i → getD v i 0 ≡ getD w i 0
+  pub forward : ForwardMarked g s t (forwardLayout n m k) v
+  pub backward : BackwardMarked g s t (backwardLayout n m k) v
+
+pub record Compared (g s t : List ℕ) (n m : ℕ) (r p w v : List ℕ) : Type 0 where
+  pub byte : (a : ℕ) → a < n → IsByte (signatureOf n m g) (axiomsOf s) (axiomsOf t) a (getD p a 0)
+  pub rest : (i : ℕ) → n ≤ i → getD p i 0 ≡ getD r i 0
+  pub zero : (i : ℕ) → i < 4 * size n → getD v i 0 ≡ 0
+  pub past : (i : ℕ) → 4 * size n ≤ i → getD v i 0 ≡ getD w i 0

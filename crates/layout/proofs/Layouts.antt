@@ -1,0 +1,33 @@
+-- Laws of what a comparison reads.
+--   name-inside, name-outside, role-inside, role-outside      the signature's bytes are the names and roles chosen
+--   setting-stays                                             all stays in its place while marks grow
+use mathlib.Core.Path.{_≡_}
+use mathlib.Core.Bool.{true, false}
+use mathlib.Core.List.{List}
+use Prim.Native.Nat.{ℕ, _+_, _≤_, _<_}
+use lib.Dec.{eqb, ltb}
+use lib.ListN.{getD}
+use borrow.Author.Tests.{lt-ltb, le-ltb}
+use Rattle.marks.specs.Passes.{Grows}
+use Rattle.marks.proofs.Squares.{frame-room}
+use Rattle.marks.proofs.Passes.{grows-frame}
+use Rattle.layout.specs.declared.Layout.{Layout}
+use Rattle.layout.specs.Layouts.{markSquare, chosen, Setting}
+
+module _ (l : Layout) (g : List ℕ) (x : ℕ) where
+  pub name-inside : x < l .names → eqb (getD g x 0) 1 ≡ chosen l g .has-name x
+  name-inside h = rw (lt-ltb x (l .names) h)
+
+  pub name-outside : l .names ≤ x → false ≡ chosen l g .has-name x
+  name-outside h = rw (le-ltb x (l .names) h)
+
+  pub role-inside : x < l .roles → eqb (getD g (l .names + x) 0) 1 ≡ chosen l g .has-role x
+  role-inside h = rw (lt-ltb x (l .roles) h)
+
+  pub role-outside : l .roles ≤ x → false ≡ chosen l g .has-role x
+  role-outside h = rw (le-ltb x (l .roles) h)
+
+pub setting-stays : {Rule : List ℕ → ℕ → ℕ → Type 0} {g a b : List ℕ} {l : Layout} {w v : List ℕ} → Grows Rule (markSquare l) w v → Setting g a b l w → Setting g a b l v
+setting-stays grows s =
+    let f = grows-frame grows in
+    record { signature = s .signature; first-table = s .first-table; second-table = s .second-table; first = frame-room f (s .first); second = frame-room f (s .second); marks = frame-room f (s .marks) }

@@ -1,0 +1,4 @@
+-- Laws of searches and layouts.
+pub mod Searches
+pub mod Layouts
+pub mod Comparing

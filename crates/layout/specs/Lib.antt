@@ -1,0 +1,4 @@
+-- What a comparison of two releases reads. To be read in this order.
+pub mod Searches
+pub mod Layouts
+pub mod Comparing

@@ -1,0 +1,123 @@
+// What a comparison of two releases reads: the inclusions of both, the marks so far, and the signature.
+ghost use mathlib.Core.Path.{_≡_};
+ghost use Prim.Native.Nat.{_+_, _≤_, _<_};
+ghost use lib.ListN.{length};
+ghost use Rattle.el.proofs.Tests.{Tells};
+ghost use Rattle.release.specs.Files.{restricts};
+ghost use Rattle.release.specs.Tables.{kindAt, HasRow};
+ghost use Rattle.marks.specs.Squares.{Room, Marked, Put};
+ghost use Rattle.layout.specs.Layouts.{firstSquare, secondSquare, markSquare, chosen};
+use marks::Square;
+use release::table;
+
+// The numbers of names and roles, and where three squares begin in the work memory: the inclusions of the first release, those
+// of the second, and the marks of the comparison.
+pub struct Layout {
+    pub names: usize,
+    pub roles: usize,
+    pub first: usize,
+    pub second: usize,
+    pub marks: usize,
+}
+
+// Whether x ⊑ y is derivable from the first release.
+pub fn first_includes(work: &[u8], layout: Layout, x: usize, y: usize) -> bool
+    requires { ⌜ Room (firstSquare layout) (now work) ⌝ }
+    requires { ⌜ (x ≤ layout .names) × (y ≤ layout .names) ⌝ }
+    ensures { λ r. ⌜ Tells r (Marked (firstSquare layout) (now (work .entry)) x y) ⌝ }
+{
+    marks::is_marked(
+        work,
+        Square {
+            base: layout.first,
+            names: layout.names,
+        },
+        x,
+        y,
+    )
+}
+
+// Whether x ⊑ y is derivable from the second release.
+pub fn second_includes(work: &[u8], layout: Layout, x: usize, y: usize) -> bool
+    requires { ⌜ Room (secondSquare layout) (now work) ⌝ }
+    requires { ⌜ (x ≤ layout .names) × (y ≤ layout .names) ⌝ }
+    ensures { λ r. ⌜ Tells r (Marked (secondSquare layout) (now (work .entry)) x y) ⌝ }
+{
+    marks::is_marked(
+        work,
+        Square {
+            base: layout.second,
+            names: layout.names,
+        },
+        x,
+        y,
+    )
+}
+
+// Whether the comparison has marked the pair x, y.
+pub fn is_marked(work: &[u8], layout: Layout, x: usize, y: usize) -> bool
+    requires { ⌜ Room (markSquare layout) (now work) ⌝ }
+    requires { ⌜ (x ≤ layout .names) × (y ≤ layout .names) ⌝ }
+    ensures { λ r. ⌜ Tells r (Marked (markSquare layout) (now (work .entry)) x y) ⌝ }
+{
+    marks::is_marked(
+        work,
+        Square {
+            base: layout.marks,
+            names: layout.names,
+        },
+        x,
+        y,
+    )
+}
+
+// Marks the pair x, y. Whether it was not marked yet.
+pub fn mark(work: &mut [u8], layout: Layout, x: usize, y: usize) -> bool
+    requires { ⌜ Room (markSquare layout) (now work) ⌝ }
+    requires { ⌜ (x ≤ layout .names) × (y ≤ layout .names) ⌝ }
+    ensures { λ r. ⌜ Put (markSquare layout) x y (now (work .entry)) (now (work .exit)) r ⌝ }
+{
+    marks::mark(
+        work,
+        Square {
+            base: layout.marks,
+            names: layout.names,
+        },
+        x,
+        y,
+    )
+}
+
+// Whether a name is in the signature.
+pub fn has_name(signature: &[u8], layout: Layout, name: usize) -> bool
+    requires { ⌜ layout .names + layout .roles ≤ length (now signature) ⌝ }
+    ensures { λ r. ⌜ r ≡ chosen layout (now (signature .entry)) .has-name name ⌝ }
+{
+    if name < layout.names {
+        return signature[name] == 1;
+    }
+    false
+}
+
+// Whether a role is in the signature.
+pub fn has_role(signature: &[u8], layout: Layout, role: usize) -> bool
+    requires { ⌜ layout .names + layout .roles ≤ length (now signature) ⌝ }
+    ensures { λ r. ⌜ r ≡ chosen layout (now (signature .entry)) .has-role role ⌝ }
+{
+    if role < layout.roles {
+        return signature[layout.names + role] == 1;
+    }
+    false
+}
+
+// Whether a name's axiom is a restriction ∃r.B.
+pub fn is_restriction(table: &[u16], x: usize) -> bool
+    requires { ⌜ HasRow (now table) x ⌝ }
+    ensures { λ r. ⌜ r ≡ restricts (kindAt (now (table .entry)) x) ⌝ }
+{
+    let kind = table::kind(table, x);
+    if kind == 3 {
+        return true;
+    }
+    kind == 4
+}
