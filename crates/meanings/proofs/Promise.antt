@@ -2,16 +2,15 @@
 --   AcceptedCounts      what is known where the answer is not a refusal
 --   limited, given      what the calls below ask
 --   refuses, compares   the promise, where it is refused and where it is not
-use mathlib.Core.Path.{_≡_, refl, sym, ap, subst, _∙_}
+use mathlib.Core.Path.{_≡_, refl, sym, ap, ap₂, _∙_}
 use mathlib.Core.Bool.{Bool, true, false, _&&_}
-use mathlib.Core.List.{List, _++_}
-use Prim.Native.Nat.{ℕ, zero, suc, _+_, _-_, _*_, _≤_, _<_}
+use mathlib.Core.List.{List, [], _∷_, _++_}
+use Prim.Native.Nat.{ℕ, zero, suc, _+_, _≤_, _<_}
 use native.Mathlib.Omega.{arith}
-use native.Mathlib.Numerals.{add-one}
 use borrow.Author.Tests.{eqb-true, leb-true}
 use lib.Dec.{eqb, leb}
-use lib.ListN.{length, getD, take, drop, replicate, length-take, length-drop, length-append, length-replicate, getD-replicate, List·getD-append}
-use lib.Seq.{ext-getD, getD-take, getD-drop, getD-append-add}
+use lib.ListN.{length, getD, take, drop, replicate, length-take, length-drop}
+use lib.Seq.{ext-getD, getD-take, getD-drop}
 use Rattle.el.specs.Lists.{pick}
 use Rattle.el.specs.Comparison.{AreBytes, IsByte}
 use Rattle.el.proofs.Tests.{and-left, and-right}
@@ -24,6 +23,7 @@ use Rattle.release.specs.declared.Checked.{Checked}
 use Rattle.release.specs.declared.Checked.the-variants as Check
 use Rattle.release.proofs.Checks.{Header, header-sound}
 use Rattle.release.proofs.Linked.{no-header-fault}
+use Rattle.release.proofs.Places.{read-release, read-counts}
 use Rattle.signature.specs.Bytes.{signatureFault, signatureOf}
 use Rattle.marks.specs.Squares.{size}
 use Rattle.comparison.specs.Compared as C
@@ -66,3 +66,91 @@ counted-accepted a b g o w c h = by-tests (eqb (a .names) (b .names) && eqb (a .
           counts-names = ap (λ (k : Compared). k .names) y;
           counts-roles = ap (λ (k : Compared). k .roles) y;
         }
+
+-- memory that is 0 at its start, and as before after that
+cleared : (k : ℕ) (v w : List ℕ) → length v ≡ length w → k ≤ length w → ((i : ℕ) → i < k → getD v i 0 ≡ 0) → ((i : ℕ) → k ≤ i → getD v i 0 ≡ getD w i 0) → v ≡ replicate k 0 ++ drop k w
+cleared zero v w e h z p = ext-getD 0 v w e (λ i l. p i (omega arith))
+cleared (suc k) [] w e h z p = absurd (omega arith)
+cleared (suc k) (x ∷ v) [] e h z p = absurd (omega arith)
+cleared (suc k) (x ∷ v) (y ∷ w) e h z p = ap₂ _∷_ (z 0 (omega arith)) (cleared k v w (omega arith) (omega arith) (λ i l. z (suc i) (omega arith)) (λ i l. p (suc i) (omega arith)))
+
+-- what checking a release says of its counts
+module _ (s t : List ℕ) (r : Checked) (read : ReleaseRead s t r) where
+  pub limited : Limited r
+  limited = record { names = λ {a} e. names a e; roles = λ {a} e. roles a e }
+    where
+      header : (a : Counts) → r ≡ Check.Accepted a → Header s
+      header a e = header-sound s (no-header-fault s (read-release s t r read a e .0 .accepted))
+
+      names : (a : Counts) → r ≡ Check.Accepted a → a .names ≤ mostNames
+      names a e = rw (← read-counts s t r read a e) (header a e .names)
+
+      roles : (a : Counts) → r ≡ Check.Accepted a → a .roles ≤ mostRoles
+      roles a e = rw (← read-counts s t r read a e) (header a e .roles)
+
+-- an accepted comparison
+module _ {s t a b : List ℕ} {x y : Checked} (first : ReleaseRead s a x) (second : ReleaseRead t b y) (g o w : List ℕ) (answer : Comparison) (is : answer ≡ judged x y g (length o) (length w)) where
+  pub is-comparison : answer ≡ comparison s t g (length o) (length w)
+  is-comparison = is ∙ rw (first .answer, second .answer)
+
+  pub refuses : (k : Refusal) → answer ≡ Refused k → Says s t g o o w w answer
+  refuses k e = record { answer = is-comparison; refused-result = λ _. refl; refused-work = λ _. refl; accepted = λ z. not-refused (sym e ∙ z) }
+
+  module _ (c : Compared) (e : answer ≡ Accepted c) where
+    pub record Known : Type 0 where
+      pub first-release : Release s a
+      pub second-release : Release t b
+      pub first-names : c .names ≡ namesOf s
+      pub second-names : c .names ≡ namesOf t
+      pub roles : c .roles ≡ rolesOf s
+      pub signature : signatureFault (c .names) (c .roles) g ≡ 0
+      pub result : c .names ≤ length o
+      pub work : workLength (c .names) ≤ length w
+
+    by-checks : (x y : Checked) → ReleaseRead s a x → ReleaseRead t b y → judged x y g (length o) (length w) ≡ Accepted c → Known
+    by-checks (Check.Refused k) y p q h = not-refused h
+    by-checks (Check.Accepted i) (Check.Refused k) p q h = not-refused h
+    by-checks (Check.Accepted i) (Check.Accepted j) p q h =
+        let v = counted-accepted i j g (length o) (length w) c h in
+        let p-counts = read-counts s a (Check.Accepted i) p i refl in
+        let q-counts = read-counts t b (Check.Accepted j) q j refl in
+        let p-names : namesOf s ≡ i .names = ap (λ (k : Counts). k .names) p-counts in
+        let p-roles : rolesOf s ≡ i .roles = ap (λ (k : Counts). k .roles) p-counts in
+        let q-names : namesOf t ≡ j .names = ap (λ (k : Counts). k .names) q-counts in
+        record {
+          first-release = read-release s a (Check.Accepted i) p i refl .0;
+          second-release = read-release t b (Check.Accepted j) q j refl .0;
+          first-names = sym (v .counts-names) ∙ sym p-names;
+          second-names = sym (v .counts-names) ∙ (v .names ∙ sym q-names);
+          roles = sym (v .counts-roles) ∙ sym p-roles;
+          signature = rw (← v .counts-names, ← v .counts-roles) (v .signature);
+          result = rw (← v .counts-names) (v .result);
+          work = rw (← v .counts-names) (v .work);
+        }
+
+    pub known : Known
+    known = by-checks x y first second (sym is ∙ e)
+
+    pub given : C.Given g s t a b (c .names) (c .roles) w
+    unfolding size
+    given = record { first = known .first-release; second = known .second-release; first-names = known .first-names; second-names = known .second-names; signature = known .signature; room = known .work }
+
+    -- lists by their elements
+    module _ (p v : List ℕ) (long-p : length p ≡ length o) (long-v : length v ≡ length w) (done : C.Compared g s t (c .names) (c .roles) o p w v) where
+      bytes-are : AreBytes (c .names) (signatureOf (c .names) (c .roles) g) (axiomsOf s) (axiomsOf t) (take (c .names) p)
+      bytes-are = record {
+        long = simp length-take (omega (arith, known .result));
+        each = λ a l. rw (getD-take (c .names) p a 0 l) (done .byte a l);
+      }
+
+      rest-is : drop (c .names) p ≡ drop (c .names) o
+      rest-is = ext-getD 0 _ _ (simp (length-drop, long-p)) (λ i l. getD-drop (c .names) p i 0 ∙ (done .rest (c .names + i) (omega arith) ∙ sym (getD-drop (c .names) o i 0)))
+
+      compares-result : Result s t g o p w v
+      unfolding size
+      compares-result =
+          let work-is = cleared (workLength (c .names)) v w long-v (known .work) (done .zero) (done .past) in
+          rw (← known .first-names, ← known .roles) (record { bytes = bytes-are; past = rest-is; work = work-is })
+
+      pub compares : Says s t g o p w v answer
+      compares = record { answer = is-comparison; refused-result = λ z. not-refused (sym z ∙ e); refused-work = λ z. not-refused (sym z ∙ e); accepted = λ _. compares-result }

@@ -123,6 +123,10 @@ read-by : (f : ℕ) (s : List ℕ) (c : Counts) → checkedBy f s ≡ Accepted c
 read-by zero s c h = let e : record { names = namesOf s; roles = rolesOf s; axioms = countOf s } ≡ c = cc in (refl, ap (λ (k : Counts). k .names) (sym e))
 read-by (suc f) s c h = let z : _≡_ {A = ℕ} 0 1 = cc in absurd (omega arith)
 
+counts-by : (f : ℕ) (s : List ℕ) (c : Counts) → checkedBy f s ≡ Accepted c → record { names = namesOf s; roles = rolesOf s; axioms = countOf s } ≡ c
+counts-by zero s c h = cc
+counts-by (suc f) s c h = let z : _≡_ {A = ℕ} 0 1 = cc in absurd (omega arith)
+
 refused-by : (f : ℕ) (s : List ℕ) (k : Refusal) → checkedBy f s ≡ Refused k → eqb f 0 ≡ false
 refused-by zero s k h = let z : _≡_ {A = ℕ} 0 1 = cc in absurd (omega arith)
 refused-by (suc f) s k h = ne-eqb (suc f) 0 (λ z. omega arith)
@@ -131,6 +135,10 @@ module _ (s t : List ℕ) (r : Checked) (read : ReleaseRead s t r) where
   pub read-release : (c : Counts) → r ≡ Accepted c → Release s t × (c .names ≡ namesOf s)
   unfolding checked
   read-release c e = let v = read-by (fault s) s c (sym (read .answer) ∙ e) in (record { accepted = v .0; decoded = read .decoded (v .0) }, v .1)
+
+  pub read-counts : (c : Counts) → r ≡ Accepted c → record { names = namesOf s; roles = rolesOf s; axioms = countOf s } ≡ c
+  unfolding checked
+  read-counts c e = counts-by (fault s) s c (sym (read .answer) ∙ e)
 
   pub read-refused : (k : Refusal) → r ≡ Refused k → accepted s ≡ false
   unfolding checked
