@@ -2,9 +2,9 @@
 ghost use Prim.Native.Nat.{_≤_};
 ghost use lib.ListN.{length};
 ghost use Rattle.comparison.specs.Compared.{IsSize, Given, AllMarked, Compared};
+use crate::result::write_bytes;
 use backward::mark_lost_below;
 use classification::classify;
-use crate::result::write_bytes;
 use forward::mark_lost_above;
 use layout::Layout;
 use marks::Square;
@@ -29,12 +29,48 @@ fn fill(
     ensures { λ _. ⌜ AllMarked (now (signature .entry)) (now (first .entry)) (now (second .entry)) names roles size (now (work .entry)) (now (work .exit)) ⌝ }
 {
     marks::clear(work, 4 * size);
-    classify(first, first_table, work, Square { base: 0, names: names });
-    classify(second, second_table, work, Square { base: size, names: names });
-    let forward = Layout { names: names, roles: roles, first: 0, second: size, marks: 2 * size };
+    classify(
+        first,
+        first_table,
+        work,
+        Square {
+            base: 0,
+            names: names,
+        },
+    );
+    classify(
+        second,
+        second_table,
+        work,
+        Square {
+            base: size,
+            names: names,
+        },
+    );
+    let forward = Layout {
+        names: names,
+        roles: roles,
+        first: 0,
+        second: size,
+        marks: 2 * size,
+    };
     mark_lost_above(signature, first_table, second_table, work, forward);
-    let backward = Layout { names: names, roles: roles, first: 0, second: size, marks: 3 * size };
-    mark_lost_below(signature, first, second, first_table, second_table, work, backward);
+    let backward = Layout {
+        names: names,
+        roles: roles,
+        first: 0,
+        second: size,
+        marks: 3 * size,
+    };
+    mark_lost_below(
+        signature,
+        first,
+        second,
+        first_table,
+        second_table,
+        work,
+        backward,
+    );
 }
 
 // Writes the byte of each name into the first bytes of `result`. The work memory is 0 again as far as it is used.
@@ -54,9 +90,31 @@ pub fn compare_tables(
     ensures { λ _. ⌜ Compared (now (signature .entry)) (now (first .entry)) (now (second .entry)) names roles (now (result .entry)) (now (result .exit)) (now (work .entry)) (now (work .exit)) ⌝ }
 {
     let size = marks::size(names);
-    fill(first, second, first_table, second_table, signature, work, names, roles, size);
-    let forward = Layout { names: names, roles: roles, first: 0, second: size, marks: 2 * size };
-    let backward = Layout { names: names, roles: roles, first: 0, second: size, marks: 3 * size };
+    fill(
+        first,
+        second,
+        first_table,
+        second_table,
+        signature,
+        work,
+        names,
+        roles,
+        size,
+    );
+    let forward = Layout {
+        names: names,
+        roles: roles,
+        first: 0,
+        second: size,
+        marks: 2 * size,
+    };
+    let backward = Layout {
+        names: names,
+        roles: roles,
+        first: 0,
+        second: size,
+        marks: 3 * size,
+    };
     write_bytes(signature, work, result, forward, backward);
     marks::clear(work, 4 * size);
 }

@@ -39,7 +39,13 @@ fn byte_of(signature: &[u8], work: &[u8], forward: Layout, backward: Layout, nam
 }
 
 // Writes the bytes of all names.
-pub fn write_bytes(signature: &[u8], work: &[u8], result: &mut [u8], forward: Layout, backward: Layout)
+pub fn write_bytes(
+    signature: &[u8],
+    work: &[u8],
+    result: &mut [u8],
+    forward: Layout,
+    backward: Layout,
+)
     requires { ⌜ Readable (now signature) forward backward (now work) ⌝ }
     requires { ⌜ forward .names ≤ length (now result) ⌝ }
     ensures { λ _. ⌜ Written (now (signature .entry)) forward backward (now (work .entry)) (forward .names) (now (result .entry)) (now (result .exit)) ⌝ }

@@ -1,3 +1,5 @@
+use mathlib.Core.Path.{_≡_, sym, _∙_}
+use Rattle.comparison.proofs.Bytes.{byte-inside, byte-outside}
 use borrow.Author.Needs.{needs}
 use Rattle.comparison.proofs.result.byte_of.Statement.{statement}
 use Rattle.comparison.proofs.result.byte_of.Tie as tie
@@ -25,11 +27,11 @@ byte-requires c κs = search needs
 
 -- src/result.rt:36:9
 returns : tie.Need-returns
-returns c = ?
+returns c = byte-inside (sym (c .before .before .before .before .has-name .ensures) ∙ c .before .before .before .if1 .taken) (c .before .before .is-marked .ensures) (c .before .is-marked2 .ensures) (c .byte .ensures)
 
 -- src/result.rt:28:1
 returns-2 : tie.Need-returns-2
-returns-2 c = ?
+returns-2 c = byte-outside (sym (c .before .has-name .ensures) ∙ c .if1 .left)
 
 pub byte-of-spec : {M : Type 1} → statement M
 byte-of-spec =

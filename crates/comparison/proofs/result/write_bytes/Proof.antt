@@ -1,3 +1,9 @@
+use Prim.Native.Nat.{_≤_, _-_}
+use mathlib.Core.Path.{_≡_, refl}
+use borrow.Author.Needs.{needs}
+use lib.ListN.{length, length-set}
+use Rattle.comparison.specs.Bytes.{Written}
+use Rattle.comparison.proofs.Bytes.{written-none, written-more, written-end}
 use Rattle.comparison.proofs.result.write_bytes.Statement.{statement}
 use Rattle.comparison.proofs.result.write_bytes.Tie as tie
 use Rattle.comparison.proofs.result.write_bytes.Reads as reads
@@ -5,42 +11,42 @@ use Rattle.comparison.proofs.result.write_bytes.Lts as lts
 use Rattle.comparison.proofs.result.byte_of.Reads as byte-of-reads
 
 abbrev Inv-loop : tie.InvT-loop
-Inv-loop signature work result₀ forward backward name₀ result name = ?
+Inv-loop signature work result₀ forward backward name₀ result name = (name ≤ forward .names) × (length result ≡ length result₀) × Written signature forward backward work name result₀ result
 
 abbrev μ-loop : tie.MeasureT-loop
-μ-loop signature work result₀ forward backward name₀ result name = ?
+μ-loop signature work result₀ forward backward name₀ result name = forward .names - name
 
 -- src/result.rt:48:5
 loop-holds : tie.Need-loop-holds Inv-loop μ-loop
-loop-holds c = ?
+loop-holds c = (search needs, refl, written-none)
 
 -- src/result.rt:49:13
 byte-of-requires : tie.Need-byte-of-requires Inv-loop μ-loop
-byte-of-requires c κs = ?
+byte-of-requires c κs = search needs
 
 -- src/result.rt:50:9
 slice-write-result : tie.Need-slice-write-result Inv-loop μ-loop
-slice-write-result c = ?
+slice-write-result c = search needs
 
 -- src/result.rt:51:9
 add-name : tie.Need-add-name Inv-loop μ-loop
-add-name c = ?
+add-name c = search needs
 
 -- src/result.rt:48:5
 loop-less : tie.Need-loop-less Inv-loop μ-loop
-loop-less c = ?
+loop-less c = search needs
 
 -- src/result.rt:48:5
 loop-again : tie.Need-loop-again Inv-loop μ-loop
-loop-again c = ?
+loop-again c = (search needs, simp length-set (search needs), written-more (c .byte-of .result) (search needs) (c .before .before .before .loop .inv .2) (c .byte-of .ensures))
 
 -- src/result.rt:42:1
 same-length : tie.Need-same-length Inv-loop μ-loop
-same-length c = ?
+same-length c = search needs
 
 -- src/result.rt:42:1
 returns : tie.Need-returns Inv-loop μ-loop
-returns c = ?
+returns c = written-end (c .before .before .loop .inv .0) (c .if1 .left) (c .before .before .loop .inv .2)
 
 pub write-bytes-spec : {M : Type 1} → statement M
 write-bytes-spec =
