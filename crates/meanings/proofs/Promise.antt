@@ -150,7 +150,7 @@ module _ {s t a b : List ℕ} {x y : Checked} (first : ReleaseRead s a x) (secon
       unfolding size
       compares-result =
           let work-is = cleared (workLength (c .names)) v w long-v (known .work) (done .zero) (done .past) in
-          rw (← known .first-names, ← known .roles) (record { bytes = bytes-are; past = rest-is; work = work-is })
+          record { bytes = rw (known .first-names, known .roles) at bytes-are; past = rw (known .first-names) at rest-is; work = rw (known .first-names) at work-is }
 
-      pub compares : Says s t g o p w v answer
-      compares = record { answer = is-comparison; refused-result = λ z. not-refused (sym z ∙ e); refused-work = λ z. not-refused (sym z ∙ e); accepted = λ _. compares-result }
+      pub compares : Says s t g o p w v (Accepted c)
+      compares = record { answer = sym e ∙ is-comparison; refused-result = λ z. not-refused (sym z); refused-work = λ z. not-refused (sym z); accepted = λ _. compares-result }

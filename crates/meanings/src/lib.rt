@@ -103,7 +103,13 @@ pub fn compare_releases(
     let first_checked = read_release(first, &mut first_table);
     let mut second_table = [0u16; Table::LENGTH];
     let second_checked = read_release(second, &mut second_table);
-    let answer = judge(first_checked, second_checked, signature, result.len(), work.len());
+    let answer = judge(
+        first_checked,
+        second_checked,
+        signature,
+        result.len(),
+        work.len(),
+    );
     let Comparison::Accepted(counts) = answer else {
         return answer;
     };
