@@ -1,8 +1,11 @@
 -- What a comparison asks and gives: signature bytes g, the files s and t of two releases with n names and their tables a and b, m
 -- roles, the memory w.
---   Given g s t a b n m w           accepted releases and an accepted signature, and memory for four squares
---   AllMarked g s t n m k w v       the memory w became v: forward marks and backward marks stand in the third and fourth square,
---                                   of k cells each, and later bytes are as before
+--   BothGiven s t a b n w           accepted releases, and memory for four squares of k cells each
+--   Given g s t a b n m w           and an accepted signature
+--   BothIncluded s t n k w v        the memory w became v: the first two squares hold the inclusions of the releases, the others no
+--                                   mark, and later bytes are as before
+--   AllMarked g s t n m k w v       the memory w became v: the last two squares hold forward marks and backward marks, and later bytes
+--                                   are as before
 --   Compared g s t n m r p w v      the result r became p: the bytes of the n names, later ones as before; the memory w became v:
 --                                   0 as far as the four squares go, later bytes as before
 use mathlib.Core.Path.{_≡_}
@@ -13,7 +16,9 @@ use Rattle.el.specs.Comparison.{IsByte}
 use Rattle.release.specs.Files.{namesOf, axiomsOf}
 use Rattle.release.specs.Tables.{Release}
 use Rattle.signature.specs.Bytes.{signatureFault, signatureOf}
-use Rattle.marks.specs.Squares.{size, mostCells}
+use Rattle.marks.specs.declared.Square.{Square}
+use Rattle.marks.specs.Squares.{size, mostCells, Unmarked}
+use Rattle.classification.specs.Inclusions.{Inclusions}
 use Rattle.layout.specs.declared.Layout.{Layout}
 use Rattle.forward.specs.Forward.{ForwardMarked}
 use Rattle.backward.specs.Backward.{BackwardMarked}
@@ -30,13 +35,27 @@ forwardLayout n m k = record { names = n; roles = m; first = 0; second = k; mark
 abbrev pub backwardLayout : ℕ → ℕ → ℕ → Layout
 backwardLayout n m k = record { names = n; roles = m; first = 0; second = k; marks = 3 * k }
 
-pub record Given (g s t a b : List ℕ) (n m : ℕ) (w : List ℕ) : Type 0 where
+abbrev pub squareAt : ℕ → ℕ → Square
+squareAt n base = record { base = base; names = n }
+
+pub record BothGiven (s t a b : List ℕ) (n : ℕ) (w : List ℕ) : Type 0 where
   pub first : Release s a
   pub second : Release t b
   pub first-names : n ≡ namesOf s
   pub second-names : n ≡ namesOf t
-  pub signature : signatureFault n m g ≡ 0
   pub room : 4 * size n ≤ length w
+
+pub record Given (g s t a b : List ℕ) (n m : ℕ) (w : List ℕ) : Type 0 where
+  pub both : BothGiven s t a b n w
+  pub signature : signatureFault n m g ≡ 0
+
+pub record BothIncluded (s t : List ℕ) (n k : ℕ) (w v : List ℕ) : Type 0 where
+  pub long : length v ≡ length w
+  pub past : (i : ℕ) → 4 * k ≤ i → getD v i 0 ≡ getD w i 0
+  pub first : Inclusions s (squareAt n 0) v
+  pub second : Inclusions t (squareAt n k) v
+  pub third-unmarked : Unmarked (squareAt n (2 * k)) v
+  pub fourth-unmarked : Unmarked (squareAt n (3 * k)) v
 
 pub record AllMarked (g s t : List ℕ) (n m k : ℕ) (w v : List ℕ) : Type 0 where
   pub long : length v ≡ length w

@@ -1,7 +1,7 @@
 // The comparison of two accepted releases over a signature, given their tables: the result byte of each name.
 ghost use Prim.Native.Nat.{_≤_};
 ghost use lib.ListN.{length};
-ghost use Rattle.comparison.specs.Compared.{IsSize, Given, AllMarked, Compared};
+ghost use Rattle.comparison.specs.Compared.{IsSize, BothGiven, BothIncluded, Given, AllMarked, Compared};
 use crate::result::write_bytes;
 use backward::mark_lost_below;
 use classification::classify;
@@ -11,22 +11,20 @@ use marks::Square;
 
 mod result;
 
-// Fills four squares of `size` cells, one after the other: the inclusions of the first release, those of the second, the forward
-// marks and the backward marks.
-fn fill(
+// Fills the first two of four squares of `size` cells, one after the other: the inclusions of the first release, and those of the
+// second.
+fn fill_inclusions(
     first: &[u8],
     second: &[u8],
     first_table: &[u16],
     second_table: &[u16],
-    signature: &[u8],
     work: &mut [u8],
     names: usize,
-    roles: usize,
     size: usize,
 )
-    requires { ⌜ Given (now signature) (now first) (now second) (now «first_table») (now «second_table») names roles (now work) ⌝ }
+    requires { ⌜ BothGiven (now first) (now second) (now «first_table») (now «second_table») names (now work) ⌝ }
     requires { ⌜ IsSize names size ⌝ }
-    ensures { λ _. ⌜ AllMarked (now (signature .entry)) (now (first .entry)) (now (second .entry)) names roles size (now (work .entry)) (now (work .exit)) ⌝ }
+    ensures { λ _. ⌜ BothIncluded (now (first .entry)) (now (second .entry)) names size (now (work .entry)) (now (work .exit)) ⌝ }
 {
     marks::clear(work, 4 * size);
     classify(
@@ -47,6 +45,25 @@ fn fill(
             names: names,
         },
     );
+}
+
+// Fills all four: the forward marks and the backward marks follow.
+fn fill(
+    first: &[u8],
+    second: &[u8],
+    first_table: &[u16],
+    second_table: &[u16],
+    signature: &[u8],
+    work: &mut [u8],
+    names: usize,
+    roles: usize,
+    size: usize,
+)
+    requires { ⌜ Given (now signature) (now first) (now second) (now «first_table») (now «second_table») names roles (now work) ⌝ }
+    requires { ⌜ IsSize names size ⌝ }
+    ensures { λ _. ⌜ AllMarked (now (signature .entry)) (now (first .entry)) (now (second .entry)) names roles size (now (work .entry)) (now (work .exit)) ⌝ }
+{
+    fill_inclusions(first, second, first_table, second_table, work, names, size);
     let forward = Layout {
         names: names,
         roles: roles,

@@ -12,7 +12,7 @@ use Rattle.marks.proofs.size.Reads as size-reads
 
 -- src/lib.rt:56:9
 size-requires : tie.Need-size-requires
-size-requires c κs = omega (arith, few (c .before .before .before .before .before .before .before .pre .0))
+size-requires c κs = omega (arith, few (c .before .before .before .before .before .before .before .pre .0 .both))
 
 -- src/lib.rt:57:5
 fill-requires : tie.Need-fill-requires
