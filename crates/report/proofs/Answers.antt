@@ -1,10 +1,10 @@
 -- What writing answers and leaves: where the text fits, where it does not, and for a report where the result is too short.
 use mathlib.Core.Path.{_≡_, refl, sym, ap, subst, _∙_}
-use mathlib.Core.Bool.{true, false}
+use mathlib.Core.Bool.{Bool, true, false}
 use mathlib.Core.List.{List}
 use Prim.Native.Nat.{ℕ, _≤_, _<_}
 use native.Mathlib.Omega.{arith}
-use borrow.Author.Tests.{lt-ltb, le-ltb}
+use borrow.Author.Tests.{lt-ltb, le-ltb, ltb-false}
 use lib.Dec.{ltb}
 use lib.ListN.{length, take}
 use lib.Seq.{sets}
@@ -63,6 +63,33 @@ module _ (n m : ℕ) (result : List ℕ) where
       ap (λ (r : ℕ). reportWith n r x y (take n result)) e
       ∙ ap (λ (l : ℕ). reportWith n m l y (take n result)) (left .is)
       ∙ ap (λ (r : ℕ). reportWith n m (count onLeft (take n result)) r (take n result)) (right .is)
+
+-- a length that is answered is within the output
+module _ (o : List ℕ) (k : ℕ) where
+  pub fitted-within : (text : List ℕ) → Length k ≡ fitted text o → k ≤ length o
+  unfolding fitted
+  fitted-within text e = by-test (ltb (length o) (length text)) refl
+    where
+      by-test : (b : Bool) → ltb (length o) (length text) ≡ b → k ≤ length o
+      by-test true t =
+          let f : Length k ≡ shortOutput = e ∙ rw (t, fitted) in
+          let z : _≡_ {A = ℕ} 0 1 = cc in
+          absurd (omega arith)
+      by-test false t =
+          let f : Length k ≡ Length (length text) = e ∙ rw (t, fitted) in
+          let i : k ≡ length text = cc in
+          omega (arith, ltb-false (length o) (length text) t)
+
+  pub report-within : (n m : ℕ) (result : List ℕ) → Length k ≡ reportAnswer n m result o → k ≤ length o
+  unfolding reportAnswer
+  report-within n m result e = by-test (ltb (length result) n) refl
+    where
+      by-test : (b : Bool) → ltb (length result) n ≡ b → k ≤ length o
+      by-test true t =
+          let f : Length k ≡ shortResult = e ∙ rw (t, reportAnswer) in
+          let z : _≡_ {A = ℕ} 0 1 = cc in
+          absurd (omega arith)
+      by-test false t = fitted-within (reportText n m result) (e ∙ rw (t, reportAnswer))
 
 pub refusal-text : {k s k′ s′ : ℕ} → k′ ≡ k → s′ ≡ s → twoNumbers refused-word k′ side-word s′ ≡ refusalLine k s
 unfolding refusalLine

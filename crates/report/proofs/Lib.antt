@@ -4,3 +4,4 @@ pub mod Decimals
 pub mod Entries
 pub mod Pieces
 pub mod Answers
+pub mod Examples
