@@ -1,0 +1,2 @@
+-- Laws of what the station writes.
+pub mod Answers

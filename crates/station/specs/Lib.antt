@@ -1,0 +1,2 @@
+-- What the station writes of a comparison.
+pub mod Answers

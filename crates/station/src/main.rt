@@ -1,0 +1,65 @@
+// Compares the releases of the folder that it is run in, `first.elt` and `second.elt`, over the signature `chosen.sig`, and
+// prints the report. A missing file counts as empty.
+mod answer;
+mod comparing;
+
+ghost use Prim.Native.Nat.{_≤_};
+ghost use lib.ListN.{length};
+use crate::answer::write_answer;
+use crate::comparing::compare;
+use libc::STDOUT_FILENO;
+use release::Release;
+use report::Written;
+
+// One byte more than the longest accepted release: 8 bytes, and 127 axioms of 19. A longer file is refused by these first
+// bytes as by all of it. Every byte that a header or an axiom is read from stands among the first 2,421, so the refusals 1 to
+// 13 come out alike; where none of them holds, bytes are left over in both, and the refusal is 14, whatever they are.
+const RELEASE_BYTES: usize = 2422;
+
+// One byte more than the longest accepted signature, of 127 names and 32 roles: a longer one is refused 17 by its length.
+const SIGNATURE_BYTES: usize = 160;
+
+fn main() {
+    let mut first = [0u8; RELEASE_BYTES];
+    let first_length = read_file(b"first.elt", &mut first);
+    let mut second = [0u8; RELEASE_BYTES];
+    let second_length = read_file(b"second.elt", &mut second);
+    let mut chosen = [0u8; SIGNATURE_BYTES];
+    let chosen_length = read_file(b"chosen.sig", &mut chosen);
+    let mut text = io::buffer();
+    let length = station(
+        &first[..first_length],
+        &second[..second_length],
+        &chosen[..chosen_length],
+        &mut text,
+    );
+    io::write_all(STDOUT_FILENO, &text[..length]);
+}
+
+// Reads the file's bytes to the start of `room`, as many as it holds, and answers how many.
+fn read_file(name: &[u8], room: &mut [u8]) -> usize
+    ensures { λ r. ⌜ r ≤ length (now (room .entry)) ⌝ }
+{
+    let file = os::open_read(name);
+    if file < 0 {
+        return 0;
+    }
+    let count = io::read_full(file, room);
+    libc::close(file);
+    count
+}
+
+// Compares, and writes the report or the refusal to the start of `output`. Answers the text's length, and 0 where the output
+// is too short for it; the longest report, 127 names with a line each, has 800 bytes.
+fn station(first: &[u8], second: &[u8], chosen: &[u8], output: &mut [u8]) -> usize
+    ensures { λ r. ⌜ r ≤ length (now (output .entry)) ⌝ }
+{
+    let mut result = [0u8; Release::NAMES];
+    let mut work = io::large_buffer();
+    let compared = compare(first, second, chosen, &mut result, &mut work);
+    let written = write_answer(compared, &result, output);
+    let Written::Length(length) = written else {
+        return 0;
+    };
+    length
+}
