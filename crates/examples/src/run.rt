@@ -4,7 +4,6 @@ use crate::cases;
 use crate::check;
 use crate::compare;
 use crate::print;
-use crate::question;
 use crate::show;
 use crate::signatures;
 use crate::station;
@@ -17,7 +16,6 @@ pub enum Call {
     Check,
     Show,
     Signatures,
-    Question,
     Compare,
     Station,
 }
@@ -95,7 +93,6 @@ fn judge(call: Call, case: &[u8]) -> Verdict {
         Call::Check => check::judge(case),
         Call::Show => show::judge(case),
         Call::Signatures => signatures::judge(case),
-        Call::Question => question::judge(case),
         Call::Compare => compare::judge(case),
         Call::Station => station::judge(case),
     }
@@ -107,7 +104,6 @@ fn fields_of(call: Call) -> usize {
         Call::Check => check::FIELDS,
         Call::Show => show::FIELDS,
         Call::Signatures => signatures::FIELDS,
-        Call::Question => question::FIELDS,
         Call::Compare => compare::FIELDS,
         Call::Station => station::FIELDS,
     }

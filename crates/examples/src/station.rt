@@ -3,7 +3,6 @@ use crate::cases::field;
 use crate::memory;
 use crate::verdict::Verdict;
 use crate::verdict::same_bytes;
-use meanings::Comparison;
 use report::Written;
 
 pub const FIELDS: usize = 4;
@@ -25,17 +24,8 @@ pub fn judge(case: &[u8]) -> Verdict {
         &mut work,
     );
     let mut output = [0u8; OUTPUT];
-    let written = write(compared, &result, &mut output);
+    let written = report::write_answer(compared, &result, &mut output);
     same_text(written, &output, field(case, 3))
-}
-
-fn write(compared: Comparison, result: &[u8], output: &mut [u8]) -> Written {
-    match compared {
-        Comparison::Accepted(counts) => {
-            report::write_report(counts.names, counts.roles, result, output)
-        }
-        Comparison::Refused(refusal) => report::write_refusal(refusal, output),
-    }
 }
 
 // The text is what the answer's length says of the output; an answer that is refused, or longer, is an empty text.

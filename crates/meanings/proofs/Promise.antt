@@ -133,7 +133,7 @@ module _ {s t a b : List ℕ} {x y : Checked} (first : ReleaseRead s a x) (secon
 
     pub given : C.Given g s t a b (c .names) (c .roles) w
     unfolding size
-    given = record { first = known .first-release; second = known .second-release; first-names = known .first-names; second-names = known .second-names; signature = known .signature; room = known .work }
+    given = record { both = record { first = known .first-release; second = known .second-release; first-names = known .first-names; second-names = known .second-names; room = known .work }; signature = known .signature }
 
     -- lists by their elements
     module _ (p v : List ℕ) (long-p : length p ≡ length o) (long-v : length v ≡ length w) (done : C.Compared g s t (c .names) (c .roles) o p w v) where

@@ -5,3 +5,4 @@ pub mod Entries
 pub mod Pieces
 pub mod Answers
 pub mod Examples
+pub mod Answered

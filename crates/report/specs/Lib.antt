@@ -3,3 +3,4 @@ pub mod Numbers
 pub mod Texts
 pub mod Written
 pub mod Places
+pub mod Answered

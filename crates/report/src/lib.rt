@@ -1,6 +1,7 @@
 // The report of a comparison, as text in a caller's bytes.
 ghost use mathlib.Core.Path.{_≡_};
 ghost use Rattle.report.specs.Texts.{refusalLine};
+ghost use Rattle.report.specs.Answered.{answerText, answerTo};
 ghost use Rattle.report.specs.Written.{WrittenAs, fitted, reportText, reportAnswer};
 use crate::lines::LEFT;
 use crate::lines::RIGHT;
@@ -10,6 +11,7 @@ use crate::lines::report_length;
 use crate::numbers::put_two_numbers;
 use crate::numbers::two_numbers_length;
 use crate::numbers::wide;
+use meanings::Comparison;
 use release::Refusal;
 
 mod lines;
@@ -69,4 +71,14 @@ pub fn write_refusal(refusal: Refusal, output: &mut [u8]) -> Written
     }
     put_two_numbers(output, 0, b"refused ", number, b" side ", side);
     Written::Length(length)
+}
+
+// Writes the report of an accepted comparison with this result, or the line of a refused one.
+pub fn write_answer(answer: Comparison, result: &[u8], output: &mut [u8]) -> Written
+    ensures { λ r. ⌜ WrittenAs (answerTo answer (now (result .entry)) (now (output .entry))) (answerText answer (now (result .entry))) (now (output .entry)) (now (output .exit)) r ⌝ }
+{
+    match answer {
+        Comparison::Accepted(counts) => write_report(counts.names, counts.roles, result, output),
+        Comparison::Refused(refusal) => write_refusal(refusal, output),
+    }
 }

@@ -1,15 +1,12 @@
 // Compares the releases of the folder that it is run in, `first.elt` and `second.elt`, over the signature `chosen.sig`, and
 // prints the report. A missing file counts as empty.
-mod answer;
-mod comparing;
-
 ghost use Prim.Native.Nat.{_≤_};
 ghost use lib.ListN.{length};
-use crate::answer::write_answer;
-use crate::comparing::compare;
 use libc::STDOUT_FILENO;
+use meanings::compare_releases;
 use release::Release;
 use report::Written;
+use report::write_answer;
 
 // One byte more than the longest accepted release: 8 bytes, and 127 axioms of 19. A longer file is refused by these first
 // bytes as by all of it. Every byte that a header or an axiom is read from stands among the first 2,421, so the refusals 1 to
@@ -56,7 +53,7 @@ fn station(first: &[u8], second: &[u8], chosen: &[u8], output: &mut [u8]) -> usi
 {
     let mut result = [0u8; Release::NAMES];
     let mut work = io::large_buffer();
-    let compared = compare(first, second, chosen, &mut result, &mut work);
+    let compared = compare_releases(first, second, chosen, &mut result, &mut work);
     let written = write_answer(compared, &result, output);
     let Written::Length(length) = written else {
         return 0;

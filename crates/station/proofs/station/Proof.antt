@@ -1,6 +1,6 @@
 -- `station` meets its contract: a length that is answered is within the output.
 use mathlib.Core.Path.{sym, _∙_}
-use Rattle.station.proofs.Answers.{answer-within}
+use Rattle.report.proofs.Answered.{answer-within}
 use borrow.Author.Needs.{needs}
 use Rattle.station.proofs.station.Statement.{statement}
 use Rattle.station.proofs.station.Tie as tie
@@ -8,14 +8,14 @@ use Rattle.station.proofs.station.Tie as tie
 large-buffer-requires : tie.Need-large-buffer-requires
 large-buffer-requires c κs = search needs
 
-slice-aggregate-compare : tie.Need-slice-aggregate-compare
-slice-aggregate-compare c = search needs
+slice-aggregate-compare-releases : tie.Need-slice-aggregate-compare-releases
+slice-aggregate-compare-releases c = search needs
 
-slice-aggregate-compare-2 : tie.Need-slice-aggregate-compare-2
-slice-aggregate-compare-2 c = search needs
+slice-aggregate-compare-releases-2 : tie.Need-slice-aggregate-compare-releases-2
+slice-aggregate-compare-releases-2 c = search needs
 
-compare-requires : tie.Need-compare-requires
-compare-requires c κs = search needs
+compare-releases-requires : tie.Need-compare-releases-requires
+compare-releases-requires c κs = search needs
 
 slice-aggregate-write-answer : tie.Need-slice-aggregate-write-answer
 slice-aggregate-write-answer c = search needs
@@ -46,9 +46,9 @@ station-spec =
     tie.close
     (tie.spec
     large-buffer-requires
-    slice-aggregate-compare
-    slice-aggregate-compare-2
-    compare-requires
+    slice-aggregate-compare-releases
+    slice-aggregate-compare-releases-2
+    compare-releases-requires
     slice-aggregate-write-answer
     write-answer-requires
     enum-known-written

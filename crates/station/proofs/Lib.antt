@@ -1,2 +1,0 @@
--- Laws of what the station writes.
-pub mod Answers

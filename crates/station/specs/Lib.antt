@@ -1,2 +1,0 @@
--- What the station writes of a comparison.
-pub mod Answers
