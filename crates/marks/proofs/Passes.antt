@@ -2,6 +2,8 @@
 --   grows-further, marks-stay, grows-frame, room-stays     what growth keeps
 --   grows-good                                             if the rule allows only what is good, all marks stay good
 --   put-pass                                               a mark that the rule allows is a pass
+--   pass-as, pass-with                                     what is done said otherwise; the latter knows that nothing changed
+--   due-there, due-not, due-as                             a mark that is there, that is not allowed, that a test tells of
 --   pass-changed, pass-unchanged, changed-before           two passes, by whether the second, or the first, changed anything
 --   turn-changed, turn-unchanged, turn-skipped             the same for a turn of a loop; turns-none, turns-end: its start and end
 --   pass-closed                                            a pass that changed nothing ends the passes
@@ -18,10 +20,11 @@ use lib.Dec.{eqb}
 use lib.ListN.{length, getD, set, length-set}
 use lib.Seq.{getD-set-other}
 use Rattle.el.specs.Lists.{pick}
+use Rattle.el.proofs.Tests.{Tells}
 use Rattle.marks.specs.declared.Square.{Square}
 use Rattle.marks.specs.Squares.{cell, Room, Marked, Unmarked, Frame, Put}
-use Rattle.marks.specs.Passes.{unset, Grows, none, more, Pass, Closed, Below, AllGood}
-use Rattle.marks.proofs.Squares.{not-true, not-false, cell-below, cell-from, cell-same, mark-stays, frame-same, frame-room}
+use Rattle.marks.specs.Passes.{unset, Grows, none, more, Pass, Closed, Below, Due, AllGood}
+use Rattle.marks.proofs.Squares.{not-true, not-false, refuted, cell-below, cell-from, cell-same, mark-stays, frame-same, frame-room}
 
 -- what a loop over an index has finished
 module _ {D : ℕ → List ℕ → Type 0} {w : List ℕ} where
@@ -37,6 +40,17 @@ module _ {D : ℕ → List ℕ → Type 0} {w : List ℕ} where
 
   pub below-end : {k n : ℕ} → n ≤ k → Below D k w → Below D n w
   below-end h b = record { at = λ i l. b .at i (omega arith) }
+
+-- whether a mark is to be put
+module _ {A M : Type 0} where
+  pub due-there : M → Due false A M
+  due-there m = record { allowed = λ e. not-false e; settled = λ e a. m }
+
+  pub due-not : (A → ⊥) → Due false A M
+  due-not f = record { allowed = λ e. not-false e; settled = λ e a. absurd (f a) }
+
+  pub due-as : {r : Bool} → Tells r A → Due r A M
+  due-as t = record { allowed = t .sound; settled = λ e a. absurd (refuted t e a) }
 
 -- a mark more is one byte fewer that is none
 unset-set : (w : List ℕ) (i : ℕ) → i < length w → (getD w i 0 ≡ 1 → ⊥) → unset (set w i 1) < unset w
@@ -91,8 +105,11 @@ module _ {Rule : List ℕ → ℕ → ℕ → Type 0} {q : Square} where
   pub pass-none : {Done : List ℕ → Type 0} {w : List ℕ} → Done w → Pass Rule q Done w w false
   pass-none d = record { grows = none; fewer = λ e. not-false e; same = λ e. refl; done = λ e. d }
 
+  pub pass-with : {D E : List ℕ → Type 0} {w v : List ℕ} {r : Bool} → (v ≡ w → D v → E v) → Pass Rule q D w v r → Pass Rule q E w v r
+  pass-with f p = record { grows = p .grows; fewer = p .fewer; same = p .same; done = λ e. f (p .same e) (p .done e) }
+
   pub pass-as : {D E : List ℕ → Type 0} {w v : List ℕ} {r : Bool} → (D v → E v) → Pass Rule q D w v r → Pass Rule q E w v r
-  pass-as f p = record { grows = p .grows; fewer = p .fewer; same = p .same; done = λ e. f (p .done e) }
+  pass-as f p = pass-with (λ e. f) p
 
   pub put-pass : {x y : ℕ} {w v : List ℕ} {r : Bool} → Put q x y w v r → Room q w → x ≤ q .names → y ≤ q .names → Rule w x y → Pass Rule q (λ u. Marked q u x y) w v r
   put-pass {x} {y} {w} {v} {r} p m a b e = by-answer r refl

@@ -8,7 +8,7 @@
 use mathlib.Core.Path.{_≡_, refl, sym, ap, _∙_}
 use mathlib.Core.Bool.{Bool, true, false, false≢true}
 use mathlib.Core.List.{List}
-use mathlib.Core.Logic.{_⊎_, inl, inr}
+use mathlib.Core.Logic.{inl, inr}
 use Prim.Native.Nat.{ℕ, suc, _+_, _*_, _≤_, _<_}
 use native.Mathlib.Nat.{mul-le-mul, mul-le-mul-right, suc-mul}
 use native.Mathlib.Numerals.{add-one}
@@ -18,7 +18,7 @@ use lib.ListN.{length, getD, set, length-set}
 use lib.Seq.{getD-set-same, getD-set-other}
 use Rattle.el.proofs.Tests.{Tells, always, never}
 use Rattle.marks.specs.declared.Square.{Square}
-use Rattle.marks.specs.Squares.{cell, size, Small, Cell, Room, Marked, Unmarked, Frame, Put, Zeroed}
+use Rattle.marks.specs.Squares.{cell, size, mostNames, mostCells, Cell, Room, Marked, Unmarked, Apart, Frame, Put, Zeroed}
 
 pub not-true : {A : Type 0} → true ≡ false → A
 not-true e = absurd (false≢true (sym e))
@@ -30,15 +30,15 @@ pub refuted : {b : Bool} {A : Type 0} → Tells b A → b ≡ false → A → �
 refuted t e a = false≢true (sym e ∙ t .complete a)
 
 -- places
-pub product-small : (x k : ℕ) → x ≤ 4095 → k ≤ 4096 → x * k ≤ 16773120
-product-small x k h l = mul-le-mul {n₂ = 4095} {m₂ = 4096} h l
+pub product-small : (x k : ℕ) → x ≤ mostNames → k ≤ suc mostNames → x * k ≤ mostCells
+product-small x k h l = omega (arith, mul-le-mul {n₂ = mostNames} {m₂ = suc mostNames} h l)
 
 pub size-is : (n : ℕ) → (n + 1) * (n + 1) ≡ size n
 unfolding size
 size-is n = rw add-one
 
-pub size-small : (n : ℕ) → n ≤ 4095 → (n + 1) * (n + 1) ≤ 16777216
-size-small n h = mul-le-mul {n₂ = 4096} {m₂ = 4096} (omega arith) (omega arith)
+pub size-small : (n : ℕ) → n ≤ mostNames → (n + 1) * (n + 1) ≤ mostCells
+size-small n h = mul-le-mul {n₂ = suc mostNames} {m₂ = suc mostNames} (omega arith) (omega arith)
 
 module _ (q : Square) where
   abbrev n : ℕ
@@ -106,7 +106,7 @@ module _ {q : Square} {x y i : ℕ} {w : List ℕ} (c : Cell q x y i) where
   put-fresh h = record { fresh = λ e m. h (marked-byte m); put = λ e. ap (λ j. set w j 1) (c .is); same = λ e. not-true e; found = λ e. not-true e }
 
 -- a square p apart from the one that changed
-module _ {p q : Square} {w v : List ℕ} (f : Frame q w v) (apart : (p .base + size (p .names) ≤ q .base) ⊎ (q .base + size (q .names) ≤ p .base)) {x y : ℕ} (h : x ≤ p .names) (l : y ≤ p .names) where
+module _ {p q : Square} {w v : List ℕ} (f : Frame q w v) (apart : Apart p q) {x y : ℕ} (h : x ≤ p .names) (l : y ≤ p .names) where
   cell-stays : getD v (cell p x y) 0 ≡ getD w (cell p x y) 0
   cell-stays = elim apart [ inl b ↦ f .before (cell p x y) (omega (arith, cell-below p x y h l)) | inr b ↦ f .past (cell p x y) (omega (arith, cell-from p x y)) ]
 
@@ -142,5 +142,5 @@ zeroed-end {i} {k} h l z = let e : i ≡ k = omega arith in rw (← e) z
 pub zeroed-unmarked : {k : ℕ} {q : Square} {w v : List ℕ} → Zeroed k w v → q .base + size (q .names) ≤ k → Unmarked q v
 zeroed-unmarked {k} {q} z r = record { none = λ x y h l m. omega (arith, m .is, z .zero (cell q x y) (omega (arith, cell-below q x y h l))) }
 
-pub frame-unmarked : {p q : Square} {w v : List ℕ} → Frame q w v → (p .base + size (p .names) ≤ q .base) ⊎ (q .base + size (q .names) ≤ p .base) → Unmarked p w → Unmarked p v
+pub frame-unmarked : {p q : Square} {w v : List ℕ} → Frame q w v → Apart p q → Unmarked p w → Unmarked p v
 frame-unmarked f apart u = record { none = λ x y h l m. u .none x y h l (marked-frame f apart h l m) }

@@ -3,6 +3,7 @@
 --   Pass Rule q Done w v r     such a growth; r: it changed something. If it did not, Done holds: what it looked at is finished
 --   Closed Rule q Done w v     passes until one changed nothing
 --   Below D k w                D holds of 0 .. k - 1: what a loop over an index has finished
+--   Due r Allowed Mark         what a test tells that asks whether a mark is to be put: the rule allows it; else it is not, or marked
 --   AllGood q Good w           each mark has its meaning
 --   unset w                    the number of bytes that are no mark: it falls with each change, so passes end
 -- Not here: what a mark and a square are (Squares).
@@ -36,6 +37,10 @@ pub record Closed (Rule : List ℕ → ℕ → ℕ → Type 0) (q : Square) (Don
 
 pub record Below (D : ℕ → List ℕ → Type 0) (k : ℕ) (w : List ℕ) : Type 0 where
   pub at : (i : ℕ) → i < k → D i w
+
+pub record Due (r : Bool) (Allowed Mark : Type 0) : Type 0 where
+  pub allowed : r ≡ true → Allowed
+  pub settled : r ≡ false → Allowed → Mark
 
 pub record AllGood (q : Square) (Good : ℕ → ℕ → Type 0) (w : List ℕ) : Type 0 where
   pub good : (x y : ℕ) → x ≤ q .names → y ≤ q .names → Marked q w x y → Good x y

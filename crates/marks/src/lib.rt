@@ -3,7 +3,7 @@ ghost use mathlib.Core.Path.{_≡_};
 ghost use Prim.Native.Nat.{_≤_};
 ghost use lib.ListN.{length};
 ghost use Rattle.el.proofs.Tests.{Tells};
-ghost use Rattle.marks.specs.Squares.{size, Small, Cell, Room, Marked, Put, Zeroed};
+ghost use Rattle.marks.specs.Squares.{size, mostNames, mostCells, Small, Cell, Room, Marked, Put, Zeroed};
 
 // The place of a square: names + 1 rows and as many columns, row after row from `base` on, a byte a cell.
 pub struct Square {
@@ -49,8 +49,8 @@ pub fn mark(work: &mut [u8], square: Square, x: usize, y: usize) -> bool
 
 // The number of cells of a square.
 pub fn size(names: usize) -> usize
-    requires { ⌜ names ≤ 4095 ⌝ }
-    ensures { λ r. ⌜ (r ≡ size names) × (r ≤ 16777216) ⌝ }
+    requires { ⌜ names ≤ mostNames ⌝ }
+    ensures { λ r. ⌜ (r ≡ size names) × (r ≤ mostCells) ⌝ }
 {
     (names + 1) * (names + 1)
 }

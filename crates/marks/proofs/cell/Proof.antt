@@ -7,23 +7,18 @@ use Rattle.marks.proofs.cell.Tie as tie
 use Rattle.marks.proofs.cell.Reads as reads
 use Rattle.marks.proofs.cell.Lts as lts
 
--- src/lib.rt:20:25
 add-result : tie.Need-add-result
 add-result c = search needs
 
--- src/lib.rt:20:20
 mul-result : tie.Need-mul-result
 mul-result c = omega (arith, product-small (c .before .args .x) (c .before .args .square .names + 1) (omega arith) (omega arith))
 
--- src/lib.rt:20:20
 add-result-2 : tie.Need-add-result-2
 add-result-2 c = omega (arith, product-small (c .before .args .x) (c .before .args .square .names + 1) (omega arith) (omega arith))
 
--- src/lib.rt:20:5
 add-result-3 : tie.Need-add-result-3
 add-result-3 c = omega (arith, product-small (c .before .before .args .x) (c .before .before .args .square .names + 1) (omega arith) (omega arith))
 
--- src/lib.rt:15:1
 returns : tie.Need-returns
 returns c = cell-of (c .before .before .args .square) (c .before .before .args .x) (c .before .before .args .y) (c .before .before .pre .1 .0) (c .before .before .pre .1 .1)
 

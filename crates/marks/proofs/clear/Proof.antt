@@ -9,37 +9,31 @@ use Rattle.marks.proofs.clear.Tie as tie
 use Rattle.marks.proofs.clear.Reads as reads
 use Rattle.marks.proofs.clear.Lts as lts
 
+-- the bytes before i are 0, and the others as they were
 abbrev Inv-loop : tie.InvT-loop
 Inv-loop work₀ count i₀ work i = (i ≤ count) × (length work ≡ length work₀) × Zeroed i work₀ work
 
 abbrev μ-loop : tie.MeasureT-loop
 μ-loop work₀ count i₀ work i = count - i
 
--- src/lib.rt:64:5
 loop-holds : tie.Need-loop-holds Inv-loop μ-loop
 loop-holds c = (search needs, refl, zeroed-none)
 
--- src/lib.rt:65:9
 slice-write-work : tie.Need-slice-write-work Inv-loop μ-loop
 slice-write-work c = search needs
 
--- src/lib.rt:66:9
 add-i : tie.Need-add-i Inv-loop μ-loop
 add-i c = search needs
 
--- src/lib.rt:64:5
 loop-less : tie.Need-loop-less Inv-loop μ-loop
 loop-less c = search needs
 
--- src/lib.rt:64:5
 loop-again : tie.Need-loop-again Inv-loop μ-loop
 loop-again c = (search needs, simp length-set (search needs), zeroed-more (search needs) (c .before .loop .inv .2))
 
--- src/lib.rt:59:1
 same-length : tie.Need-same-length Inv-loop μ-loop
 same-length c = search needs
 
--- src/lib.rt:59:1
 returns : tie.Need-returns Inv-loop μ-loop
 returns c = zeroed-end (c .before .loop .inv .0) (c .loop-test .left) (c .before .loop .inv .2)
 

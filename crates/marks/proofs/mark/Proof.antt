@@ -6,27 +6,21 @@ use Rattle.marks.proofs.mark.Reads as reads
 use Rattle.marks.proofs.mark.Lts as lts
 use Rattle.marks.proofs.cell.Reads as cell-reads
 
--- src/lib.rt:42:9
 cell-requires : tie.Need-cell-requires
 cell-requires c κs = search needs
 
--- src/lib.rt:43:8
 slice-read-if1 : tie.Need-slice-read-if1
 slice-read-if1 c = search needs
 
--- src/lib.rt:44:9
 returns : tie.Need-returns
 returns c = put-found (c .before .before .cell .ensures) (c .if1 .taken)
 
--- src/lib.rt:46:5
 slice-write-work : tie.Need-slice-write-work
 slice-write-work c = search needs
 
--- src/lib.rt:37:1
 same-length : tie.Need-same-length
 same-length c = search needs
 
--- src/lib.rt:37:1
 returns-2 : tie.Need-returns-2
 returns-2 c = put-fresh (c .before .before .cell .ensures) (c .if1 .left)
 

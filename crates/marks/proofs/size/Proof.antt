@@ -6,19 +6,15 @@ use Rattle.marks.proofs.size.Tie as tie
 use Rattle.marks.proofs.size.Reads as reads
 use Rattle.marks.proofs.size.Lts as lts
 
--- src/lib.rt:55:6
 add-result : tie.Need-add-result
 add-result c = search needs
 
--- src/lib.rt:55:20
 add-result-2 : tie.Need-add-result-2
 add-result-2 c = search needs
 
--- src/lib.rt:55:5
 mul-result : tie.Need-mul-result
 mul-result c = omega (arith, size-small (c .args .names) (c .pre))
 
--- src/lib.rt:51:1
 returns : tie.Need-returns
 returns c = (size-is (c .args .names), size-small (c .args .names) (c .pre))
 

@@ -1,0 +1,5 @@
+-- Laws of the classification. To be read in this order.
+pub mod Marking
+pub mod Nodes
+pub mod Bridge
+pub mod Meaning

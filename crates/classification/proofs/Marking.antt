@@ -1,0 +1,128 @@
+-- Laws of marking by the rules: what a function is given, and what each of its turns and exits has done.
+--   setting-stays, source-stays, pair     what is asked holds after marks are put, too
+--   part-pass, fill-pass, ..-pass         a mark put by a rule is a pass
+--   spread-.., looked-..                  what is left to mark by a name, by its axiom's form and by whether it is marked
+-- Not here: laws of passes for any rule (crate marks).
+use mathlib.Core.Path.{_≡_, refl, sym, _∙_}
+use mathlib.Core.Bool.{Bool, true, false, false≢true}
+use mathlib.Core.List.{List}
+use Prim.Native.Nat.{ℕ, _≤_, _<_}
+use native.Mathlib.Omega.{arith}
+use Rattle.el.proofs.Tests.{Tells, tells-as, never, always}
+use Rattle.el.proofs.Derivations.{Serves}
+use Rattle.release.specs.Files.{joins, restricts}
+use Rattle.release.specs.Tables.{kindAt, roleAt, fillerAt, countAt, partAt, HasRow, Conjunctive}
+use Rattle.release.proofs.Faults.{restricts-not-joins}
+use Rattle.marks.specs.declared.Square.{Square}
+use Rattle.marks.specs.Squares.{Room, Marked, Put}
+use Rattle.marks.specs.Passes.{Grows, Pass, Below, Due}
+use Rattle.marks.proofs.Squares.{refuted}
+use Rattle.marks.proofs.Passes.{room-stays, marks-stay, below-end, pass-none, pass-as, pass-with, pass-changed, pass-unchanged, put-pass, due-as}
+use Rattle.classification.specs.Steps.{PartMarked, Gathers, Fills, Step, to-itself, to-top, to-part, to-gathered, to-filled, Filled, Spread, Looked, Seeds, Row, Setting, InRow, Source, Pair, Hint}
+
+not-both : {A : Type 0} (k : ℕ) → joins k ≡ true → restricts k ≡ true → A
+not-both k j r = absurd (false≢true (sym (restricts-not-joins k r) ∙ j))
+
+pub joined : {kind k : ℕ} → kind ≡ k → kind ≡ 2 → joins k ≡ true
+joined e two = rw (← e, two) refl
+
+-- what is asked
+module _ {s t : List ℕ} {q : Square} where
+  pub setting-stays : {w v : List ℕ} → Grows (Step s t q) q w v → Setting s t q w → Setting s t q v
+  setting-stays g h = record { shaped = h .shaped; room = room-stays g (h .room) }
+
+  pub source-stays : {w v : List ℕ} {x b : ℕ} → Grows (Step s t q) q w v → Source s t q w x b → Source s t q v x b
+  source-stays g h = record { in-row = record { setting = setting-stays g (h .in-row .setting); row = h .in-row .row; name = h .in-row .name }; marked = marks-stay g (h .marked) }
+
+pub hint : {s t : List ℕ} {q : Square} {w : List ℕ} → Setting s t q w → Hint t q w
+hint h = record { rows = h .shaped .rows; room = h .room }
+
+pub hint-row : {t : List ℕ} {q : Square} {w : List ℕ} {b : ℕ} → Hint t q w → b < q .names → HasRow t b
+hint-row h l = record { row = omega (arith, h .rows) }
+
+module _ {s t : List ℕ} {q : Square} {w : List ℕ} {x b : ℕ} (h : InRow s t q w x b) where
+  pub name-row : HasRow t b
+  name-row = record { row = omega (arith, h .setting .shaped .rows, h .name) }
+
+  pub conjunctive : joins (kindAt t b) ≡ true → Conjunctive (q .names) s t b
+  conjunctive j = record { shaped = h .setting .shaped; is-name = h .name; is-conjunction = j }
+
+  pub part-small : {i y : ℕ} → joins (kindAt t b) ≡ true → i < countAt s t b → y ≡ partAt s t b i → y ≤ q .names
+  part-small {i} j l e = omega (arith, e, h .setting .shaped .part b i (h .name) j l)
+
+  pub pair : {y : ℕ} → restricts (kindAt t b) ≡ true → y < q .names → Pair t q w x b y
+  pair r l = record { rows = h .setting .shaped .rows; room = h .setting .room; fillers = h .setting .shaped .filler; row = h .row; left = h .name; is-restriction = r; right = l }
+
+-- conjuncts and fillers of a marked name
+module _ {s t : List ℕ} {q : Square} {w v : List ℕ} {x b : ℕ} {r : Bool} (h : Source s t q w x b) where
+  pub part-pass : {i y : ℕ} → joins (kindAt t b) ≡ true → i < countAt s t b → y ≡ partAt s t b i → Put q x y w v r → Pass (Step s t q) q (PartMarked s t q x b i) w v r
+  part-pass {i} j l e p = pass-as (λ m. record { is = rw (← e) m }) (put-pass p (h .in-row .setting .room) (h .in-row .row) (part-small (h .in-row) j l e) (to-part b i (h .in-row .name) j (h .marked) l e))
+
+  pub fill-pass : {y : ℕ} → restricts (kindAt t b) ≡ true → y < q .names → Fills t q b y w → Put q x y w v r → Pass (Step s t q) q (Filled t q x b y) w v r
+  fill-pass k l f p = pass-as (λ m. record { marked = λ g. m }) (put-pass p (h .in-row .setting .room) (h .in-row .row) (omega arith) (to-filled b (h .in-row .name) k (h .marked) l f))
+
+pub filled : {t : List ℕ} {q : Square} {w : List ℕ} {x b y : ℕ} {r : Bool} → Due r (Fills t q b y w) (Marked q w x y) → r ≡ false → Filled t q x b y w
+filled d e = record { marked = d .settled e }
+
+-- the fillers of two names
+module _ {t : List ℕ} {q : Square} {w : List ℕ} {x b y : ℕ} (h : Pair t q w x b y) where
+  pub fillers-small : {k under over : ℕ} → k ≡ kindAt t y → k ≡ 4 → under ≡ fillerAt t b → over ≡ fillerAt t y → (under ≤ q .names) × (over ≤ q .names)
+  fillers-small e f g i = let z : restricts (kindAt t y) ≡ true = rw (← e, f) refl in (rw g (h .fillers b (h .left) (h .is-restriction)), rw i (h .fillers y (h .right) z))
+
+pub due-fill : {t : List ℕ} {q : Square} {w : List ℕ} {x b y k role role-y under over : ℕ} {r : Bool} → k ≡ kindAt t y → k ≡ 4 → role ≡ roleAt t b → role-y ≡ roleAt t y → Serves role role-y → under ≡ fillerAt t b → over ≡ fillerAt t y → Tells r (Marked q w under over) → Due r (Fills t q b y w) (Marked q w x y)
+due-fill e four f g same i j m = due-as (tells-as (λ z. record { kind = sym e ∙ four; role = sym f ∙ same ∙ g; filler = rw (← i, ← j) z }) (λ z. rw (i, j) (z .filler)) m)
+
+-- the conjuncts of a name, all marked or one not
+module _ {s t : List ℕ} {q : Square} {w : List ℕ} {x y : ℕ} where
+  pub part-marked : {i z : ℕ} {r : Bool} → z ≡ partAt s t y i → Tells r (Marked q w x z) → r ≡ true → PartMarked s t q x y i w
+  part-marked e m k = record { is = rw (← e) (m .sound k) }
+
+  pub not-gathers : {i z : ℕ} {r : Bool} → z ≡ partAt s t y i → i < countAt s t y → Tells r (Marked q w x z) → r ≡ false → Tells false (Gathers s t q x y w)
+  not-gathers {i} e l m k = never (λ g. refuted m k (rw e (g .parts .at i l .is)))
+
+  pub gathers-all : {i count kind : ℕ} → kind ≡ kindAt t y → kind ≡ 2 → count ≡ countAt s t y → count ≤ i → Below (PartMarked s t q x y) i w → Tells true (Gathers s t q x y w)
+  gathers-all e two f l b = always (record { kind = sym e ∙ two; parts = below-end (omega arith) b })
+
+-- by a name
+module _ {s t : List ℕ} {q : Square} {w : List ℕ} {x b : ℕ} where
+  pub spread-parts : joins (kindAt t b) ≡ true → Below (PartMarked s t q x b) (countAt s t b) w → Spread s t q x b w
+  spread-parts j p = record { parts = λ k m. p; fillers = λ k. not-both (kindAt t b) j k }
+
+  pub spread-fillers : restricts (kindAt t b) ≡ true → Below (Filled t q x b) (q .names) w → Spread s t q x b w
+  spread-fillers r p = record { parts = λ k. not-both (kindAt t b) k r; fillers = λ k m. p }
+
+  pub spread-none : joins (kindAt t b) ≡ false → restricts (kindAt t b) ≡ false → Spread s t q x b w
+  spread-none j r = record { parts = λ k. absurd (false≢true (sym j ∙ k)); fillers = λ k. absurd (false≢true (sym r ∙ k)) }
+
+  spread-unmarked : (Marked q w x b → ⊥) → Spread s t q x b w
+  spread-unmarked f = record { parts = λ k m. absurd (f m); fillers = λ k m. absurd (f m) }
+
+  pub looked-marked : {v : List ℕ} {r : Bool} → Marked q w x b → Pass (Step s t q) q (Spread s t q x b) w v r → Pass (Step s t q) q (Looked s t q x b) w v r
+  looked-marked m p = pass-as (λ z. record { spread = z; gathered = λ g. marks-stay (p .grows) m }) p
+
+  pub gather-pass : {v : List ℕ} {r : Bool} → InRow s t q w x b → (Marked q w x b → ⊥) → Gathers s t q x b w → Put q x b w v r → Pass (Step s t q) q (Looked s t q x b) w v r
+  gather-pass h f g p = pass-with (λ e m. absurd (f (rw e at m))) (put-pass p (h .setting .room) (h .row) (omega (arith, h .name)) (to-gathered (h .name) g))
+
+  pub looked-unmarked : (Marked q w x b → ⊥) → (Gathers s t q x b w → ⊥) → Pass (Step s t q) q (Looked s t q x b) w w false
+  looked-unmarked f g = pass-none (record { spread = spread-unmarked f; gathered = λ z. absurd (g z) })
+
+-- a row
+module _ {q : Square} {w u v : List ℕ} {x : ℕ} {a b : Bool} (room : Room q w) (h : x ≤ q .names) (p : Put q x x w u a) (o : Put q x (q .names) u v b) where
+  itself : (s t : List ℕ) → Pass (Step s t q) q (λ z. Marked q z x x) w u a
+  itself s t = put-pass p room h h (to-itself refl)
+
+  top : (s t : List ℕ) → Pass (Step s t q) q (λ z. Marked q z x (q .names)) u v b
+  top s t = put-pass o (room-stays (itself s t .grows) room) h (omega arith) (to-top refl)
+
+  pub seeds-changed : b ≡ true → Seeds q x w v true
+  seeds-changed e = record { pass = λ s t. pass-changed (itself s t) (top s t) e }
+
+  pub seeds-unchanged : b ≡ false → Seeds q x w v a
+  seeds-unchanged e = record { pass = λ s t. pass-unchanged (λ d m. record { itself = d; top = m }) (itself s t) (top s t) e }
+
+module _ {s t : List ℕ} {q : Square} {w u v : List ℕ} {x : ℕ} {a b : Bool} (p : Seeds q x w u a) (o : Pass (Step s t q) q (Below (Looked s t q x) (q .names)) u v b) where
+  pub row-changed : b ≡ true → Pass (Step s t q) q (Row s t q x) w v true
+  row-changed e = pass-changed (p .pass s t) o e
+
+  pub row-unchanged : b ≡ false → Pass (Step s t q) q (Row s t q x) w v a
+  row-unchanged e = pass-unchanged (λ d l. record { seeded = d; looked = l }) (p .pass s t) o e

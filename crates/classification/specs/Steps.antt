@@ -1,0 +1,92 @@
+-- The rules of classification over the table of a release, by the marks of a square q in the memory w.
+--   Step s t q w x y        a rule allows the mark (x, y): x ⊑ x; x ⊑ ⊤; a conjunct of a marked name; a defined conjunction of
+--                           which all conjuncts are marked; a defined ∃r.B, by a marked name below ∃r.C with (C, B) marked
+--   Gathers s t q x y w     y is a defined conjunction, and its conjuncts are marked in row x
+--   Fills t q b y w         y is a defined ∃r.B, and b lies below ∃r.C with (C, B) marked
+--   Looked s t q x b w      nothing is left to mark in row x by b: by its axiom if it is marked, and itself by its conjuncts
+--   Row s t q x w           nothing is left to mark in row x
+-- Not here: what the rules mean (proofs/Bridge).
+use mathlib.Core.Path.{_≡_}
+use mathlib.Core.Bool.{Bool, true}
+use mathlib.Core.List.{List}
+use Prim.Native.Nat.{ℕ, _*_, _≤_, _<_}
+use lib.ListN.{length}
+use Rattle.el.proofs.Derivations.{Serves}
+use Rattle.release.specs.Files.{joins, restricts}
+use Rattle.release.specs.Tables.{kindAt, roleAt, fillerAt, countAt, partAt, Shaped}
+use Rattle.marks.specs.declared.Square.{Square}
+use Rattle.marks.specs.Squares.{Room, Marked}
+use Rattle.marks.specs.Passes.{Pass, Below}
+
+-- the conjunct i of b is marked in row x
+pub record PartMarked (s t : List ℕ) (q : Square) (x b i : ℕ) (w : List ℕ) : Type 0 where
+  pub is : Marked q w x (partAt s t b i)
+
+pub record Gathers (s t : List ℕ) (q : Square) (x y : ℕ) (w : List ℕ) : Type 0 where
+  pub kind : kindAt t y ≡ 2
+  pub parts : Below (PartMarked s t q x y) (countAt s t y) w
+
+pub record Fills (t : List ℕ) (q : Square) (b y : ℕ) (w : List ℕ) : Type 0 where
+  pub kind : kindAt t y ≡ 4
+  pub role : Serves (roleAt t b) (roleAt t y)
+  pub filler : Marked q w (fillerAt t b) (fillerAt t y)
+
+pub data Step (s t : List ℕ) (q : Square) (w : List ℕ) (x y : ℕ) : Type 0 where
+  to-itself : y ≡ x → Step s t q w x y
+  to-top : y ≡ q .names → Step s t q w x y
+  to-part : (b i : ℕ) → b < q .names → joins (kindAt t b) ≡ true → Marked q w x b → i < countAt s t b → y ≡ partAt s t b i → Step s t q w x y
+  to-gathered : y < q .names → Gathers s t q x y w → Step s t q w x y
+  to-filled : (b : ℕ) → b < q .names → restricts (kindAt t b) ≡ true → Marked q w x b → y < q .names → Fills t q b y w → Step s t q w x y
+
+-- nothing left to mark: the ∃r.B that b serves for; what the axiom of b gives; b; the two cells that are marked in any row
+pub record Filled (t : List ℕ) (q : Square) (x b y : ℕ) (w : List ℕ) : Type 0 where
+  pub marked : Fills t q b y w → Marked q w x y
+
+pub record Spread (s t : List ℕ) (q : Square) (x b : ℕ) (w : List ℕ) : Type 0 where
+  pub parts : joins (kindAt t b) ≡ true → Marked q w x b → Below (PartMarked s t q x b) (countAt s t b) w
+  pub fillers : restricts (kindAt t b) ≡ true → Marked q w x b → Below (Filled t q x b) (q .names) w
+
+pub record Looked (s t : List ℕ) (q : Square) (x b : ℕ) (w : List ℕ) : Type 0 where
+  pub spread : Spread s t q x b w
+  pub gathered : Gathers s t q x b w → Marked q w x b
+
+pub record Seeded (q : Square) (x : ℕ) (w : List ℕ) : Type 0 where
+  pub itself : Marked q w x x
+  pub top : Marked q w x (q .names)
+
+pub record Row (s t : List ℕ) (q : Square) (x : ℕ) (w : List ℕ) : Type 0 where
+  pub seeded : Seeded q x w
+  pub looked : Below (Looked s t q x) (q .names) w
+
+-- a pass that seeds a row, whatever the release
+pub record Seeds (q : Square) (x : ℕ) (w v : List ℕ) (r : Bool) : Type 0 where
+  pub pass : (s t : List ℕ) → Pass (Step s t q) q (Seeded q x) w v r
+
+-- what the functions ask: a table and a square; a cell of it; a marked cell
+pub record Setting (s t : List ℕ) (q : Square) (w : List ℕ) : Type 0 where
+  pub shaped : Shaped (q .names) s t
+  pub room : Room q w
+
+pub record InRow (s t : List ℕ) (q : Square) (w : List ℕ) (x b : ℕ) : Type 0 where
+  pub setting : Setting s t q w
+  pub row : x ≤ q .names
+  pub name : b < q .names
+
+pub record Source (s t : List ℕ) (q : Square) (w : List ℕ) (x b : ℕ) : Type 0 where
+  pub in-row : InRow s t q w x b
+  pub marked : Marked q w x b
+
+-- two names whose fillers are compared, the first of them a restriction, in row x
+pub record Pair (t : List ℕ) (q : Square) (w : List ℕ) (x b y : ℕ) : Type 0 where
+  pub rows : 4 * q .names ≤ length t
+  pub room : Room q w
+  pub fillers : (z : ℕ) → z < q .names → restricts (kindAt t z) ≡ true → fillerAt t z ≤ q .names
+  pub row : x ≤ q .names
+  pub left : b < q .names
+  pub is-restriction : restricts (kindAt t b) ≡ true
+  pub right : y < q .names
+
+-- what a search asks that is only a hint
+pub record Hint (t : List ℕ) (q : Square) (w : List ℕ) : Type 0 where
+  pub rows : 4 * q .names ≤ length t
+  pub room : Room q w

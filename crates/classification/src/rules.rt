@@ -1,0 +1,160 @@
+// The rules at one cell, or for one marked name. What they ask and give is said in specs/Steps.
+ghost use mathlib.Core.Path.{_≡_};
+ghost use mathlib.Core.Bool.{true};
+ghost use Rattle.el.proofs.Tests.{Tells};
+ghost use Rattle.release.specs.Files.{joins, restricts};
+ghost use Rattle.release.specs.Tables.{kindAt, countAt, HasRow};
+ghost use Rattle.marks.specs.Squares.{Marked};
+ghost use Rattle.marks.specs.Passes.{Pass, Below, Due};
+ghost use Rattle.classification.specs.Steps.{Step, PartMarked, Gathers, Fills, Filled, Spread, Looked, InRow, Source, Pair};
+use marks::Square;
+use marks::is_marked;
+use marks::mark;
+use release::table;
+
+// Whether a name's axiom is a conjunction.
+fn is_conjunction(table: &[u16], x: usize) -> bool
+    requires { ⌜ HasRow (now table) x ⌝ }
+    ensures { λ r. ⌜ r ≡ joins (kindAt (now (table .entry)) x) ⌝ }
+{
+    let kind = table::kind(table, x);
+    if kind == 1 {
+        return true;
+    }
+    kind == 2
+}
+
+// Whether a name's axiom is a restriction ∃r.B.
+pub fn is_restriction(table: &[u16], x: usize) -> bool
+    requires { ⌜ HasRow (now table) x ⌝ }
+    ensures { λ r. ⌜ r ≡ restricts (kindAt (now (table .entry)) x) ⌝ }
+{
+    let kind = table::kind(table, x);
+    if kind == 3 {
+        return true;
+    }
+    kind == 4
+}
+
+// Marks the conjuncts of b, which is marked in row x. Whether a mark is new.
+fn mark_parts(
+    file: &[u8],
+    table: &[u16],
+    work: &mut [u8],
+    square: Square,
+    x: usize,
+    b: usize,
+) -> bool
+    requires { ⌜ Source (now file) (now table) square (now work) x b ⌝ }
+    requires { ⌜ joins (kindAt (now table) b) ≡ true ⌝ }
+    ensures { λ r. ⌜ Pass (Step (now (file .entry)) (now (table .entry)) square) square (Below (PartMarked (now (file .entry)) (now (table .entry)) square x b) (countAt (now (file .entry)) (now (table .entry)) b)) (now (work .entry)) (now (work .exit)) r ⌝ }
+{
+    let count = table::count(file, table, b);
+    let mut changed = false;
+    let mut i = 0;
+    while i < count {
+        let part = table::part(file, table, b, i);
+        i += 1;
+        if mark(work, square, x, part) {
+            changed = true;
+        }
+    }
+    changed
+}
+
+// Whether y is not marked in row x yet, and is a defined ∃r.B that b serves for. The cell is looked at first, since most are
+// marked or not asked for.
+fn fills(table: &[u16], work: &[u8], square: Square, x: usize, b: usize, y: usize) -> bool
+    requires { ⌜ Pair (now table) square (now work) x b y ⌝ }
+    ensures { λ r. ⌜ Due r (Fills (now (table .entry)) square b y (now (work .entry))) (Marked square (now (work .entry)) x y) ⌝ }
+{
+    if is_marked(work, square, x, y) {
+        return false;
+    }
+    if table::kind(table, y) != 4 {
+        return false;
+    }
+    let role = table::role(table, b);
+    if role != table::role(table, y) {
+        return false;
+    }
+    let under = table::filler(table, b);
+    let over = table::filler(table, y);
+    is_marked(work, square, under, over)
+}
+
+// Marks the defined ∃r.B that b serves for, which is marked in row x. Whether a mark is new.
+fn mark_filled(
+    file: &[u8],
+    table: &[u16],
+    work: &mut [u8],
+    square: Square,
+    x: usize,
+    b: usize,
+) -> bool
+    requires { ⌜ Source (now file) (now table) square (now work) x b ⌝ }
+    requires { ⌜ restricts (kindAt (now table) b) ≡ true ⌝ }
+    ensures { λ r. ⌜ Pass (Step (now (file .entry)) (now (table .entry)) square) square (Below (Filled (now (table .entry)) square x b) (square .names)) (now (work .entry)) (now (work .exit)) r ⌝ }
+{
+    let mut changed = false;
+    let mut next = 0;
+    while next < square.names {
+        let y = next;
+        next += 1;
+        if fills(table, work, square, x, b, y) {
+            if mark(work, square, x, y) {
+                changed = true;
+            }
+        }
+    }
+    changed
+}
+
+// Marks what the axiom of b gives, which is marked in row x. Whether a mark is new.
+fn spread(file: &[u8], table: &[u16], work: &mut [u8], square: Square, x: usize, b: usize) -> bool
+    requires { ⌜ Source (now file) (now table) square (now work) x b ⌝ }
+    ensures { λ r. ⌜ Pass (Step (now (file .entry)) (now (table .entry)) square) square (Spread (now (file .entry)) (now (table .entry)) square x b) (now (work .entry)) (now (work .exit)) r ⌝ }
+{
+    if is_conjunction(table, b) {
+        return mark_parts(file, table, work, square, x, b);
+    }
+    if is_restriction(table, b) {
+        return mark_filled(file, table, work, square, x, b);
+    }
+    false
+}
+
+// Whether y is a defined conjunction, and all its conjuncts are marked in row x.
+fn gathers(file: &[u8], table: &[u16], work: &[u8], square: Square, x: usize, y: usize) -> bool
+    requires { ⌜ InRow (now file) (now table) square (now work) x y ⌝ }
+    ensures { λ r. ⌜ Tells r (Gathers (now (file .entry)) (now (table .entry)) square x y (now (work .entry))) ⌝ }
+{
+    if table::kind(table, y) != 2 {
+        return false;
+    }
+    let count = table::count(file, table, y);
+    let mut i = 0;
+    while i < count {
+        let part = table::part(file, table, y, i);
+        if is_marked(work, square, x, part) {
+            i += 1;
+        } else {
+            return false;
+        }
+    }
+    true
+}
+
+// Marks what b gives in row x: if b is marked there, by its axiom; else b itself, by its conjuncts. Whether a mark is new.
+pub fn look(file: &[u8], table: &[u16], work: &mut [u8], square: Square, x: usize, b: usize) -> bool
+    requires { ⌜ InRow (now file) (now table) square (now work) x b ⌝ }
+    ensures { λ r. ⌜ Pass (Step (now (file .entry)) (now (table .entry)) square) square (Looked (now (file .entry)) (now (table .entry)) square x b) (now (work .entry)) (now (work .exit)) r ⌝ }
+{
+    if is_marked(work, square, x, b) {
+        return spread(file, table, work, square, x, b);
+    }
+    if gathers(file, table, work, square, x, b) {
+        return mark(work, square, x, b);
+    }
+    false
+}
