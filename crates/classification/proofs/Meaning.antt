@@ -20,7 +20,8 @@ use Rattle.marks.proofs.Passes.{grows-frame, grows-good, unmarked-good}
 use Rattle.classification.specs.Inclusions.{nodeAt, says, Unclassified, Inclusions, Classified}
 use Rattle.classification.specs.Steps.{Step, Row, Setting}
 use Rattle.classification.proofs.Nodes.{at-node, number-at, at-number, number-small, said, marked}
-use Rattle.classification.proofs.Bridge.{formed, ranges, step-includes, rows-closed}
+use Rattle.classification.proofs.AxiomRows.{formed, ranges}
+use Rattle.classification.proofs.Bridge.{step-includes, rows-closed}
 
 abbrev Means : List ℕ → ℕ → ℕ → ℕ → Type 0
 Means s n x y = Included (axiomsOf s) (nodeAt n x) (nodeAt n y)
