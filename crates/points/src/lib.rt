@@ -16,7 +16,7 @@ pub const SIDE: usize = 128;
 // The bytes of a grid.
 pub const AREA: usize = 16384;
 
-fn is_set(rows: &[u8], k: usize, y: usize) -> bool
+pub fn is_set(rows: &[u8], k: usize, y: usize) -> bool
     requires { ⌜ Grid (now rows) ⌝ }
     requires { ⌜ (k < 128) × (y < 128) ⌝ }
     ensures { λ r. ⌜ Tells r (Set (now (rows .entry)) k y) ⌝ }
