@@ -1,0 +1,4 @@
+-- Laws of outlines. To be read in this order.
+pub mod Roots
+pub mod Atoms
+pub mod Turns

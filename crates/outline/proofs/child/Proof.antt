@@ -1,0 +1,31 @@
+use Rattle.outline.specs.Atoms.{childAt}
+use borrow.Author.Needs.{needs}
+use Rattle.outline.proofs.child.Statement.{statement}
+use Rattle.outline.proofs.child.Tie as tie
+use Rattle.outline.proofs.child.Reads as reads
+use Rattle.outline.proofs.child.Lts as lts
+use Rattle.outline.proofs.wide.Reads as wide-reads
+
+-- src/lib.rt:46:16
+mul-wide : tie.Need-mul-wide
+mul-wide c = search needs
+
+-- src/lib.rt:46:16
+add-wide : tie.Need-add-wide
+add-wide c = search needs
+
+-- src/lib.rt:46:10
+shared-slice-read-wide : tie.Need-shared-slice-read-wide
+shared-slice-read-wide c = search needs
+
+-- src/lib.rt:46:5
+wide-requires : tie.Need-wide-requires
+wide-requires c κs = search needs
+
+-- src/lib.rt:42:1
+returns : tie.Need-returns
+unfolding childAt
+returns c = c .wide .ensures
+
+pub child-spec : {M : Type 1} → statement M
+child-spec = tie.close (tie.spec mul-wide add-wide shared-slice-read-wide wide-requires returns)

@@ -1,0 +1,2 @@
+-- The outline of a concept.
+pub mod Atoms

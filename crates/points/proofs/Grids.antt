@@ -1,0 +1,88 @@
+-- Grids: their room, and rows that gain places one after the other.
+--   adds-none, adds-more, adds-skipped     the start of a row's loop, a turn that sets the place, and one that does not
+--   adds-row                               another row has what it had
+use mathlib.Core.Path.{_≡_, refl, sym, ap, _∙_}
+use mathlib.Core.Logic.{_⊎_, inl, inr}
+use mathlib.Core.Bool.{Bool, true, false}
+use mathlib.Core.List.{List}
+use Prim.Native.Nat.{ℕ, suc, _+_, _≤_, _<_}
+use native.Mathlib.Omega.{arith}
+use native.Mathlib.Decide.{ℕ-discrete}
+use lib.ListN.{length, getD, set, length-set}
+use lib.Seq.{getD-set-same, getD-set-other}
+use Rattle.el.proofs.Tests.{which}
+use Rattle.marks.specs.declared.Square.{Square}
+use Rattle.marks.specs.Squares.{cell, size, Room, Marked, Put}
+use Rattle.marks.proofs.Squares.{cell-below, cell-same, mark-stays}
+use Rattle.points.specs.Grids.{grid, Grid, Set, Adds}
+
+pub grid-room : {w : List ℕ} → Grid w → Room grid w
+unfolding size
+grid-room g = record { small = record { few = omega arith; near = omega arith }; fits = g .room }
+
+pub put-grid : {k y : ℕ} {w v : List ℕ} {r : Bool} → Put grid k y w v r → length v ≡ length w
+put-grid {k} {y} {w} {v} {r} p = elim (which r) [ inl e ↦ ap length (p .put e) ∙ length-set w (cell grid k y) 1 | inr e ↦ ap length (p .same e) ]
+
+module _ {P Q : ℕ → Type 0} {k : ℕ} {w : List ℕ} where
+  pub adds-none : Adds k 0 P Q w w
+  adds-none = record { long = refl; old = λ a b h l m. m; all = λ y h. absurd (omega arith); only = λ a b h l m. inl m }
+
+  pub adds-skipped : {e : ℕ} {v : List ℕ} → Adds k e P Q w v → Q e → Adds k (e + 1) P Q w v
+  adds-skipped {e} {v} adds skipped = record {
+    long = adds .long;
+    old = adds .old;
+    all = λ y h. by-place y h (ℕ-discrete y e);
+    only = λ a b h l m. elim (adds .only a b h l m) [ inl z ↦ inl z | inr z ↦ inr (z .0, (omega (arith, z .1 .0), z .1 .1)) ];
+  }
+    where
+      by-place : (y : ℕ) → y < e + 1 → Dec (y ≡ e) → Set v k y ⊎ Q y
+      by-place y h (yes z) = inr (rw z skipped)
+      by-place y h (no z) = adds .all y (omega arith)
+
+  module _ {e : ℕ} {u v : List ℕ} {r : Bool} (kb : k < 128) (eb : e < 128) (g : Grid u) (adds : Adds k e P Q w u) (p : P e) (put : Put grid k e u v r) where
+    put-here : Set v k e
+    put-here = elim (which r) [
+      | inl z ↦ record { is = rw (put .put z) (getD-set-same u (cell grid k e) 1 0 (omega (arith, cell-below grid k e (omega arith) (omega arith), grid-room g .fits))) }
+      | inr z ↦ rw (put .same z) (put .found z)
+    ]
+
+    put-old : (a b : ℕ) → Set u a b → Set v a b
+    put-old a b m = elim (which r) [
+      | inl z ↦ rw (put .put z) (mark-stays (cell grid k e) (omega (arith, cell-below grid k e (omega arith) (omega arith), grid-room g .fits)) m)
+      | inr z ↦ rw (put .same z) m
+    ]
+
+    put-only : (a b : ℕ) → a < 128 → b < 128 → Set v a b → Set u a b ⊎ ((a ≡ k) × (b ≡ e))
+    put-only a b h l m = elim (which r) [
+      | inl z ↦ by-place (ℕ-discrete (cell grid a b) (cell grid k e)) (rw (put .put z) at m)
+      | inr z ↦ inl (rw (put .same z) at m)
+    ]
+      where
+        by-place : Dec (cell grid a b ≡ cell grid k e) → Set (set u (cell grid k e) 1) a b → Set u a b ⊎ ((a ≡ k) × (b ≡ e))
+        by-place (yes z) m = inr (cell-same grid a b k e (omega arith) (omega arith) z)
+        by-place (no z) m = inl (record { is = sym (getD-set-other u (cell grid k e) (cell grid a b) 1 0 z) ∙ m .is })
+
+    pub adds-more : Adds k (e + 1) P Q w v
+    adds-more = record {
+      long = put-grid put ∙ adds .long;
+      old = λ a b h l m. put-old a b (adds .old a b h l m);
+      all = λ y h. by-place y h (ℕ-discrete y e);
+      only = λ a b h l m. elim (put-only a b h l m) [
+        | inl z ↦ elim (adds .only a b h l z) [ inl x ↦ inl x | inr x ↦ inr (x .0, (omega (arith, x .1 .0), x .1 .1)) ]
+        | inr z ↦ inr (z .0, (omega (arith, z .1), rw (z .1) p))
+      ];
+    }
+      where
+        by-place : (y : ℕ) → y < e + 1 → Dec (y ≡ e) → Set v k y ⊎ Q y
+        by-place y h (yes z) = inl (rw z put-here)
+        by-place y h (no z) = elim (adds .all y (omega arith)) [ inl x ↦ inl (put-old k y x) | inr x ↦ inr x ]
+
+pub adds-end : {P Q : ℕ → Type 0} {k e f : ℕ} {w v : List ℕ} → e ≡ f → Adds k e P Q w v → Adds k f P Q w v
+adds-end z adds = rw (← z) adds
+
+pub adds-grid : {P Q : ℕ → Type 0} {k e : ℕ} {w v : List ℕ} → Adds k e P Q w v → Grid w → Grid v
+adds-grid adds g = record { room = omega (arith, adds .long, g .room) }
+
+-- another row
+pub adds-row : {P Q : ℕ → Type 0} {k e : ℕ} {w v : List ℕ} → Adds k e P Q w v → (a b : ℕ) → (a ≡ k → ⊥) → a < 128 → b < 128 → Set v a b → Set w a b
+adds-row adds a b apart h l m = elim (adds .only a b h l m) [ inl z ↦ z | inr z ↦ absurd (apart (z .0)) ]

@@ -1,0 +1,67 @@
+-- The question C ⊑ D of a release, with its refusals in their order: "release, 19 for C, 19 for D, 32".
+--   refusalNumber s c d w      the number of the first refusal that the file s, the texts c and d and the work memory w meet, or 0
+--   refusalSide s c d w        its side: 1 for the release and for C, 2 for D, 0 for the memory
+--   askedBy number side v      what is answered: the refusal, or v where the number is 0
+--   AskedAs s c d w v r        the answer r, and the memory w that became v
+use mathlib.Core.Path.{_≡_}
+use mathlib.Core.Bool.{Bool, true}
+use mathlib.Core.List.{List}
+use Prim.Native.Nat.{ℕ, zero, suc, _*_, _≤_}
+use lib.Dec.{eqb, ltb}
+use lib.ListN.{length}
+use Rattle.el.specs.Lists.{pick}
+use Rattle.el.specs.Concepts.{Concept}
+use Rattle.release.specs.Files.{fault, firstOf, namesOf, rolesOf, axiomsOf}
+use Rattle.release.specs.Tables.{Release}
+use Rattle.release.specs.declared.Checked.{Checked}
+use Rattle.release.specs.declared.Checked.the-variants as checked
+use Rattle.concept.specs.Bytes.{readConcept, conceptOk}
+use Rattle.marks.specs.Squares.{size, Zeroed}
+use Rattle.question.specs.Evaluation.{Held}
+use Rattle.question.specs.declared.Asked.{Asked}
+use Rattle.question.specs.declared.Asked.the-variants.{Answer, Refused}
+
+-- the concept of an accepted text
+abbrev pub conceptIn : List ℕ → List ℕ → Concept
+conceptIn s c = readConcept (namesOf s) (rolesOf s) c .concept
+
+abbrev pub textOk : List ℕ → List ℕ → Bool
+textOk s c = conceptOk (namesOf s) (rolesOf s) c
+
+unfoldable pub refusalNumber : List ℕ → List ℕ → List ℕ → List ℕ → ℕ
+refusalNumber s c d w = firstOf (fault s) (pick (textOk s c) (pick (textOk s d) (pick (ltb (length w) (4 * size (namesOf s))) 32 0) 19) 19)
+
+unfoldable pub refusalSide : List ℕ → List ℕ → List ℕ → List ℕ → ℕ
+refusalSide s c d w = pick (eqb (fault s) 0) (pick (textOk s c) (pick (textOk s d) 0 2) 1) 1
+
+abbrev pub refusedBy : ℕ → ℕ → Asked
+refusedBy number side = Refused (record { number = number; side = side })
+
+abbrev pub askedBy : ℕ → ℕ → ℕ → Asked
+askedBy zero side v = Answer v
+askedBy (suc k) side v = refusedBy (suc k) side
+
+abbrev pub ofRelease : Checked → Asked
+ofRelease (checked.Accepted counts) = Answer 0
+ofRelease (checked.Refused refusal) = Refused refusal
+
+pub record AskedAs (s c d w v : List ℕ) (r : Asked) : Type 0 where
+  pub value : ℕ
+  pub answer : r ≡ askedBy (refusalNumber s c d w) (refusalSide s c d w) value
+  -- a refusal changes no byte
+  pub unchanged : (refusalNumber s c d w ≡ 0 → ⊥) → v ≡ w
+  pub held : refusalNumber s c d w ≡ 0 → Held (axiomsOf s) (conceptIn s c) (conceptIn s d) value
+  pub cleared : refusalNumber s c d w ≡ 0 → Zeroed (4 * size (namesOf s)) w v
+
+-- answering where nothing is refused
+pub record ToAnswer (s t c d w : List ℕ) (n cells : ℕ) : Type 0 where
+  pub release : Release s t
+  pub names : n ≡ namesOf s
+  pub below : textOk s c ≡ true
+  pub above : textOk s d ≡ true
+  pub cells-are : cells ≡ size n
+  pub room : 4 * cells ≤ length w
+
+pub record Answered (s c d w v : List ℕ) (r : ℕ) : Type 0 where
+  pub held : Held (axiomsOf s) (conceptIn s c) (conceptIn s d) r
+  pub cleared : Zeroed (4 * size (namesOf s)) w v

@@ -1,0 +1,88 @@
+// The question whether an inclusion of two concepts is derivable from a release.
+ghost use mathlib.Core.Path.{_≡_};
+ghost use Rattle.question.specs.Asking.{ofRelease, refusedBy, AskedAs, ToAnswer, Answered};
+use classification::classify;
+use concept::is_concept;
+use marks::Square;
+use marks::clear;
+use marks::size;
+use release::Checked;
+use release::Refusal;
+use release::read_release;
+use release::table::Table;
+
+mod evaluation;
+
+// The answer, 1 where the inclusion is derivable and else 0; or a refusal.
+pub enum Asked {
+    Answer(u8),
+    Refused(Refusal),
+}
+
+// The refusal of a release that was not accepted.
+fn of_release(checked: Checked) -> Asked
+    ensures { λ r. ⌜ r ≡ ofRelease checked ⌝ }
+{
+    match checked {
+        Checked::Refused(refusal) => Asked::Refused(refusal),
+        Checked::Accepted(_) => Asked::Answer(0),
+    }
+}
+
+fn refused(number: u8, side: u8) -> Asked
+    ensures { λ r. ⌜ r ≡ refusedBy number side ⌝ }
+{
+    Asked::Refused(Refusal {
+        number: number,
+        side: side,
+    })
+}
+
+// Answers a question that nothing refuses, by the square of the inclusions of nodes, which needs a quarter of the work memory. `cells` is the
+// number of its cells. The memory is of any content at first, and cleared at the end.
+fn answer(
+    file: &[u8],
+    table: &[u16],
+    below: &[u8],
+    above: &[u8],
+    work: &mut [u8],
+    names: usize,
+    cells: usize,
+) -> u8
+    requires { ⌜ ToAnswer (now file) (now table) (now below) (now above) (now work) names cells ⌝ }
+    ensures { λ r. ⌜ Answered (now (file .entry)) (now (below .entry)) (now (above .entry)) (now (work .entry)) (now (work .exit)) r ⌝ }
+{
+    let square = Square {
+        base: 0,
+        names: names,
+    };
+    clear(work, cells);
+    classify(file, table, work, square);
+    let value = evaluation::decide(file, table, work, square, below, above);
+    clear(work, 4 * cells);
+    value
+}
+
+// Asks whether below ⊑ above is derivable from the release of the file.
+pub fn ask_inclusion(file: &[u8], below: &[u8], above: &[u8], work: &mut [u8]) -> Asked
+    ensures { λ r. ⌜ AskedAs (now (file .entry)) (now (below .entry)) (now (above .entry)) (now (work .entry)) (now (work .exit)) r ⌝ }
+{
+    let mut table = [0u16; Table::LENGTH];
+    let checked = read_release(file, &mut table);
+    let Checked::Accepted(counts) = checked else {
+        return of_release(checked);
+    };
+    let names = counts.names;
+    let roles = counts.roles;
+    if is_concept(below, names, roles) {
+        if is_concept(above, names, roles) {
+            let cells = size(names);
+            if work.len() < 4 * cells {
+                return refused(32, 0);
+            }
+            return Asked::Answer(answer(file, &table, below, above, work, names, cells));
+        }
+        return refused(19, 2);
+    }
+    refused(19, 1)
+}
