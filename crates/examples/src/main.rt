@@ -8,6 +8,7 @@ mod check;
 mod compare;
 mod memory;
 mod print;
+mod question;
 mod run;
 mod show;
 mod signatures;
@@ -22,6 +23,7 @@ fn main() {
     run::family(Call::Check, b"refusals");
     run::family(Call::Show, b"shows");
     run::family(Call::Signatures, b"signatures");
+    run::family(Call::Question, b"question");
     run::family(Call::Compare, b"compare");
     run::family(Call::Station, b"station");
 }

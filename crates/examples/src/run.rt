@@ -4,6 +4,7 @@ use crate::cases;
 use crate::check;
 use crate::compare;
 use crate::print;
+use crate::question;
 use crate::show;
 use crate::signatures;
 use crate::station;
@@ -16,6 +17,7 @@ pub enum Call {
     Check,
     Show,
     Signatures,
+    Question,
     Compare,
     Station,
 }
@@ -93,6 +95,7 @@ fn judge(call: Call, case: &[u8]) -> Verdict {
         Call::Check => check::judge(case),
         Call::Show => show::judge(case),
         Call::Signatures => signatures::judge(case),
+        Call::Question => question::judge(case),
         Call::Compare => compare::judge(case),
         Call::Station => station::judge(case),
     }
@@ -104,6 +107,7 @@ fn fields_of(call: Call) -> usize {
         Call::Check => check::FIELDS,
         Call::Show => show::FIELDS,
         Call::Signatures => signatures::FIELDS,
+        Call::Question => question::FIELDS,
         Call::Compare => compare::FIELDS,
         Call::Station => station::FIELDS,
     }

@@ -27,7 +27,8 @@ use Rattle.marks.proofs.Squares.{zeroed-unmarked}
 use Rattle.classification.specs.Inclusions.{Unclassified, Classified}
 use Rattle.question.specs.declared.Asked.{Asked}
 use Rattle.question.specs.declared.Asked.the-variants.{Answer, Refused}
-use Rattle.question.specs.Evaluation.{World, ToDecide, Held}
+use Rattle.el.specs.Derivability.{IsAnswer}
+use Rattle.question.specs.Evaluation.{World, ToDecide}
 use Rattle.question.specs.Asking.{conceptIn, textOk, refusalNumber, refusalSide, refusedBy, askedBy, ofRelease, AskedAs, ToAnswer, Answered}
 
 pub few-names : (s : List ℕ) → fault s ≡ 0 → namesOf s < 128
@@ -61,7 +62,7 @@ module _ {s t c d w : List ℕ} {n cells : ℕ} (given : ToAnswer s t c d w n ce
   }
 
   pub answered : {v u x : List ℕ} {r : ℕ} → Zeroed cells w v → Classified s (record { base = 0; names = n }) v u → Zeroed (4 * cells) u x
-      → ((k m : ℕ) (a b : Concept) → IsTextOf k m a c → IsTextOf k m b d → Held (axiomsOf s) a b r) → Answered s c d w x r
+      → ((k m : ℕ) (a b : Concept) → IsTextOf k m a c → IsTextOf k m b d → IsAnswer (axiomsOf s) a b r) → Answered s c d w x r
   answered {v} {u} {x} zeroed classified cleared held =
       let z : cells ≡ size (namesOf s) = given .cells-are ∙ ap size (given .names) in
       record {

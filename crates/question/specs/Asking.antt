@@ -11,13 +11,13 @@ use lib.Dec.{eqb, ltb}
 use lib.ListN.{length}
 use Rattle.el.specs.Lists.{pick}
 use Rattle.el.specs.Concepts.{Concept}
+use Rattle.el.specs.Derivability.{IsAnswer}
 use Rattle.release.specs.Files.{fault, firstOf, namesOf, rolesOf, axiomsOf}
 use Rattle.release.specs.Tables.{Release}
 use Rattle.release.specs.declared.Checked.{Checked}
 use Rattle.release.specs.declared.Checked.the-variants as checked
 use Rattle.concept.specs.Bytes.{readConcept, conceptOk}
 use Rattle.marks.specs.Squares.{size, Zeroed}
-use Rattle.question.specs.Evaluation.{Held}
 use Rattle.question.specs.declared.Asked.{Asked}
 use Rattle.question.specs.declared.Asked.the-variants.{Answer, Refused}
 
@@ -50,7 +50,7 @@ pub record AskedAs (s c d w v : List ℕ) (r : Asked) : Type 0 where
   pub answer : r ≡ askedBy (refusalNumber s c d w) (refusalSide s c d w) value
   -- a refusal changes no byte
   pub unchanged : (refusalNumber s c d w ≡ 0 → ⊥) → v ≡ w
-  pub held : refusalNumber s c d w ≡ 0 → Held (axiomsOf s) (conceptIn s c) (conceptIn s d) value
+  pub held : refusalNumber s c d w ≡ 0 → IsAnswer (axiomsOf s) (conceptIn s c) (conceptIn s d) value
   pub cleared : refusalNumber s c d w ≡ 0 → Zeroed (4 * size (namesOf s)) w v
 
 -- answering where nothing is refused
@@ -63,5 +63,5 @@ pub record ToAnswer (s t c d w : List ℕ) (n cells : ℕ) : Type 0 where
   pub room : 4 * cells ≤ length w
 
 pub record Answered (s c d w v : List ℕ) (r : ℕ) : Type 0 where
-  pub held : Held (axiomsOf s) (conceptIn s c) (conceptIn s d) r
+  pub held : IsAnswer (axiomsOf s) (conceptIn s c) (conceptIn s d) r
   pub cleared : Zeroed (4 * size (namesOf s)) w v

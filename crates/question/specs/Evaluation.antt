@@ -4,9 +4,7 @@
 --   Above s t a n atoms        each row does, for the root of its number
 --   KeptRow al point e l j d   row j of l has lost, of the points below e, just those that do not lie below d
 --   Kept al point e l atoms    each row has, for the root of its number
---   Held al c d v              v is 1 where c ⊑ d is derivable from al, else 0
 use mathlib.Core.Path.{_≡_}
-use mathlib.Core.Logic.{_↔_}
 use mathlib.Core.List.{List}
 use Prim.Native.Nat.{ℕ, suc, _≤_, _<_}
 use lib.ListN.{length}
@@ -85,6 +83,3 @@ pub record ToDecide (s t : List ℕ) (q : Square) (w c d : List ℕ) : Type 0 wh
   pub above-text : IsTextOf (q .names) roles above d
 
 -- the answer to a question
-pub record Held (al : List Axiom) (c d : Concept) (v : ℕ) : Type 0 where
-  pub small : v ≤ 1
-  pub derivable : (v ≡ 1) ↔ Derives al c d

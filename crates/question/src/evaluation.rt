@@ -5,7 +5,8 @@ ghost use Prim.Native.Nat.{ℕ};
 ghost use Rattle.el.specs.Concepts.{Concept};
 ghost use Rattle.concept.specs.Bytes.{IsTextOf};
 ghost use Rattle.release.specs.Files.{axiomsOf};
-ghost use Rattle.question.specs.Evaluation.{ToFill, Filled, ToLose, Lost, ToDecide, Held};
+ghost use Rattle.el.specs.Derivability.{IsAnswer};
+ghost use Rattle.question.specs.Evaluation.{ToFill, Filled, ToLose, Lost, ToDecide};
 use marks::Square;
 use outline::Extent;
 use outline::outline;
@@ -82,7 +83,7 @@ pub fn decide(
     above: &[u8],
 ) -> u8
     requires { ⌜ ToDecide (now file) (now table) square (now work) (now below) (now above) ⌝ }
-    ensures { λ r. ⌜ ((n m : ℕ) (c d : Concept) → IsTextOf n m c (now (below .entry)) → IsTextOf n m d (now (above .entry)) → Held (axiomsOf (now (file .entry))) c d r) ⌝ }
+    ensures { λ r. ⌜ ((n m : ℕ) (c d : Concept) → IsTextOf n m c (now (below .entry)) → IsTextOf n m d (now (above .entry)) → IsAnswer (axiomsOf (now (file .entry))) c d r) ⌝ }
 {
     let mut owners = [0u8; 256];
     let mut below_atoms = [0u8; 384];
