@@ -11,3 +11,4 @@ pub mod NormalForm
 pub mod Checks
 pub mod Linked
 pub mod Places
+pub mod LongerFiles
