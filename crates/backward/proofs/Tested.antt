@@ -4,11 +4,11 @@
 --   role-filler, role-top, role-nothing     the fillers of two restrictions
 --   part-step, top-step, ..                 which rule it is that allows a mark
 --   cell-marked, cell-put, cell-none        a pair looked at
-use mathlib.Core.Path.{_≡_, refl, sym, _∙_}
+use mathlib.Core.Path.{_≡_, refl}
 use mathlib.Core.Bool.{Bool, true, false}
 use mathlib.Core.List.{List}
 use mathlib.Core.Logic.{_⊎_, inl, inr}
-use Prim.Native.Nat.{ℕ, suc, _+_, _≤_, _<_}
+use Prim.Native.Nat.{ℕ, _≤_, _<_}
 use native.Mathlib.Omega.{arith}
 use Rattle.el.proofs.Tests.{Tells, tells-as, never, always, not-both}
 use Rattle.release.specs.Files.{joins, restricts}
@@ -20,7 +20,7 @@ use Rattle.layout.specs.declared.Layout.{Layout}
 use Rattle.layout.specs.Searches.{SomeBelow, EachBelow}
 use Rattle.layout.specs.Layouts.{secondSquare, markSquare, chosen}
 use Rattle.layout.proofs.Layouts as layout
-use Rattle.backward.specs.Rules.{Setting, PlainColumn, ColumnPart, RowPart, NameLost, Filled, PartnerLost, of-filler, of-nothing, RoleLost, Step, by-part, by-top, by-parts, by-name, by-role, Cell, Row}
+use Rattle.backward.specs.Rules.{Setting, PlainColumn, ColumnPart, RowPart, NameLost, Filled, PartnerLost, of-filler, of-nothing, RoleLost, Step, by-part, by-top, by-parts, by-name, by-role, Cell}
 
 pub restricted : (t : List ℕ) (x : ℕ) → kindAt t x ≡ 4 → restricts (kindAt t x) ≡ true
 restricted t x e = rw e refl
