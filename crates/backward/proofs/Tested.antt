@@ -11,8 +11,9 @@ use mathlib.Core.Logic.{_⊎_, inl, inr}
 use Prim.Native.Nat.{ℕ, _≤_, _<_}
 use native.Mathlib.Omega.{arith}
 use Rattle.el.proofs.Tests.{Tells, tells-as, never, always, not-both}
-use Rattle.release.specs.Files.{joins, restricts}
-use Rattle.release.specs.Tables.{kindAt, roleAt, fillerAt, countAt, partAt, HasCount, HasPart, Shaped}
+use Rattle.release.specs.Files.{restricts}
+use Rattle.release.specs.Tables.{kindAt, roleAt, fillerAt, countAt, partAt, HasCount, HasPart, Shaped, Conjunctive}
+use Rattle.release.proofs.DefinedParts as parts
 use Rattle.marks.specs.Squares.{Room, Marked, Put}
 use Rattle.marks.specs.Passes.{Grows, Pass}
 use Rattle.marks.proofs.Passes.{pass-none, pass-as, put-pass}
@@ -27,17 +28,17 @@ restricted t x e = rw e refl
 
 -- conjuncts
 module _ {n : ℕ} {s t : List ℕ} {x : ℕ} (shaped : Shaped n s t) (x-in : x < n) (kind : kindAt t x ≡ 2) where
-  joined : joins (kindAt t x) ≡ true
-  joined = rw kind refl
+  conjunctive : Conjunctive n s t x
+  conjunctive = record { shaped = shaped; is-name = x-in; is-conjunction = rw kind refl }
 
   pub has-count : HasCount s t x
-  has-count = record { row = omega (arith, shaped .rows); inside = omega (arith, shaped .inside x x-in joined) }
+  has-count = parts.has-count n s t x conjunctive
 
   pub has-part : {i k : ℕ} → k ≡ countAt s t x → i < k → HasPart s t x i
-  has-part e h = record { row = omega (arith, shaped .rows); inside = omega (arith, shaped .inside x x-in joined) }
+  has-part {i} e h = parts.has-part n s t x conjunctive i (omega arith)
 
   pub part-small : {i k p : ℕ} → k ≡ countAt s t x → i < k → p ≡ partAt s t x i → p ≤ n
-  part-small {i} e h f = omega (arith, shaped .part x i x-in joined (omega arith))
+  part-small {i} e h f = omega (arith, shaped .part x i x-in (conjunctive .is-conjunction) (omega arith))
 
 module _ {s t : List ℕ} {l : Layout} {w : List ℕ} {x y i p : ℕ} where
   pub column-part : p ≡ partAt s t y i → Marked (markSquare l) w x p → ColumnPart s t l w x y i
