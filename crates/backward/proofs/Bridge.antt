@@ -1,7 +1,7 @@
 -- The rules over the tables are the rule Backward over the axioms.
 --   step-backward     a step is the rule, by the squares as tests on nodes and columns
 --   rows-closed       where no row has anything left to mark, the test is closed under the rule
-use mathlib.Core.Path.{_≡_, refl, sym, ap, subst, _∙_}
+use mathlib.Core.Path.{_≡_, refl, sym, ap, _∙_}
 use mathlib.Core.Bool.{true, false, false≢true}
 use mathlib.Core.List.{List}
 use mathlib.Core.Logic.{_⊎_, inl, inr}
@@ -9,12 +9,11 @@ use Prim.Native.Nat.{ℕ, suc, _≤_, _<_}
 use native.Mathlib.Omega.{arith}
 use Rattle.el.specs.Lists.{In}
 use Rattle.el.specs.Concepts.{Node, everything, named}
-use Rattle.el.specs.Axioms.{Axiom, isConjunction, partsOf, roleOf, fillerOf}
-use Rattle.el.specs.Answers.{Column, nothing, node, nameUnder, partner}
+use Rattle.el.specs.Axioms.{Axiom, isConjunction, roleOf, fillerOf}
+use Rattle.el.specs.Answers.{Column, node, nameUnder, partner}
 use Rattle.el.proofs.Tests.{which, not-both}
-use Rattle.el.proofs.Derivations.{Joins, Fills}
 use Rattle.el.proofs.Nodes.{IsNode, name-node, IsColumn}
-use Rattle.el.proofs.PlainNodes.{Plain, plain-name}
+use Rattle.el.proofs.PlainNodes.{plain-name}
 use Rattle.el.proofs.BackwardMarks.{Backward, of-part, of-everything, of-parts, of-name, of-role, Partner, filler, none, partner-is}
 use Rattle.el.proofs.BackwardMarks as el
 use Rattle.release.specs.Files.{axiomsOf}
@@ -30,7 +29,7 @@ use Rattle.layout.specs.Layouts.{firstSquare, secondSquare, markSquare, chosen}
 use Rattle.layout.specs.Searches.{SomeBelow, EachBelow}
 use Rattle.layout.specs.Comparing.{Comparing}
 use Rattle.layout.proofs.Comparing.{chosen-below}
-use Rattle.backward.specs.Rules.{PlainColumn, ColumnPart, RowPart, NameLost, Filled, PartnerLost, of-filler, of-nothing, RoleLost, Step, by-part, by-top, by-parts, by-name, by-role, Row}
+use Rattle.backward.specs.Rules.{PlainColumn, ColumnPart, RowPart, Filled, PartnerLost, of-filler, of-nothing, RoleLost, Step, by-part, by-top, by-parts, by-name, by-role, Row}
 use Rattle.backward.specs.Backward.{columnAt}
 use Rattle.backward.proofs.Columns.{column-last, column-name, last-or-name, named-column, by-column, saysColumn, said-column, column-marked}
 use Rattle.backward.proofs.Defined.{joins-2, found-2, found-4, not-joined, not-2, plain-node-at, fills-filled, filled-by, plain-is-name}

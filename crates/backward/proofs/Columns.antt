@@ -12,11 +12,9 @@ use Prim.Native.Nat.{ℕ, _≤_, _<_}
 use native.Mathlib.Omega.{arith}
 use native.Mathlib.Decide.{ℕ-discrete}
 use borrow.Author.Tests.{eq-eqb, ne-eqb}
-use lib.Dec.{eqb}
-use Rattle.el.specs.Lists.{pick}
 use Rattle.el.specs.Concepts.{Node, everything, named}
 use Rattle.el.specs.Answers.{Column, nothing, node}
-use Rattle.el.proofs.Nodes.{IsNode, top-node, name-node, IsColumn, no-column, node-column}
+use Rattle.el.proofs.Nodes.{top-node, name-node, IsColumn, no-column, node-column}
 use Rattle.release.specs.Readings.{nodeNumber}
 use Rattle.marks.specs.declared.Square.{Square}
 use Rattle.marks.specs.Squares.{Marked}

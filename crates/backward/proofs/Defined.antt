@@ -1,7 +1,7 @@
 -- The definitions of a release by its table: kind 2 is a conjunction, kind 4 a restriction.
 --   joins-2, not-joined, not-2      a name is defined by a conjunction exactly where its kind is 2
 --   fills-filled, filled-by         it is defined by a restriction with a role exactly where its row says so
-use mathlib.Core.Path.{_≡_, refl, sym, _∙_}
+use mathlib.Core.Path.{_≡_, sym, _∙_}
 use mathlib.Core.List.{List}
 use Prim.Native.Nat.{ℕ, _<_}
 use native.Mathlib.Omega.{arith}
@@ -9,7 +9,7 @@ use Rattle.el.specs.Lists.{In}
 use Rattle.el.specs.Concepts.{Node, everything, named}
 use Rattle.el.specs.Axioms.{Axiom}
 use Rattle.el.proofs.Derivations.{Joins, Fills}
-use Rattle.el.proofs.Nodes.{IsNode, top-node, name-node}
+use Rattle.el.proofs.Nodes.{IsNode, name-node}
 use Rattle.el.proofs.Terminologies.{NotJoined}
 use Rattle.el.proofs.PlainNodes.{Plain, plain-name}
 use Rattle.release.specs.Files.{namesOf, axiomsOf}

@@ -1,6 +1,6 @@
 -- What the square holds when no row has anything left to mark.
 --   backwarded      what computing backward marks gives
-use mathlib.Core.Path.{_≡_, refl, sym}
+use mathlib.Core.Path.{_≡_, refl}
 use mathlib.Core.Bool.{true, false, false≢true}
 use mathlib.Core.List.{List}
 use mathlib.Core.Logic.{inl, inr}
@@ -15,7 +15,7 @@ use Rattle.release.specs.Readings.{nodeNumber}
 use Rattle.marks.specs.Squares.{Marked}
 use Rattle.marks.specs.Passes.{Grows, Closed, Below, AllGood}
 use Rattle.marks.proofs.Passes.{grows-frame, grows-good, unmarked-good}
-use Rattle.classification.specs.Inclusions.{nodeAt, says}
+use Rattle.classification.specs.Inclusions.{nodeAt}
 use Rattle.classification.proofs.Nodes.{at-node, number-at, at-number, number-small}
 use Rattle.layout.specs.declared.Layout.{Layout}
 use Rattle.layout.specs.Layouts.{markSquare, chosen}

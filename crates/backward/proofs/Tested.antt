@@ -4,15 +4,16 @@
 --   role-filler, role-top, role-nothing     the fillers of two restrictions
 --   part-step, top-step, ..                 which rule it is that allows a mark
 --   cell-marked, cell-put, cell-none        a pair looked at
-use mathlib.Core.Path.{_≡_, refl, sym, _∙_}
+use mathlib.Core.Path.{_≡_, refl}
 use mathlib.Core.Bool.{Bool, true, false}
 use mathlib.Core.List.{List}
 use mathlib.Core.Logic.{_⊎_, inl, inr}
-use Prim.Native.Nat.{ℕ, suc, _+_, _≤_, _<_}
+use Prim.Native.Nat.{ℕ, _≤_, _<_}
 use native.Mathlib.Omega.{arith}
 use Rattle.el.proofs.Tests.{Tells, tells-as, never, always, not-both}
-use Rattle.release.specs.Files.{joins, restricts}
-use Rattle.release.specs.Tables.{kindAt, roleAt, fillerAt, countAt, partAt, HasCount, HasPart, Shaped}
+use Rattle.release.specs.Files.{restricts}
+use Rattle.release.specs.Tables.{kindAt, roleAt, fillerAt, countAt, partAt, HasCount, HasPart, Shaped, Conjunctive}
+use Rattle.release.proofs.DefinedParts as parts
 use Rattle.marks.specs.Squares.{Room, Marked, Put}
 use Rattle.marks.specs.Passes.{Grows, Pass}
 use Rattle.marks.proofs.Passes.{pass-none, pass-as, put-pass}
@@ -20,24 +21,24 @@ use Rattle.layout.specs.declared.Layout.{Layout}
 use Rattle.layout.specs.Searches.{SomeBelow, EachBelow}
 use Rattle.layout.specs.Layouts.{secondSquare, markSquare, chosen}
 use Rattle.layout.proofs.Layouts as layout
-use Rattle.backward.specs.Rules.{Setting, PlainColumn, ColumnPart, RowPart, NameLost, Filled, PartnerLost, of-filler, of-nothing, RoleLost, Step, by-part, by-top, by-parts, by-name, by-role, Cell, Row}
+use Rattle.backward.specs.Rules.{Setting, PlainColumn, ColumnPart, RowPart, NameLost, Filled, PartnerLost, of-filler, of-nothing, RoleLost, Step, by-part, by-top, by-parts, by-name, by-role, Cell}
 
 pub restricted : (t : List ℕ) (x : ℕ) → kindAt t x ≡ 4 → restricts (kindAt t x) ≡ true
 restricted t x e = rw e refl
 
 -- conjuncts
 module _ {n : ℕ} {s t : List ℕ} {x : ℕ} (shaped : Shaped n s t) (x-in : x < n) (kind : kindAt t x ≡ 2) where
-  joined : joins (kindAt t x) ≡ true
-  joined = rw kind refl
+  conjunctive : Conjunctive n s t x
+  conjunctive = record { shaped = shaped; is-name = x-in; is-conjunction = rw kind refl }
 
   pub has-count : HasCount s t x
-  has-count = record { row = omega (arith, shaped .rows); inside = omega (arith, shaped .inside x x-in joined) }
+  has-count = parts.has-count n s t x conjunctive
 
   pub has-part : {i k : ℕ} → k ≡ countAt s t x → i < k → HasPart s t x i
-  has-part e h = record { row = omega (arith, shaped .rows); inside = omega (arith, shaped .inside x x-in joined) }
+  has-part {i} e h = parts.has-part n s t x conjunctive i (omega arith)
 
   pub part-small : {i k p : ℕ} → k ≡ countAt s t x → i < k → p ≡ partAt s t x i → p ≤ n
-  part-small {i} e h f = omega (arith, shaped .part x i x-in joined (omega arith))
+  part-small {i} e h f = omega (arith, shaped .part x i x-in (conjunctive .is-conjunction) (omega arith))
 
 module _ {s t : List ℕ} {l : Layout} {w : List ℕ} {x y i p : ℕ} where
   pub column-part : p ≡ partAt s t y i → Marked (markSquare l) w x p → ColumnPart s t l w x y i

@@ -1,7 +1,7 @@
 -- Laws of the result bytes.
 --   written-none, written-more, written-end      bytes written one after the other
 --   is-byte                                      the byte by the marks is the byte of the comparison
-use mathlib.Core.Path.{_≡_, refl, sym, _∙_}
+use mathlib.Core.Path.{_≡_, refl, _∙_}
 use mathlib.Core.Bool.{Bool, true, false}
 use mathlib.Core.List.{List}
 use mathlib.Core.Logic.{inl, inr, _↔_}
@@ -12,7 +12,7 @@ use lib.ListN.{length, getD, set, length-set}
 use lib.Seq.{getD-set-same, getD-set-other}
 use Rattle.el.specs.Concepts.{named}
 use Rattle.el.specs.Signatures.{LeftWitness, RightWitness}
-use Rattle.el.specs.Comparison.{IsByte, onLeft, onRight}
+use Rattle.el.specs.Comparison.{IsByte}
 use Rattle.el.specs.Answers.{byteOf, node}
 use Rattle.el.proofs.Tests.{Tells, which, not-both}
 use Rattle.el.proofs.ForwardMarks.{LostAbove}

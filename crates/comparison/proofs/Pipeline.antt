@@ -2,32 +2,30 @@
 --   first-asks, second-asks, both-included         the two classifications, and what they give together
 --   forward-asks, backward-asks, all-marked        the marks
 --   readable, compared                             what writing the result bytes asks; what the comparison gives
-use mathlib.Core.Path.{_≡_, refl, sym, _∙_}
-use mathlib.Core.Bool.{Bool, true, false}
+use mathlib.Core.Path.{_≡_, refl, _∙_}
 use mathlib.Core.List.{List}
-use mathlib.Core.Logic.{_⊎_, inl, inr}
-use Prim.Native.Nat.{ℕ, _+_, _*_, _≤_, _<_}
+use mathlib.Core.Logic.{inl, inr}
+use Prim.Native.Nat.{ℕ, _+_, _*_, _≤_}
 use native.Mathlib.Omega.{arith}
 use borrow.Author.Tests.{eqb-true}
 use lib.Dec.{eqb}
-use lib.ListN.{length, getD}
-use Rattle.el.specs.Lists.{pick}
+use lib.ListN.{length}
 use Rattle.el.proofs.Tests.{which}
 use Rattle.release.specs.Files.{mostNames}
 use Rattle.release.proofs.Checks.{header-sound}
 use Rattle.release.proofs.Linked.{no-header-fault}
 use Rattle.signature.specs.Bytes.{signatureFault}
 use Rattle.marks.specs.declared.Square.{Square}
-use Rattle.marks.specs.Squares.{size, Room, Unmarked, Apart, Frame, Zeroed}
+use Rattle.marks.specs.Squares.{Room, Unmarked, Apart, Frame, Zeroed}
 use Rattle.marks.proofs.Squares.{frame-marked, marked-frame, frame-unmarked, zeroed-unmarked}
-use Rattle.classification.specs.Inclusions.{Unclassified, Inclusions, Classified}
+use Rattle.classification.specs.Inclusions.{Unclassified, Classified}
 use Rattle.classification.proofs.Meaning.{inclusions-stay}
 use Rattle.layout.specs.declared.Layout.{Layout}
 use Rattle.layout.specs.Layouts.{markSquare, Setting}
 use Rattle.layout.specs.Comparing.{Comparing}
 use Rattle.layout.proofs.Comparing.{setting}
 use Rattle.forward.specs.Forward.{ForwardMarked, Forwarded, ForwardFrom}
-use Rattle.backward.specs.Backward.{BackwardMarked, Backwarded}
+use Rattle.backward.specs.Backward.{Backwarded}
 use Rattle.comparison.specs.Bytes.{Readable, Written}
 use Rattle.comparison.specs.Compared.{IsSize, forwardLayout, backwardLayout, squareAt, BothGiven, Given, BothIncluded, AllMarked, Compared}
 use Rattle.comparison.proofs.Bytes.{is-byte}

@@ -1,6 +1,6 @@
 // The result bytes, by the marks.
 ghost use mathlib.Core.Path.{_≡_};
-ghost use Prim.Native.Nat.{_+_, _≤_, _<_};
+ghost use Prim.Native.Nat.{_≤_, _<_};
 ghost use lib.ListN.{length};
 ghost use Rattle.el.specs.Answers.{byteOf};
 ghost use Rattle.comparison.specs.Bytes.{Readable, ByteAt, Written};

@@ -5,7 +5,7 @@ use mathlib.Core.Path.{_≡_, refl, sym, _∙_}
 use mathlib.Core.Bool.{true, false}
 use mathlib.Core.List.{List}
 use mathlib.Core.Logic.{inl, inr}
-use Prim.Native.Nat.{ℕ, suc, _≤_, _<_}
+use Prim.Native.Nat.{ℕ, suc, _≤_}
 use native.Mathlib.Omega.{arith}
 use Rattle.el.specs.Lists.{In}
 use Rattle.el.specs.Concepts.{Node, named}
@@ -28,7 +28,7 @@ use Rattle.layout.specs.Layouts.{firstSquare, secondSquare, markSquare, chosen}
 use Rattle.layout.specs.Searches.{SomeBelow}
 use Rattle.layout.specs.Comparing.{Comparing}
 use Rattle.layout.proofs.Comparing.{chosen-below}
-use Rattle.forward.specs.Rules.{NameLost, Partner, EdgeLost, Step, by-name, by-edge, Row}
+use Rattle.forward.specs.Rules.{Partner, Step, by-name, by-edge, Row}
 
 module _ {g s t a b : List ℕ} {l : Layout} {w : List ℕ} (c : Comparing g s t a b l w) (v : List ℕ) where
   abbrev n : ℕ

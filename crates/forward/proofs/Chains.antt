@@ -4,7 +4,7 @@
 --   Passed n t y P v                               on the way along the chain of y, at v: of the names passed, none has P
 --   NoneWith n t P y                               no name with the filler y has P
 --   passed-start, passed-next, passed-end          the way along a chain
-use mathlib.Core.Path.{_≡_, refl, sym, _∙_}
+use mathlib.Core.Path.{_≡_, sym, _∙_}
 use mathlib.Core.Bool.{true, false}
 use mathlib.Core.List.{List}
 use Prim.Native.Nat.{ℕ, _+_, _≤_, _<_}

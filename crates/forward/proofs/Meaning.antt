@@ -1,6 +1,6 @@
 -- What the square holds when no row has anything left to mark.
 --   forwarded      what computing forward marks gives
-use mathlib.Core.Path.{_≡_, refl, sym}
+use mathlib.Core.Path.{_≡_, refl}
 use mathlib.Core.Bool.{true, false}
 use mathlib.Core.List.{List}
 use mathlib.Core.Logic.{inl, inr}

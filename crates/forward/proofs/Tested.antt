@@ -2,12 +2,12 @@
 --   marked-none, found-partner, no-partner-found     what the search for a partner finds
 --   edge-is-lost, edge-is-kept, ..                   whether an edge is lost
 --   cell-marked, cell-put, cell-none                 a pair looked at
-use mathlib.Core.Path.{_≡_, refl, sym, _∙_}
+use mathlib.Core.Path.{_≡_, refl}
 use mathlib.Core.Bool.{Bool, true, false}
 use mathlib.Core.List.{List}
-use Prim.Native.Nat.{ℕ, suc, _+_, _≤_, _<_}
+use Prim.Native.Nat.{ℕ, _≤_, _<_}
 use native.Mathlib.Omega.{arith}
-use Rattle.el.proofs.Tests.{Tells, tells-as, never, always, not-both}
+use Rattle.el.proofs.Tests.{Tells, never, not-both}
 use Rattle.release.specs.Files.{restricts}
 use Rattle.release.specs.Tables.{kindAt, roleAt, fillerAt}
 use Rattle.marks.specs.Squares.{Room, Marked, Put}
@@ -15,10 +15,10 @@ use Rattle.marks.specs.Passes.{Grows, Pass}
 use Rattle.marks.proofs.Passes.{pass-none, pass-as, put-pass}
 use Rattle.layout.specs.declared.Layout.{Layout}
 use Rattle.layout.specs.Searches.{SomeBelow, EachBelow}
-use Rattle.layout.specs.Layouts.{markSquare, secondSquare, chosen, Rowed}
+use Rattle.layout.specs.Layouts.{markSquare, chosen, Rowed}
 use Rattle.layout.proofs.Layouts as layout
 use Rattle.forward.specs.Fillers.{HasFiller}
-use Rattle.forward.specs.Rules.{Setting, NameLost, Reaches, Partner, EdgeLost, Step, by-name, by-edge, Cell, Row}
+use Rattle.forward.specs.Rules.{Setting, NameLost, Reaches, Partner, EdgeLost, Step, by-name, by-edge, Cell}
 use Rattle.forward.proofs.Chains.{NoneWith}
 
 pub tells-none : {r : Bool} {A : Type 0} → r ≡ false → (A → ⊥) → Tells r A

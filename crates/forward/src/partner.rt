@@ -1,5 +1,4 @@
 // The search for a partner of an edge.
-ghost use mathlib.Core.Path.{_≡_};
 ghost use Prim.Native.Nat.{_≤_, _<_};
 ghost use Rattle.el.proofs.Tests.{Tells};
 ghost use Rattle.marks.specs.Squares.{Room};

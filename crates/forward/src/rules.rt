@@ -1,5 +1,4 @@
 // The two rules by which a pair x, y is marked. What they ask is said in specs/Rules.
-ghost use mathlib.Core.Path.{_≡_};
 ghost use Prim.Native.Nat.{_+_, _≤_, _<_};
 ghost use lib.ListN.{length};
 ghost use Rattle.el.proofs.Tests.{Tells};

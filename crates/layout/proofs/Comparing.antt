@@ -2,11 +2,10 @@
 --   comparable                       the two terminologies and the signature are over the names below n
 --   setting, first-shaped, ..        what the functions read is in its place
 --   first-table-by, second-table-by  the tables of inclusions, at every memory on the way
-use mathlib.Core.Path.{_≡_, refl, sym, subst}
-use mathlib.Core.Bool.{true}
+use mathlib.Core.Path.{refl}
 use mathlib.Core.List.{List}
 use mathlib.Core.Logic.{inl}
-use Prim.Native.Nat.{ℕ, _+_, _≤_, _<_}
+use Prim.Native.Nat.{ℕ}
 use borrow.Author.Tests.{ltb-true}
 use lib.Dec.{ltb}
 use Rattle.el.proofs.Tests.{and-left}
@@ -19,7 +18,7 @@ use Rattle.marks.specs.Squares.{Frame}
 use Rattle.classification.proofs.AxiomRows.{formed, ranges}
 use Rattle.classification.proofs.Meaning.{inclusions-stay, table-by}
 use Rattle.layout.specs.declared.Layout.{Layout}
-use Rattle.layout.specs.Layouts.{firstSquare, secondSquare, markSquare, chosen, Rowed, Setting}
+use Rattle.layout.specs.Layouts.{markSquare, chosen, Rowed, Setting}
 use Rattle.layout.specs.Comparing.{Comparing}
 
 pub chosen-below : (l : Layout) (g : List ℕ) → NamesBelow (l .names) (chosen l g)

@@ -2,10 +2,10 @@
 --   name-inside, name-outside, role-inside, role-outside      the signature's bytes are the names and roles chosen
 --   setting-stays                                             all stays in its place while marks grow
 use mathlib.Core.Path.{_≡_}
-use mathlib.Core.Bool.{true, false}
+use mathlib.Core.Bool.{false}
 use mathlib.Core.List.{List}
 use Prim.Native.Nat.{ℕ, _+_, _≤_, _<_}
-use lib.Dec.{eqb, ltb}
+use lib.Dec.{eqb}
 use lib.ListN.{getD}
 use borrow.Author.Tests.{lt-ltb, le-ltb}
 use Rattle.marks.specs.Passes.{Grows}

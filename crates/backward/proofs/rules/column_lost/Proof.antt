@@ -1,4 +1,4 @@
-use mathlib.Core.Path.{_≡_, sym, _∙_}
+use mathlib.Core.Path.{sym, _∙_}
 use Rattle.backward.proofs.Tested.{top-step, parts-step}
 use borrow.Author.Needs.{needs}
 use Rattle.backward.proofs.rules.column_lost.Statement.{statement}

@@ -1,4 +1,4 @@
-use mathlib.Core.Path.{_≡_, sym, _∙_}
+use mathlib.Core.Path.{sym, _∙_}
 use mathlib.Core.Logic.{inl, inr}
 use Rattle.el.proofs.Tests.{never, always, not-both}
 use Rattle.marks.proofs.Squares.{refuted}

@@ -1,4 +1,4 @@
-use mathlib.Core.Path.{_≡_, sym, _∙_}
+use mathlib.Core.Path.{sym, _∙_}
 use Rattle.el.proofs.Tests.{always}
 use Rattle.marks.proofs.Squares.{refuted}
 use Rattle.backward.specs.Rules.{by-name}

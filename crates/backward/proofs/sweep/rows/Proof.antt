@@ -3,9 +3,9 @@ use mathlib.Core.Path.{_≡_, refl}
 use borrow.Author.Needs.{needs}
 use lib.ListN.{length}
 use Rattle.marks.specs.Passes.{Pass, Below}
-use Rattle.marks.proofs.Passes.{turns-none, turn-changed, turn-unchanged, turns-end, pass-as, below-end}
+use Rattle.marks.proofs.Passes.{turns-none, turn-changed, turn-unchanged, turns-end}
 use Rattle.layout.specs.Layouts.{markSquare}
-use Rattle.backward.specs.Rules.{Step, Cell, Row}
+use Rattle.backward.specs.Rules.{Step, Row}
 use Rattle.backward.proofs.Tested.{setting-stays}
 use Rattle.backward.proofs.sweep.rows.Statement.{statement}
 use Rattle.backward.proofs.sweep.rows.Tie as tie

@@ -1,4 +1,4 @@
-use mathlib.Core.Path.{_≡_, sym, _∙_}
+use mathlib.Core.Path.{sym, _∙_}
 use Rattle.comparison.proofs.Bytes.{byte-inside, byte-outside}
 use borrow.Author.Needs.{needs}
 use Rattle.comparison.proofs.result.byte_of.Statement.{statement}

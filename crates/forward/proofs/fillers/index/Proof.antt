@@ -1,3 +1,4 @@
+-- The chains hold all names from `left` on.
 use Prim.Native.Nat.{_≤_}
 use mathlib.Core.Path.{_≡_, refl}
 use native.Mathlib.Omega.{arith}

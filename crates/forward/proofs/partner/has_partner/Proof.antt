@@ -1,13 +1,13 @@
-use mathlib.Core.Path.{_≡_, refl, sym, _∙_}
-use mathlib.Core.Bool.{true, false}
+-- Of the nodes passed by the outer loop, none is the end of a partner; of the names passed on the chain of a node by the inner one,
+-- none is a partner. So where both loops end there is none, and where they are left there is one.
+use mathlib.Core.Path.{_≡_, refl}
+use mathlib.Core.Bool.{false}
 use Prim.Native.Nat.{_≤_, _-_, _+_}
 use native.Mathlib.Omega.{arith}
 use borrow.Author.Needs.{needs}
-use Rattle.el.proofs.Tests.{never, always}
-use Rattle.marks.specs.Squares.{Marked}
+use Rattle.el.proofs.Tests.{always}
 use Rattle.marks.proofs.Squares.{refuted}
 use Rattle.layout.specs.Searches.{EachBelow}
-use Rattle.layout.specs.Layouts.{markSquare}
 use Rattle.layout.proofs.Searches.{each-start, each-more}
 use Rattle.forward.specs.Rules.{Partner}
 use Rattle.forward.proofs.Chains.{NoneWith, Passed, passed-start, passed-next, passed-end}

@@ -1,4 +1,4 @@
-use mathlib.Core.Path.{_≡_, sym, _∙_}
+use mathlib.Core.Path.{sym, _∙_}
 use Rattle.el.proofs.Tests.{never, tells-as}
 use borrow.Author.Needs.{needs}
 use Rattle.forward.proofs.partner.reaches.Statement.{statement}
