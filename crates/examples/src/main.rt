@@ -8,7 +8,7 @@ mod check;
 mod compare;
 mod memory;
 mod print;
-mod question;
+mod questions;
 mod run;
 mod show;
 mod signatures;

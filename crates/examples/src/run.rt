@@ -4,7 +4,7 @@ use crate::cases;
 use crate::check;
 use crate::compare;
 use crate::print;
-use crate::question;
+use crate::questions;
 use crate::show;
 use crate::signatures;
 use crate::station;
@@ -95,7 +95,7 @@ fn judge(call: Call, case: &[u8]) -> Verdict {
         Call::Check => check::judge(case),
         Call::Show => show::judge(case),
         Call::Signatures => signatures::judge(case),
-        Call::Question => question::judge(case),
+        Call::Question => questions::judge(case),
         Call::Compare => compare::judge(case),
         Call::Station => station::judge(case),
     }
@@ -107,7 +107,7 @@ fn fields_of(call: Call) -> usize {
         Call::Check => check::FIELDS,
         Call::Show => show::FIELDS,
         Call::Signatures => signatures::FIELDS,
-        Call::Question => question::FIELDS,
+        Call::Question => questions::FIELDS,
         Call::Compare => compare::FIELDS,
         Call::Station => station::FIELDS,
     }

@@ -5,9 +5,9 @@ ghost use Prim.Native.Nat.{_+_, _≤_, _<_};
 ghost use Rattle.release.specs.Files.{mostNames};
 ghost use Rattle.layout.specs.Layouts.{Rowed};
 ghost use Rattle.forward.specs.Fillers.{firstAt, nextAt, HasFirst, HasNext, Indexed};
-use layout::is_restriction;
 use release::Release;
 use release::table;
+use release::table::is_restriction;
 
 // The memory of the chains: a beginning for each node that there can be, and a successor for each name. NONE is no name's number.
 pub struct Chains {}

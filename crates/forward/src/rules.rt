@@ -11,9 +11,9 @@ use layout::Layout;
 use layout::first_includes;
 use layout::has_name;
 use layout::has_role;
-use layout::is_restriction;
 use layout::second_includes;
 use release::table;
+use release::table::is_restriction;
 
 // Whether b is a name of the signature above x by the first release, and not above y by the second.
 fn name_lost(signature: &[u8], work: &[u8], layout: Layout, x: usize, y: usize, b: usize) -> bool

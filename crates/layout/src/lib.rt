@@ -3,12 +3,9 @@ ghost use mathlib.Core.Path.{_≡_};
 ghost use Prim.Native.Nat.{_+_, _≤_, _<_};
 ghost use lib.ListN.{length};
 ghost use Rattle.el.proofs.Tests.{Tells};
-ghost use Rattle.release.specs.Files.{restricts};
-ghost use Rattle.release.specs.Tables.{kindAt, HasRow};
 ghost use Rattle.marks.specs.Squares.{Room, Marked, Put};
 ghost use Rattle.layout.specs.Layouts.{firstSquare, secondSquare, markSquare, chosen};
 use marks::Square;
-use release::table;
 
 // The numbers of names and roles, and where three squares begin in the work memory: the inclusions of the first release, those
 // of the second, and the marks of the comparison.
@@ -108,16 +105,4 @@ pub fn has_role(signature: &[u8], layout: Layout, role: usize) -> bool
         return signature[layout.names + role] == 1;
     }
     false
-}
-
-// Whether a name's axiom is a restriction ∃r.B.
-pub fn is_restriction(table: &[u16], x: usize) -> bool
-    requires { ⌜ HasRow (now table) x ⌝ }
-    ensures { λ r. ⌜ r ≡ restricts (kindAt (now (table .entry)) x) ⌝ }
-{
-    let kind = table::kind(table, x);
-    if kind == 3 {
-        return true;
-    }
-    kind == 4
 }

@@ -14,18 +14,6 @@ use outline::owner;
 use outline::value;
 use release::table;
 
-// Whether a name's axiom is a restriction ∃r.B.
-fn is_restriction(table: &[u16], x: usize) -> bool
-    requires { ⌜ HasRow (now table) x ⌝ }
-    ensures { λ r. ⌜ r ≡ restricts (kindAt (now (table .entry)) x) ⌝ }
-{
-    let kind = table::kind(table, x);
-    if kind == 3 {
-        return true;
-    }
-    kind == 4
-}
-
 // Whether the name b, above the node x, has an axiom ∃ of the role whose filler row j has not lost.
 fn leads(
     table: &[u16],
@@ -41,7 +29,7 @@ fn leads(
     requires { ⌜ b < square .names ⌝ }
     ensures { λ r. ⌜ Tells r (Leads (now (table .entry)) square (now (work .entry)) (now (lost .entry)) x role j b) ⌝ }
 {
-    if is_restriction(table, b) {
+    if table::is_restriction(table, b) {
         if table::role(table, b) != role {
             return false;
         }

@@ -8,7 +8,7 @@ use Rattle.forward.proofs.fillers.link.Tie as tie
 use Rattle.forward.proofs.fillers.link.Reads as reads
 use Rattle.forward.proofs.fillers.link.Lts as lts
 use Rattle.forward.proofs.fillers.narrow.Reads as narrow-reads
-use Rattle.layout.proofs.is_restriction.Reads as is-restriction-reads
+use Rattle.release.proofs.table.is_restriction.Reads as is-restriction-reads
 use Rattle.release.proofs.table.filler.Reads as filler-reads
 
 -- src/fillers.rt:46:8

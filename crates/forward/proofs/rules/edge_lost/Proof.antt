@@ -11,7 +11,7 @@ use Rattle.forward.proofs.rules.edge_lost.Lts as lts
 use Rattle.forward.proofs.partner.has_partner.Reads as has-partner-reads
 use Rattle.layout.proofs.first_includes.Reads as first-includes-reads
 use Rattle.layout.proofs.has_role.Reads as has-role-reads
-use Rattle.layout.proofs.is_restriction.Reads as is-restriction-reads
+use Rattle.release.proofs.table.is_restriction.Reads as is-restriction-reads
 use Rattle.release.proofs.table.filler.Reads as filler-reads
 use Rattle.release.proofs.table.role.Reads as role-reads
 

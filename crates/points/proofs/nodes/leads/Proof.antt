@@ -8,7 +8,7 @@ use Rattle.points.proofs.nodes.leads.Reads as reads
 use Rattle.points.proofs.nodes.leads.Lts as lts
 use Rattle.marks.proofs.is_marked.Reads as is-marked-reads
 use Rattle.points.proofs.is_set.Reads as is-set-reads
-use Rattle.points.proofs.nodes.is_restriction.Reads as is-restriction-reads
+use Rattle.release.proofs.table.is_restriction.Reads as is-restriction-reads
 use Rattle.release.proofs.table.filler.Reads as filler-reads
 use Rattle.release.proofs.table.role.Reads as role-reads
 

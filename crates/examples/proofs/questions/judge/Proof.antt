@@ -2,8 +2,8 @@
 use native.Mathlib.Omega.{arith}
 use lib.ListN.{length-take}
 use borrow.Author.Needs.{needs}
-use Rattle.examples.proofs.question.judge.Statement.{statement}
-use Rattle.examples.proofs.question.judge.Tie as tie
+use Rattle.examples.proofs.questions.judge.Statement.{statement}
+use Rattle.examples.proofs.questions.judge.Tie as tie
 
 value-requires : tie.Need-value-requires
 value-requires c κs = search needs
