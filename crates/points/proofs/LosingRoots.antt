@@ -5,8 +5,9 @@ use mathlib.Core.List.{List}
 use Prim.Native.Nat.{ℕ, suc, _*_, _+_, _≤_, _<_}
 use native.Mathlib.Omega.{arith}
 use native.Mathlib.Decide.{ℕ-discrete}
+use lib.Dec.{eqb}
 use lib.ListN.{length}
-use Rattle.el.proofs.Tests.{Tells, tells-as, always, never}
+use Rattle.el.proofs.Tests.{Tells, tells-as, tells-eq, always, never}
 use Rattle.marks.specs.declared.Square.{Square}
 use Rattle.marks.specs.Squares.{Put}
 use Rattle.marks.proofs.Squares.{refuted}
@@ -27,13 +28,6 @@ module _ {t : List ℕ} {q : Square} {w o ln l : List ℕ} {i r j : ℕ} where
       back (some-reaches c′ z m) = absurd (omega arith)
 
   module _ (c : 0 < childAt o i) where
-    pub another-role : {v : ℕ} → v ≡ valueAt o i → (v ≡ r → ⊥) → Tells false (AtomReaches t q w o ln l i r j)
-    another-role e none = never by-form
-      where
-        by-form : AtomReaches t q w o ln l i r j → ⊥
-        by-form (name-reaches c′ m) = omega arith
-        by-form (some-reaches c′ z m) = none (e ∙ z)
-
     pub root-is-lost : {k : ℕ} {z : Bool} → k ≡ childAt o i → Tells z (Set l j k) → z ≡ true → Tells false (AtomReaches t q w o ln l i r j)
     root-is-lost e tells z = never by-form
       where
@@ -41,8 +35,12 @@ module _ {t : List ℕ} {q : Square} {w o ln l : List ℕ} {i r j : ℕ} where
         by-form (name-reaches c′ m) = omega arith
         by-form (some-reaches c′ y m) = m (rw e at (tells .sound z))
 
-    pub root-is-kept : {k v : ℕ} {z : Bool} → v ≡ valueAt o i → v ≡ r → k ≡ childAt o i → Tells z (Set l j k) → z ≡ false → Tells true (AtomReaches t q w o ln l i r j)
-    root-is-kept e h g tells z = always (some-reaches c (sym e ∙ h) (λ m. refuted tells z (rw g m)))
+    pub root-is-kept : {k v : ℕ} {z : Bool} → v ≡ valueAt o i → k ≡ childAt o i → Tells z (Set l j k) → z ≡ false → Tells (eqb v r) (AtomReaches t q w o ln l i r j)
+    root-is-kept {v = v} e g tells z = tells-as (λ h. some-reaches c (sym e ∙ h) (λ m. refuted tells z (rw g m))) back (tells-eq v r)
+      where
+        back : AtomReaches t q w o ln l i r j → v ≡ r
+        back (name-reaches c′ m) = absurd (omega arith)
+        back (some-reaches c′ y m) = e ∙ y
 
 pub from-root : {t : List ℕ} {q : Square} {w o : List ℕ} {e : Extent} {ln l : List ℕ} {j i : ℕ} → FromRoots t q w o e ln l j → i < e .atoms → FromRoot t q w o ln l i j
 from-root {i = i} given h = record { inclusive = given .inclusive; nodes = given .nodes; roots = given .roots; inside = omega (arith, given .inside); child = given .child i h; named = given .named i h; row = given .row }

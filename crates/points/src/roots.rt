@@ -32,13 +32,10 @@ fn atom_reaches(
     if filler == 0 {
         return node_reaches(table, work, square, nodes, name, role, j);
     }
-    if name != role {
-        return false;
-    }
     if is_set(lost, j, filler) {
         return false;
     }
-    true
+    name == role
 }
 
 // Whether some atom of root k does.

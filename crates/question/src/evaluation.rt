@@ -16,6 +16,11 @@ use points::is_set;
 use points::nodes::lose_nodes;
 use points::roots::lose_roots;
 
+// The two answers.
+const DERIVABLE: u8 = 1;
+
+const NOT_DERIVABLE: u8 = 0;
+
 // Fills the rows of the names above the roots of an outline.
 fn fill_above(
     file: &[u8],
@@ -116,7 +121,7 @@ pub fn decide(
         &mut roots,
     );
     if is_set(&roots, 0, 0) {
-        return 0;
+        return NOT_DERIVABLE;
     }
-    1
+    DERIVABLE
 }

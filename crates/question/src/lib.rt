@@ -13,6 +13,15 @@ use release::table::Table;
 
 mod evaluation;
 
+// The numbers of the refusals that are a question's own, and the sides of its concepts.
+const NO_CONCEPT: u8 = 19;
+
+const SHORT_WORK: u8 = 32;
+
+const BELOW: u8 = 1;
+
+const ABOVE: u8 = 2;
+
 // The answer, 1 where the inclusion is derivable and else 0; or a refusal.
 pub enum Asked {
     Answer(u8),
@@ -78,11 +87,11 @@ pub fn ask_inclusion(file: &[u8], below: &[u8], above: &[u8], work: &mut [u8]) -
         if is_concept(above, names, roles) {
             let cells = size(names);
             if work.len() < 4 * cells {
-                return refused(32, 0);
+                return refused(SHORT_WORK, 0);
             }
             return Asked::Answer(answer(file, &table, below, above, work, names, cells));
         }
-        return refused(19, 2);
+        return refused(NO_CONCEPT, ABOVE);
     }
-    refused(19, 1)
+    refused(NO_CONCEPT, BELOW)
 }

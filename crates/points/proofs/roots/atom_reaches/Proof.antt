@@ -1,6 +1,6 @@
 use native.Mathlib.Omega.{arith}
 use mathlib.Core.Path.{sym, _∙_}
-use Rattle.points.proofs.LosingRoots.{reaches-as-name, another-role, root-is-lost, root-is-kept}
+use Rattle.points.proofs.LosingRoots.{reaches-as-name, root-is-lost, root-is-kept}
 use borrow.Author.Needs.{needs}
 use Rattle.points.proofs.roots.atom_reaches.Statement.{statement}
 use Rattle.points.proofs.roots.atom_reaches.Tie as tie
@@ -29,21 +29,17 @@ node-reaches-requires c κs =
 returns : tie.Need-returns
 returns c = reaches-as-name (sym (c .before .before .before .child .ensures) ∙ c .before .if1 .taken) (c .before .before .value .ensures) (c .node-reaches .ensures)
 
--- src/roots.rt:36:9
-returns-2 : tie.Need-returns-2
-returns-2 c = another-role (omega (arith, c .before .before .before .child .ensures, c .before .if1 .left)) (c .before .before .value .ensures) (c .if2 .taken)
-
--- src/roots.rt:38:8
+-- src/roots.rt:35:8
 is-set-requires : tie.Need-is-set-requires
 is-set-requires c κs = search needs
 
--- src/roots.rt:39:9
-returns-3 : tie.Need-returns-3
-returns-3 c = root-is-lost (omega (arith, c .before .before .before .before .before .child .ensures, c .before .before .before .if1 .left)) (c .before .before .before .before .before .child .ensures) (c .before .is-set .ensures) (c .if3 .taken)
+-- src/roots.rt:36:9
+returns-2 : tie.Need-returns-2
+returns-2 c = root-is-lost (omega (arith, c .before .before .before .before .child .ensures, c .before .before .if1 .left)) (c .before .before .before .before .child .ensures) (c .before .is-set .ensures) (c .if2 .taken)
 
 -- src/roots.rt:16:1
-returns-4 : tie.Need-returns-4
-returns-4 c = root-is-kept (omega (arith, c .before .before .before .before .before .child .ensures, c .before .before .before .if1 .left)) (c .before .before .before .before .value .ensures) (c .before .before .if2 .left) (c .before .before .before .before .before .child .ensures) (c .before .is-set .ensures) (c .if3 .left)
+returns-3 : tie.Need-returns-3
+returns-3 c = root-is-kept (omega (arith, c .before .before .before .before .child .ensures, c .before .before .if1 .left)) (c .before .before .before .value .ensures) (c .before .before .before .before .child .ensures) (c .before .is-set .ensures) (c .if2 .left)
 
 pub atom-reaches-spec : {M : Type 1} → statement M
 atom-reaches-spec =
@@ -53,7 +49,6 @@ atom-reaches-spec =
     value-requires
     node-reaches-requires
     returns
-    returns-2
     is-set-requires
-    returns-3
-    returns-4)
+    returns-2
+    returns-3)
