@@ -1,6 +1,8 @@
 -- Laws of marking by the rules: what a function is given, and what each of its turns and exits has done.
---   setting-stays, source-stays, pair     what is asked holds after marks are put, too
+--   ..-stays, pair                        what is asked holds after marks are put, too
 --   part-pass, fill-pass, ..-pass         a mark put by a rule is a pass
+--   ..-grows                              the same where only the growth is asked, for a new mark that is dealt with
+--   over-filler, served-over              what a new mark asks of restrictions, from the tests made on them
 --   spread-.., looked-..                  what is left to mark by a name, by its axiom's form and by whether it is marked
 -- Not here: laws of passes for any rule (crate marks).
 use mathlib.Core.Path.{_≡_, refl, sym, _∙_}

@@ -5,19 +5,22 @@ ghost use Prim.Native.Nat.{_≤_};
 ghost use Rattle.release.specs.Tables.{Conjunctive, Shaped};
 use release::table;
 
-// A list is a row of WIDTH bytes, the first of which says how many names follow. The lists of a kind stand one after the
-// other, a list for each node.
+// A list is a row of WIDTH bytes: how many names it has, and then these, NAMES at most. The lists of a kind stand one after the
+// other, one for each node:
+//   FILLING     the restrictions with this filler
+//   GATHERING   the defined conjunctions with this conjunct
+//   FILLED      the defined restrictions found above this restriction
 pub struct Lists {}
 
 impl Lists {
     pub const NAMES: usize = 127;
 
     pub const WIDTH: usize = 128;
-    // by a node: the restrictions with this filler
+
     pub const FILLING: usize = 0;
-    // by a name: the defined conjunctions with this conjunct
+
     pub const GATHERING: usize = 128;
-    // by a restriction: the defined restrictions found above it
+
     pub const FILLED: usize = 256;
 
     pub const LENGTH: usize = 49152;
