@@ -1,6 +1,8 @@
 -- Laws of marking by the rules: what a function is given, and what each of its turns and exits has done.
---   setting-stays, source-stays, pair     what is asked holds after marks are put, too
+--   ..-stays, pair                        what is asked holds after marks are put, too
 --   part-pass, fill-pass, ..-pass         a mark put by a rule is a pass
+--   ..-grows                              the same where only the growth is asked, for a new mark that is dealt with
+--   over-filler, served-over              what a new mark asks of restrictions, from the tests made on them
 --   spread-.., looked-..                  what is left to mark by a name, by its axiom's form and by whether it is marked
 -- Not here: laws of passes for any rule (crate marks).
 use mathlib.Core.Path.{_≡_, refl, sym, _∙_}
@@ -11,20 +13,23 @@ use native.Mathlib.Omega.{arith}
 use Rattle.el.proofs.Tests.{Tells, tells-as, never, always}
 use Rattle.el.proofs.Derivations.{Serves}
 use Rattle.release.specs.Files.{joins, restricts}
-use Rattle.release.specs.Tables.{kindAt, roleAt, fillerAt, countAt, partAt, HasRow, Conjunctive}
+use Rattle.release.specs.Tables.{kindAt, roleAt, fillerAt, countAt, partAt, HasRow, Conjunctive, Shaped}
 use Rattle.release.proofs.Faults.{restricts-not-joins}
 use Rattle.marks.specs.declared.Square.{Square}
 use Rattle.marks.specs.Squares.{Room, Marked, Put}
 use Rattle.marks.specs.Passes.{Grows, Pass, Below, Due}
 use Rattle.marks.proofs.Squares.{refuted}
 use Rattle.marks.proofs.Passes.{room-stays, marks-stay, below-end, pass-none, pass-as, pass-with, pass-changed, pass-unchanged, put-pass, due-as}
-use Rattle.classification.specs.Steps.{PartMarked, Gathers, Fills, Step, to-itself, to-top, to-part, to-gathered, to-filled, Filled, Spread, Looked, Seeds, Row, Setting, InRow, Source, Pair, Hint}
+use Rattle.classification.specs.Steps.{PartMarked, Gathers, Fills, Step, to-itself, to-top, to-part, to-gathered, to-filled, Filled, Spread, Looked, Seeds, Row, Setting, InRow, Source, Pair, MarkedCell, Over, Served}
 
 not-both : {A : Type 0} (k : ℕ) → joins k ≡ true → restricts k ≡ true → A
 not-both k j r = absurd (false≢true (sym (restricts-not-joins k r) ∙ j))
 
 pub joined : {kind k : ℕ} → kind ≡ k → kind ≡ 2 → joins k ≡ true
 joined e two = rw (← e, two) refl
+
+pub shaped-row : {n : ℕ} {s t : List ℕ} {x : ℕ} → Shaped n s t → x < n → HasRow t x
+shaped-row h l = record { row = omega (arith, h .rows) }
 
 -- what is asked
 module _ {s t : List ℕ} {q : Square} where
@@ -34,15 +39,9 @@ module _ {s t : List ℕ} {q : Square} where
   pub source-stays : {w v : List ℕ} {x b : ℕ} → Grows (Step s t q) q w v → Source s t q w x b → Source s t q v x b
   source-stays g h = record { in-row = record { setting = setting-stays g (h .in-row .setting); row = h .in-row .row; name = h .in-row .name }; marked = marks-stay g (h .marked) }
 
-pub hint : {s t : List ℕ} {q : Square} {w : List ℕ} → Setting s t q w → Hint t q w
-hint h = record { rows = h .shaped .rows; room = h .room }
-
-pub hint-row : {t : List ℕ} {q : Square} {w : List ℕ} {b : ℕ} → Hint t q w → b < q .names → HasRow t b
-hint-row h l = record { row = omega (arith, h .rows) }
-
 module _ {s t : List ℕ} {q : Square} {w : List ℕ} {x b : ℕ} (h : InRow s t q w x b) where
   pub name-row : HasRow t b
-  name-row = record { row = omega (arith, h .setting .shaped .rows, h .name) }
+  name-row = shaped-row (h .setting .shaped) (h .name)
 
   pub conjunctive : joins (kindAt t b) ≡ true → Conjunctive (q .names) s t b
   conjunctive j = record { shaped = h .setting .shaped; is-name = h .name; is-conjunction = j }
@@ -126,3 +125,46 @@ module _ {s t : List ℕ} {q : Square} {w u v : List ℕ} {x : ℕ} {a b : Bool}
 
   pub row-unchanged : b ≡ false → Pass (Step s t q) q (Row s t q x) w v a
   row-unchanged e = pass-unchanged (λ d l. record { seeded = d; looked = l }) (p .pass s t) o e
+
+pub in-row-at : {s t : List ℕ} {q : Square} {w : List ℕ} {x b z : ℕ} → InRow s t q w x b → z < q .names → InRow s t q w x z
+in-row-at h l = record { setting = h .setting; row = h .row; name = l }
+
+-- a new mark dealt with: what is asked stays, and a mark put by a rule is growth
+module _ {s t : List ℕ} {q : Square} {w v : List ℕ} (g : Grows (Step s t q) q w v) where
+  pub in-row-stays : {x b : ℕ} → InRow s t q w x b → InRow s t q v x b
+  in-row-stays h = record { setting = setting-stays g (h .setting); row = h .row; name = h .name }
+
+  pub cell-stays : {x y : ℕ} → MarkedCell s t q w x y → MarkedCell s t q v x y
+  cell-stays h = record { setting = setting-stays g (h .setting); row = h .row; column = h .column; marked = marks-stay g (h .marked) }
+
+  pub over-stays : {b y : ℕ} → Over s t q w b y → Over s t q v b y
+  over-stays h = record { setting = setting-stays g (h .setting); name = h .name; is-restriction = h .is-restriction; marked = marks-stay g (h .marked) }
+
+  pub served-stays : {b z : ℕ} → Served s t q w b z → Served s t q v b z
+  served-stays h = record { setting = setting-stays g (h .setting); left = h .left; is-restriction = h .is-restriction; right = h .right; fills = record { kind = h .fills .kind; role = h .fills .role; filler = marks-stay g (h .fills .filler) } }
+
+module _ {s t : List ℕ} {q : Square} {w v : List ℕ} {r : Bool} where
+  pub gather-grows : {x y : ℕ} → InRow s t q w x y → Gathers s t q x y w → Put q x y w v r → Grows (Step s t q) q w v
+  gather-grows h g p = put-pass p (h .setting .room) (h .row) (omega (arith, h .name)) (to-gathered (h .name) g) .grows
+
+  pub serve-grows : {x b z : ℕ} → Served s t q w b z → x ≤ q .names → Marked q w x b → Put q x z w v r → Grows (Step s t q) q w v
+  serve-grows {b = b} h l m p = put-pass p (h .setting .room) l (omega (arith, h .right)) (to-filled b (h .left) (h .is-restriction) m (h .right) (h .fills)) .grows
+
+  pub itself-grows : {x : ℕ} → Setting s t q w → x ≤ q .names → Put q x x w v r → Grows (Step s t q) q w v
+  itself-grows h l p = put-pass p (h .room) l l (to-itself refl) .grows
+
+  pub top-grows : {x : ℕ} → Setting s t q w → x ≤ q .names → Put q x (q .names) w v r → Grows (Step s t q) q w v
+  top-grows h l p = put-pass p (h .room) l (omega arith) (to-top refl) .grows
+
+pub over-filler : {s t : List ℕ} {q : Square} {w : List ℕ} {x y b filler : ℕ} → MarkedCell s t q w x y → b < q .names → filler ≡ fillerAt t b → filler ≡ x → restricts (kindAt t b) ≡ true → Over s t q w b y
+over-filler {t = t} {x = x} {b = b} h l e f r =
+    let p : fillerAt t b ≡ x = sym e ∙ f in
+    record { setting = h .setting; name = l; is-restriction = r; marked = rw p (h .marked) }
+
+pub source-of : {s t : List ℕ} {q : Square} {w : List ℕ} {x y : ℕ} → MarkedCell s t q w x y → y < q .names → Source s t q w x y
+source-of h l = record { in-row = record { setting = h .setting; row = h .row; name = l }; marked = h .marked }
+
+pub served-over : {s t : List ℕ} {q : Square} {w : List ℕ} {b y z kind filler role role-z : ℕ} → Over s t q w b y → z < q .names → kind ≡ kindAt t z → kind ≡ 4 → filler ≡ fillerAt t z → filler ≡ y → role ≡ roleAt t b → role-z ≡ roleAt t z → Serves role role-z → Served s t q w b z
+served-over {t = t} {y = y} {z = z} h l e four f g i j same =
+    let p : fillerAt t z ≡ y = sym f ∙ g in
+    record { setting = h .setting; left = h .name; is-restriction = h .is-restriction; right = l; fills = record { kind = sym e ∙ four; role = sym i ∙ same ∙ j; filler = rw p (h .marked) } }

@@ -86,7 +86,22 @@ pub record Pair (t : List ℕ) (q : Square) (w : List ℕ) (x b y : ℕ) : Type 
   pub is-restriction : restricts (kindAt t b) ≡ true
   pub right : y < q .names
 
--- what a search asks that is only a hint
-pub record Hint (t : List ℕ) (q : Square) (w : List ℕ) : Type 0 where
-  pub rows : 4 * q .names ≤ length t
-  pub room : Room q w
+-- what dealing with a mark asks: a marked cell; a restriction b whose filler lies below y; a restriction b that serves for z
+pub record MarkedCell (s t : List ℕ) (q : Square) (w : List ℕ) (x y : ℕ) : Type 0 where
+  pub setting : Setting s t q w
+  pub row : x ≤ q .names
+  pub column : y ≤ q .names
+  pub marked : Marked q w x y
+
+pub record Over (s t : List ℕ) (q : Square) (w : List ℕ) (b y : ℕ) : Type 0 where
+  pub setting : Setting s t q w
+  pub name : b < q .names
+  pub is-restriction : restricts (kindAt t b) ≡ true
+  pub marked : Marked q w (fillerAt t b) y
+
+pub record Served (s t : List ℕ) (q : Square) (w : List ℕ) (b z : ℕ) : Type 0 where
+  pub setting : Setting s t q w
+  pub left : b < q .names
+  pub is-restriction : restricts (kindAt t b) ≡ true
+  pub right : z < q .names
+  pub fills : Fills t q b z w

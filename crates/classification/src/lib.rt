@@ -2,7 +2,9 @@
 ghost use Rattle.classification.specs.Inclusions.{Unclassified, Classified};
 use marks::Square;
 
-mod order;
+mod consequences;
+mod lists;
+mod propagation;
 mod rules;
 mod sweep;
 
@@ -11,6 +13,6 @@ pub fn classify(file: &[u8], table: &[u16], work: &mut [u8], square: Square)
     requires { ⌜ Unclassified (now file) (now table) square (now work) ⌝ }
     ensures { λ _. ⌜ Classified (now (file .entry)) square (now (work .entry)) (now (work .exit)) ⌝ }
 {
-    order::hurry(file, table, work, square);
+    propagation::propagate(file, table, work, square);
     sweep::close(file, table, work, square);
 }

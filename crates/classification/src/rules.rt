@@ -40,7 +40,7 @@ fn mark_parts(
 
 // Whether y is not marked in row x yet, and is a defined ∃r.B that b serves for. The cell is looked at first, since most are
 // marked or not asked for.
-fn fills(table: &[u16], work: &[u8], square: Square, x: usize, b: usize, y: usize) -> bool
+pub fn fills(table: &[u16], work: &[u8], square: Square, x: usize, b: usize, y: usize) -> bool
     requires { ⌜ Pair (now table) square (now work) x b y ⌝ }
     ensures { λ r. ⌜ Due r (Fills (now (table .entry)) square b y (now (work .entry))) (Marked square (now (work .entry)) x y) ⌝ }
 {
@@ -101,7 +101,7 @@ fn spread(file: &[u8], table: &[u16], work: &mut [u8], square: Square, x: usize,
 }
 
 // Whether y is a defined conjunction, and all its conjuncts are marked in row x.
-fn gathers(file: &[u8], table: &[u16], work: &[u8], square: Square, x: usize, y: usize) -> bool
+pub fn gathers(file: &[u8], table: &[u16], work: &[u8], square: Square, x: usize, y: usize) -> bool
     requires { ⌜ InRow (now file) (now table) square (now work) x y ⌝ }
     ensures { λ r. ⌜ Tells r (Gathers (now (file .entry)) (now (table .entry)) square x y (now (work .entry))) ⌝ }
 {

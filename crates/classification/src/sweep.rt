@@ -52,7 +52,7 @@ fn row_pass(file: &[u8], table: &[u16], work: &mut [u8], square: Square, x: usiz
 }
 
 // Passes over row x until nothing is left to mark in it. Whether a mark is new.
-pub fn row(file: &[u8], table: &[u16], work: &mut [u8], square: Square, x: usize) -> bool
+fn row(file: &[u8], table: &[u16], work: &mut [u8], square: Square, x: usize) -> bool
     requires { ⌜ Setting (now file) (now table) square (now work) ⌝ }
     requires { ⌜ x ≤ square .names ⌝ }
     ensures { λ r. ⌜ Pass (Step (now (file .entry)) (now (table .entry)) square) square (Row (now (file .entry)) (now (table .entry)) square x) (now (work .entry)) (now (work .exit)) r ⌝ }

@@ -105,6 +105,9 @@ module _ {q : Square} {x y i : ℕ} {w : List ℕ} (c : Cell q x y i) where
   pub put-fresh : (getD w i 0 ≡ 1 → ⊥) → Put q x y w (set w i 1) true
   put-fresh h = record { fresh = λ e m. h (marked-byte m); put = λ e. ap (λ j. set w j 1) (c .is); same = λ e. not-true e; found = λ e. not-true e }
 
+pub put-told : {q : Square} {x y : ℕ} {w v : List ℕ} {r t : Bool} → r ≡ t → Put q x y w v r → Put q x y w v t
+put-told e p = rw (← e) p
+
 -- a square p apart from the one that changed
 module _ {p q : Square} {w v : List ℕ} (f : Frame q w v) (apart : Apart p q) {x y : ℕ} (h : x ≤ p .names) (l : y ≤ p .names) where
   cell-stays : getD v (cell p x y) 0 ≡ getD w (cell p x y) 0

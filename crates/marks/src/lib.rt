@@ -5,6 +5,8 @@ ghost use lib.ListN.{length};
 ghost use Rattle.el.proofs.Tests.{Tells};
 ghost use Rattle.marks.specs.Squares.{size, mostNames, mostCells, Small, Cell, Room, Marked, Put, Zeroed};
 
+pub mod pending;
+
 // The place of a square: names + 1 rows and as many columns, row after row from `base` on, a byte a cell.
 pub struct Square {
     pub base: usize,

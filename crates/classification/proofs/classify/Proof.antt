@@ -6,26 +6,26 @@ use Rattle.classification.proofs.classify.Statement.{statement}
 use Rattle.classification.proofs.classify.Tie as tie
 use Rattle.classification.proofs.classify.Reads as reads
 use Rattle.classification.proofs.classify.Lts as lts
-use Rattle.classification.proofs.order.hurry.Reads as hurry-reads
+use Rattle.classification.proofs.propagation.propagate.Reads as propagate-reads
 use Rattle.classification.proofs.sweep.close.Reads as close-reads
 
-hurry-requires : tie.Need-hurry-requires
-hurry-requires c κs = setting (c .before .before .before .before .pre)
+propagate-requires : tie.Need-propagate-requires
+propagate-requires c κs = setting (c .before .before .before .before .pre)
 
 close-requires : tie.Need-close-requires
-close-requires c κs = setting-stays (c .before .before .before .hurry .ensures) (setting (c .before .before .before .before .before .before .before .before .pre))
+close-requires c κs = setting-stays (c .before .before .before .propagate .ensures) (setting (c .before .before .before .before .before .before .before .before .pre))
 
 same-length : tie.Need-same-length
 same-length c = search needs
 
 returns : tie.Need-returns
-returns c = classified (c .before .before .before .before .before .before .before .before .before .before .before .pre) (closed-further (c .before .before .before .before .before .before .hurry .ensures) (c .before .before .close .ensures))
+returns c = classified (c .before .before .before .before .before .before .before .before .before .before .before .pre) (closed-further (c .before .before .before .before .before .before .propagate .ensures) (c .before .before .close .ensures))
 
 pub classify-spec : {M : Type 1} → statement M
 classify-spec =
     tie.close
     (tie.spec
-    hurry-requires
+    propagate-requires
     close-requires
     same-length
     returns)

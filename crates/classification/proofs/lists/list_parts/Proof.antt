@@ -1,0 +1,57 @@
+use Prim.Native.Nat.{_≤_, _-_}
+use native.Mathlib.Omega.{arith}
+use borrow.Author.Needs.{needs}
+use Rattle.release.proofs.DefinedParts.{has-count, has-part}
+use Rattle.classification.proofs.lists.list_parts.Statement.{statement}
+use Rattle.classification.proofs.lists.list_parts.Tie as tie
+use Rattle.classification.proofs.lists.list_parts.Reads as reads
+use Rattle.classification.proofs.lists.list_parts.Lts as lts
+use Rattle.classification.proofs.lists.add.Reads as add-reads
+use Rattle.release.proofs.table.count.Reads as count-reads
+use Rattle.release.proofs.table.part.Reads as part-reads
+
+-- hints: nothing but bounds
+abbrev Inv-loop : tie.InvT-loop
+Inv-loop file table lists₀ names z count i₀ lists i = i ≤ count
+
+abbrev μ-loop : tie.MeasureT-loop
+μ-loop file table lists₀ names z count i₀ lists i = count - i
+
+count-requires : tie.Need-count-requires Inv-loop μ-loop
+count-requires c κs = has-count _ _ _ _ (c .before .before .pre)
+
+loop-holds : tie.Need-loop-holds Inv-loop μ-loop
+loop-holds c = search needs
+
+part-requires : tie.Need-part-requires Inv-loop μ-loop
+part-requires c κs = has-part _ _ _ _ (c .before .before .before .before .before .pre) _ (omega (arith, c .loop-test .taken, c .before .before .count .ensures))
+
+add-i : tie.Need-add-i Inv-loop μ-loop
+add-i c = search needs
+
+add-requires : tie.Need-add-requires Inv-loop μ-loop
+add-requires c κs = search needs
+
+loop-less : tie.Need-loop-less Inv-loop μ-loop
+loop-less c = search needs
+
+loop-again : tie.Need-loop-again Inv-loop μ-loop
+loop-again c = search needs
+
+returns : tie.Need-returns Inv-loop μ-loop
+returns c = search needs
+
+pub list-parts-spec : {M : Type 1} → statement M
+list-parts-spec =
+    tie.close
+    (tie.spec
+    Inv-loop
+    μ-loop
+    count-requires
+    loop-holds
+    part-requires
+    add-i
+    add-requires
+    loop-less
+    loop-again
+    returns)
