@@ -6,7 +6,8 @@ ghost use Rattle.marks.specs.Squares.{Room, Put};
 use crate::Square;
 use crate::mark;
 
-// A stack is an array of LENGTH numbers: how many cells wait, and then these, a number a cell.
+// A stack is an array of LENGTH numbers: how many cells wait, and then these, a number a cell. It has room for a quarter of
+// the cells, which is more than wait at a time, as a rule; a cell too many does not wait.
 pub struct Pending {}
 
 impl Pending {
@@ -14,7 +15,9 @@ impl Pending {
 
     pub const CELLS: usize = 16384;
 
-    pub const LENGTH: usize = 16385;
+    pub const ROOM: usize = 4096;
+
+    pub const LENGTH: usize = 4097;
 }
 
 // A row and a column.
@@ -39,7 +42,7 @@ fn narrow(x: usize) -> u16
 // Lets a cell wait. Out of range nothing happens.
 pub fn note(pending: &mut [u16; Pending::LENGTH], x: usize, y: usize) {
     let count = wide(pending[0]);
-    if count < Pending::CELLS {
+    if count < Pending::ROOM {
         if x < Pending::NODES {
             if y < Pending::NODES {
                 pending[count + 1] = narrow(x * Pending::NODES + y);
@@ -53,7 +56,7 @@ pub fn note(pending: &mut [u16; Pending::LENGTH], x: usize, y: usize) {
 pub fn take(pending: &mut [u16; Pending::LENGTH]) -> Place {
     let count = wide(pending[0]);
     if 0 < count {
-        if count <= Pending::CELLS {
+        if count <= Pending::ROOM {
             let cell = wide(pending[count]);
             pending[0] = narrow(count - 1);
             return Place {
