@@ -6,15 +6,12 @@ use Rattle.points.proofs.nodes.is_restriction.Reads as reads
 use Rattle.points.proofs.nodes.is_restriction.Lts as lts
 use Rattle.release.proofs.table.kind.Reads as kind-reads
 
--- src/nodes.rt:22:9
 kind-requires : tie.Need-kind-requires
 kind-requires c κs = search needs
 
--- src/nodes.rt:24:9
 returns : tie.Need-returns
 returns c = rw (← c .before .kind .ensures, eq-eqb _ _ (c .if1 .taken))
 
--- src/nodes.rt:18:1
 returns-2 : tie.Need-returns-2
 returns-2 c = rw (← c .before .kind .ensures, ne-eqb _ _ (c .if1 .left))
 
