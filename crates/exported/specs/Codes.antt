@@ -1,5 +1,5 @@
 -- The answers of a comparison and of a question as numbers, for callers in other languages.
---   Compared, Asked     the promises: those of the calls themselves, of the answer that the number stands for
+--   CompareReturns, AskReturns     the promises: those of the calls themselves, of the answer that the number stands for
 use mathlib.Core.Path.{_≡_}
 use mathlib.Core.List.{List}
 use Prim.Native.Nat.{ℕ, _+_, _*_}
@@ -22,12 +22,12 @@ abbrev pub askedCode : Q.Asked → ℕ
 askedCode (Ask.Answer value) = value
 askedCode (Ask.Refused k) = refusalCode k * 256
 
-pub record Compared (s t g o o2 w w2 : List ℕ) (r : ℕ) : Type 0 where
+pub record CompareReturns (s t g o o2 w w2 : List ℕ) (r : ℕ) : Type 0 where
   pub answer : Comparison
   pub says : Says s t g o o2 w w2 answer
   pub code : r ≡ comparisonCode answer
 
-pub record Asked (s c d w w2 : List ℕ) (r : ℕ) : Type 0 where
+pub record AskReturns (s c d w w2 : List ℕ) (r : ℕ) : Type 0 where
   pub answer : Q.Asked
   pub says : AskedAs s c d w w2 answer
   pub code : r ≡ askedCode answer

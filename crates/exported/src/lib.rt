@@ -1,7 +1,7 @@
 // The comparison and the question for C and Rust, with numbers for answers.
 ghost use mathlib.Core.Path.{_≡_};
 ghost use Prim.Native.Nat.{_+_, _*_};
-ghost use Rattle.exported.specs.Codes.{refusalCode, comparisonCode, askedCode, Compared, Asked};
+ghost use Rattle.exported.specs.Codes.{refusalCode, comparisonCode, askedCode, CompareReturns, AskReturns};
 use meanings::Comparison;
 use meanings::compare_releases;
 use question::Asked;
@@ -49,7 +49,7 @@ pub extern "C" fn berrytick_compare(
     result: &mut [u8],
     work: &mut [u8],
 ) -> u32
-    ensures { λ r. ⌜ Compared (now (first .entry)) (now (second .entry)) (now (signature .entry)) (now (result .entry)) (now (result .exit)) (now (work .entry)) (now (work .exit)) r ⌝ }
+    ensures { λ r. ⌜ CompareReturns (now (first .entry)) (now (second .entry)) (now (signature .entry)) (now (result .entry)) (now (result .exit)) (now (work .entry)) (now (work .exit)) r ⌝ }
 {
     comparison_code(compare_releases(first, second, signature, result, work))
 }
@@ -57,7 +57,7 @@ pub extern "C" fn berrytick_compare(
 // Asks whether a concept lies below another: number * 65536 + side * 256 of a refusal, else 1 for yes and 0 for no.
 #[no_mangle]
 pub extern "C" fn berrytick_ask(file: &[u8], below: &[u8], above: &[u8], work: &mut [u8]) -> u32
-    ensures { λ r. ⌜ Asked (now (file .entry)) (now (below .entry)) (now (above .entry)) (now (work .entry)) (now (work .exit)) r ⌝ }
+    ensures { λ r. ⌜ AskReturns (now (file .entry)) (now (below .entry)) (now (above .entry)) (now (work .entry)) (now (work .exit)) r ⌝ }
 {
     asked_code(ask_inclusion(file, below, above, work))
 }
