@@ -4,7 +4,8 @@
 usage: tools/vectors.py FOLDER
 
 FOLDER holds vectors, NAME.jsonl, one JSON object a line with bytes in hex. The cases of the families `refusals`,
-`shows` and `signatures` come from the tables of that name beside this script, and release.py confirms these.
+`shows` and `signatures` come from the tables of that name beside this script, and release.py confirms these. Those of the
+family `deep` are made here.
 
 A data file is a case after the other. A case is a length of four bytes and that many bytes: its fields, one after the
 other, each again a length of four bytes and that many bytes. A number is a field of one to eight bytes. Numbers and
@@ -134,6 +135,46 @@ def signatures():
     return cases
 
 
+def circle(kind):
+    """A release with 127 names and one role in which each name is, by this kind, ∃ of the next, and the last of the first."""
+    axioms = b"".join(bytes([name, kind, 0, (name + 1) % 127]) for name in range(127))
+    return b"ELT" + bytes([1, 0, 127, 1, 127]) + axioms
+
+
+def deep():
+    """Questions with concepts as deep and as long as there can be, about circles; and the two of P10."""
+    top, some = bytes([0]), bytes([3, 0])
+    tops = bytes([2] * 127 + [0] * 128)
+    joined = bytes([2] * 84) + b"".join(bytes([1, name]) for name in range(85))
+
+    def name(number):
+        return bytes([1, number])
+
+    def nested(count, filler):
+        return some * count + filler
+
+    defined, stated, anything = circle(4), circle(3), b"ELT" + bytes([1, 0, 1, 1, 1, 0, 4, 0, 255])
+    asked = [
+        # 0 is ∃ of 1, which is ∃ of 2 .., so ∃ 126 times of 126, and ∃ 127 times of something
+        (defined, nested(126, name(126)), name(0), 1), (defined, name(0), nested(126, name(126)), 1),
+        (defined, nested(126, name(125)), name(0), 0), (defined, name(0), nested(126, name(125)), 0),
+        (defined, name(0), nested(127, top), 1), (defined, nested(127, top), name(0), 0),
+        (stated, name(0), nested(126, name(126)), 1), (stated, nested(126, name(126)), name(0), 0),
+        (stated, name(0), nested(127, top), 1), (stated, nested(127, top), name(0), 0),
+        # both deep
+        (defined, nested(126, name(126)), nested(126, name(126)), 1), (stated, nested(126, name(5)), nested(126, name(5)), 1),
+        (defined, nested(126, name(126)), nested(126, name(0)), 0), (stated, nested(126, name(5)), nested(127, top), 1),
+        (defined, nested(127, top), nested(127, top), 1), (defined, nested(127, top), nested(126, name(0)), 0),
+        # 127 conjunctions, and 84 of 85 names
+        (defined, tops, tops, 1), (defined, name(0), tops, 1), (defined, tops, name(0), 0), (defined, tops, nested(127, top), 0),
+        (stated, joined, name(84), 1), (stated, joined, name(85), 0), (stated, name(0), joined, 0), (defined, joined, joined, 1),
+        (stated, joined, nested(127, top), 1), (defined, joined, nested(126, name(126)), 1),
+        # P10
+        (anything, nested(1, name(0)), name(0), 1), (anything, name(0), nested(1, name(0)), 0)]
+    return [[file, below, above, number(65536), number(0), number(0), number(value), number(4 * (file[5] + 1) ** 2)]
+            for file, below, above, value in asked]
+
+
 def main():
     folder = pathlib.Path(sys.argv[1])
     DATA.mkdir(parents=True, exist_ok=True)
@@ -142,6 +183,7 @@ def main():
     write("refusals", refusals())
     write("shows", shows())
     write("signatures", signatures())
+    write("deep", deep())
 
 
 if __name__ == "__main__":

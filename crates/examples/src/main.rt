@@ -24,6 +24,7 @@ fn main() {
     run::family(Call::Show, b"shows");
     run::family(Call::Signatures, b"signatures");
     run::family(Call::Question, b"question");
+    run::family(Call::Question, b"deep");
     run::family(Call::Compare, b"compare");
     run::family(Call::Station, b"station");
 }

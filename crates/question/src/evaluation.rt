@@ -78,7 +78,7 @@ fn lose_all(
     }
 }
 
-// Whether C ⊑ D, by the square of the inclusions of nodes: 1, else 0. The arrays here are nearly all of the stack that a question takes, 50 KiB.
+// Whether C ⊑ D, by the square of the inclusions of nodes: 1, else 0. The arrays here are nearly all of the stack that a question takes: three grids and two outlines, 50 KiB; nothing calls itself.
 pub fn decide(
     file: &[u8],
     table: &[u16],

@@ -2,10 +2,10 @@
 ghost use mathlib.Core.Path.{_≡_};
 ghost use Rattle.question.specs.Asking.{ofRelease, refusedBy, AskedAs, ToAnswer, Answered};
 use classification::classify;
-use concept::is_concept;
 use marks::Square;
 use marks::clear;
 use marks::size;
+use outline::is_text;
 use release::Checked;
 use release::Refusal;
 use release::read_release;
@@ -83,8 +83,8 @@ pub fn ask_inclusion(file: &[u8], below: &[u8], above: &[u8], work: &mut [u8]) -
     };
     let names = counts.names;
     let roles = counts.roles;
-    if is_concept(below, names, roles) {
-        if is_concept(above, names, roles) {
+    if is_text(below, names, roles) {
+        if is_text(above, names, roles) {
             let cells = size(names);
             if work.len() < 4 * cells {
                 return refused(SHORT_WORK, 0);

@@ -1,3 +1,5 @@
+-- `outline` meets its contract. The loop keeps what is read, pending and written for every concept whose text the bytes are; it ends since
+-- each turn reads a byte.
 use Prim.Native.Nat.{_-_, _<_, _≤_}
 use mathlib.Core.Path.{_≡_, refl, sym, _∙_}
 use native.Mathlib.Omega.{arith}
@@ -18,37 +20,29 @@ Inv-loop bytes owners₀ atoms₀ at₀ pending₀ roots₀ count₀ owners atom
 abbrev μ-loop : tie.MeasureT-loop
 μ-loop bytes owners₀ atoms₀ at₀ pending₀ roots₀ count₀ owners atoms at pending roots count = length bytes - at
 
--- src/lib.rt:69:5
 slice-write-owners : tie.Need-slice-write-owners Inv-loop μ-loop
 slice-write-owners c = omega arith
 
--- src/lib.rt:70:5
 loop-holds : tie.Need-loop-holds Inv-loop μ-loop
 loop-holds c =
     let p = c .before .before .before .pre in
     (record { short = p .text .short; inside = omega arith; high = omega arith; few = omega arith; some-root = omega arith; roots-few = omega arith; stack = simp length-set (p .stack); room = p .room }, refl, refl, starts (c .before .before .before .args .bytes .now) (c .before .before .before .args .owners .now) (c .before .before .before .args .atoms .now) (p .stack))
 
--- src/lib.rt:71:19
 sub-top : tie.Need-sub-top Inv-loop μ-loop
 sub-top c = omega arith
 
--- src/lib.rt:72:21
 slice-read-owner : tie.Need-slice-read-owner Inv-loop μ-loop
 slice-read-owner c = omega arith
 
--- src/lib.rt:73:20
 shared-slice-read-kind : tie.Need-shared-slice-read-kind Inv-loop μ-loop
 shared-slice-read-kind c = has-byte (c .before .before .before .loop .inv .3 .of _ _ _ (c .before .before .before .before .before .before .before .pre .text)) (c .before .before .loop-test .taken)
 
--- src/lib.rt:76:17
 add-at : tie.Need-add-at Inv-loop μ-loop
 add-at c = omega arith
 
--- src/lib.rt:70:5
 loop-less : tie.Need-loop-less Inv-loop μ-loop
 loop-less c = omega (arith, has-byte (c .before .before .before .before .loop .inv .3 .of _ _ _ (c .before .before .before .before .before .before .before .before .pre .text)) (c .before .before .before .loop-test .taken))
 
--- src/lib.rt:70:5
 loop-again : tie.Need-loop-again Inv-loop μ-loop
 loop-again c =
     let v = c .before .before .before .before .loop .inv in
@@ -56,33 +50,26 @@ loop-again c =
     let l = v .0 in
     (record { short = l .short; inside = omega arith; high = omega arith; few = omega arith; some-root = l .some-root; roots-few = l .roots-few; stack = l .stack; room = l .room }, v .1, v .2, record { of = λ n m d t. turn-top (v .3 .of n m d t) (c .before .before .before .loop-test .taken) (c .match .keys1) })
 
--- src/lib.rt:80:34
 add-name : tie.Need-add-name Inv-loop μ-loop
 add-name c = omega arith
 
--- src/lib.rt:80:28
 shared-slice-read-name : tie.Need-shared-slice-read-name Inv-loop μ-loop
 shared-slice-read-name c = has-name (c .before .before .before .before .before .loop .inv .3 .of _ _ _ (c .before .before .before .before .before .before .before .before .before .pre .text)) (c .before .before .before .before .loop-test .taken) (c .before .match .keys2)
 
--- src/lib.rt:81:17
 put-requires : tie.Need-put-requires Inv-loop μ-loop
 put-requires c κs =
     let inside = has-name (c .before .before .before .before .before .before .loop .inv .3 .of _ _ _ (c .before .before .before .before .before .before .before .before .before .before .pre .text)) (c .before .before .before .before .before .loop-test .taken) (c .before .before .match .keys2) in
     record { inside = omega (arith, c .before .before .before .before .before .before .loop .inv .0) }
 
--- src/lib.rt:82:17
 add-at-2 : tie.Need-add-at-2 Inv-loop μ-loop
 add-at-2 c = omega arith
 
--- src/lib.rt:83:17
 add-count : tie.Need-add-count Inv-loop μ-loop
 add-count c = omega arith
 
--- src/lib.rt:70:5
 loop-less-2 : tie.Need-loop-less-2 Inv-loop μ-loop
 loop-less-2 c = omega (arith, has-name (c .before .before .before .before .before .before .before .before .before .loop .inv .3 .of _ _ _ (c .before .before .before .before .before .before .before .before .before .before .before .before .before .pre .text)) (c .before .before .before .before .before .before .before .before .loop-test .taken) (c .before .before .before .before .before .match .keys2))
 
--- src/lib.rt:70:5
 loop-again-2 : tie.Need-loop-again-2 Inv-loop μ-loop
 loop-again-2 c =
     let v = c .before .before .before .before .before .before .before .before .before .loop .inv in
@@ -92,23 +79,18 @@ loop-again-2 c =
     let t = name-turn _ _ _ _ _ _ _ _ (v .0) (v .3) first more kind (c .before .before .put .ensures) in
     (t .0, v .1, t .1 ∙ v .2, t .2)
 
--- src/lib.rt:87:17
 slice-write-owners-2 : tie.Need-slice-write-owners-2 Inv-loop μ-loop
 slice-write-owners-2 c = omega (arith, has-byte (c .before .before .before .before .loop .inv .3 .of _ _ _ (c .before .before .before .before .before .before .before .before .pre .text)) (c .before .before .before .loop-test .taken))
 
--- src/lib.rt:88:17
 add-at-3 : tie.Need-add-at-3 Inv-loop μ-loop
 add-at-3 c = omega arith
 
--- src/lib.rt:89:17
 add-pending : tie.Need-add-pending Inv-loop μ-loop
 add-pending c = omega arith
 
--- src/lib.rt:70:5
 loop-less-3 : tie.Need-loop-less-3 Inv-loop μ-loop
 loop-less-3 c = omega (arith, has-byte (c .before .before .before .before .loop .inv .3 .of _ _ _ (c .before .before .before .before .before .before .before .before .pre .text)) (c .before .before .before .loop-test .taken))
 
--- src/lib.rt:70:5
 loop-again-3 : tie.Need-loop-again-3 Inv-loop μ-loop
 loop-again-3 c =
     let v = c .before .before .before .before .loop .inv in
@@ -117,46 +99,37 @@ loop-again-3 c =
     let l = v .0 in
     (record { short = l .short; inside = omega arith; high = omega arith; few = omega arith; some-root = l .some-root; roots-few = l .roots-few; stack = simp length-set (l .stack); room = l .room }, rw length-set (v .1), v .2, record { of = λ n m d t. turn-both (v .3 .of n m d t) first (c .match .keys3) (omega arith) })
 
--- src/lib.rt:92:34
 add-role : tie.Need-add-role Inv-loop μ-loop
 add-role c = omega arith
 
--- src/lib.rt:92:28
 shared-slice-read-role : tie.Need-shared-slice-read-role Inv-loop μ-loop
 shared-slice-read-role c =
     let other = c .before .match .rest in
     has-role (other .0 .0 .1) (other .0 .1) (other .1) (c .before .before .before .before .before .loop .inv .3 .of _ _ _ (c .before .before .before .before .before .before .before .before .before .pre .text)) (c .before .before .before .before .loop-test .taken)
 
--- src/lib.rt:93:17
 put-requires-2 : tie.Need-put-requires-2 Inv-loop μ-loop
 put-requires-2 c κs =
     let other = c .before .before .match .rest in
     let inside = has-role (other .0 .0 .1) (other .0 .1) (other .1) (c .before .before .before .before .before .before .loop .inv .3 .of _ _ _ (c .before .before .before .before .before .before .before .before .before .before .pre .text)) (c .before .before .before .before .before .loop-test .taken) in
     record { inside = omega (arith, c .before .before .before .before .before .before .loop .inv .0) }
 
--- src/lib.rt:94:17
 slice-write-owners-3 : tie.Need-slice-write-owners-3 Inv-loop μ-loop
 slice-write-owners-3 c = omega arith
 
--- src/lib.rt:95:17
 add-at-4 : tie.Need-add-at-4 Inv-loop μ-loop
 add-at-4 c = omega arith
 
--- src/lib.rt:96:17
 add-count-2 : tie.Need-add-count-2 Inv-loop μ-loop
 add-count-2 c = omega arith
 
--- src/lib.rt:97:17
 add-roots : tie.Need-add-roots Inv-loop μ-loop
 add-roots c = omega (arith, c .before .before .before .before .before .before .before .before .before .loop .inv .0)
 
--- src/lib.rt:70:5
 loop-less-4 : tie.Need-loop-less-4 Inv-loop μ-loop
 loop-less-4 c =
     let other = c .before .before .before .before .before .match .rest in
     omega (arith, has-role (other .0 .0 .1) (other .0 .1) (other .1) (c .before .before .before .before .before .before .before .before .before .loop .inv .3 .of _ _ _ (c .before .before .before .before .before .before .before .before .before .before .before .before .before .pre .text)) (c .before .before .before .before .before .before .before .before .loop-test .taken))
 
--- src/lib.rt:70:5
 loop-again-4 : tie.Need-loop-again-4 Inv-loop μ-loop
 loop-again-4 c =
     let v = c .before .before .before .before .before .before .before .before .before .loop .inv in
@@ -166,19 +139,15 @@ loop-again-4 c =
     let t = some-turn _ _ _ _ _ _ _ _ (v .0) (v .3) first more (other .0 .0 .1) (other .0 .1) (other .1) (c .before .before .put2 .ensures) in
     (t .0, rw length-set (v .1), t .1 ∙ v .2, t .2)
 
--- src/lib.rt:103:16
 wide-requires : tie.Need-wide-requires Inv-loop μ-loop
 wide-requires c κs = search needs
 
--- src/lib.rt:61:1
 same-length : tie.Need-same-length Inv-loop μ-loop
 same-length c = omega (arith, c .before .before .loop .inv .1, length-set (c .before .before .before .before .before .before .args .owners .now) 0 0)
 
--- src/lib.rt:61:1
 same-length-2 : tie.Need-same-length-2 Inv-loop μ-loop
 same-length-2 c = search needs
 
--- src/lib.rt:61:1
 returns : tie.Need-returns Inv-loop μ-loop
 returns c = λ n m d t. ends _ _ _ _ _ _ _ (c .before .before .loop .inv .0) (c .before .before .loop .inv .3) (c .before .loop-test .left) n m d t _ (c .wide .ensures)
 

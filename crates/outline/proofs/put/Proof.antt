@@ -8,35 +8,27 @@ use Rattle.outline.proofs.put.Tie as tie
 use Rattle.outline.proofs.put.Reads as reads
 use Rattle.outline.proofs.put.Lts as lts
 
--- src/lib.rt:53:14
 mul-at : tie.Need-mul-at
 mul-at c = search needs
 
--- src/lib.rt:54:5
 slice-write-atoms : tie.Need-slice-write-atoms
 slice-write-atoms c = search needs
 
--- src/lib.rt:55:11
 add-atoms : tie.Need-add-atoms
 add-atoms c = search needs
 
--- src/lib.rt:55:5
 slice-write-atoms-2 : tie.Need-slice-write-atoms-2
 slice-write-atoms-2 c = simp length-set (omega arith)
 
--- src/lib.rt:56:11
 add-atoms-2 : tie.Need-add-atoms-2
 add-atoms-2 c = search needs
 
--- src/lib.rt:56:5
 slice-write-atoms-3 : tie.Need-slice-write-atoms-3
 slice-write-atoms-3 c = simp length-set (omega arith)
 
--- src/lib.rt:49:1
 same-length : tie.Need-same-length
 same-length c = search needs
 
--- src/lib.rt:49:1
 returns : tie.Need-returns
 unfolding putAtom
 returns c = refl

@@ -6,19 +6,15 @@ use Rattle.outline.proofs.value.Reads as reads
 use Rattle.outline.proofs.value.Lts as lts
 use Rattle.outline.proofs.wide.Reads as wide-reads
 
--- src/lib.rt:30:16
 mul-wide : tie.Need-mul-wide
 mul-wide c = search needs
 
--- src/lib.rt:30:10
 shared-slice-read-wide : tie.Need-shared-slice-read-wide
 shared-slice-read-wide c = search needs
 
--- src/lib.rt:30:5
 wide-requires : tie.Need-wide-requires
 wide-requires c κs = search needs
 
--- src/lib.rt:26:1
 returns : tie.Need-returns
 unfolding valueAt
 returns c = c .wide .ensures

@@ -7,15 +7,12 @@ use Rattle.points.proofs.is_set.Reads as reads
 use Rattle.points.proofs.is_set.Lts as lts
 use Rattle.marks.proofs.is_marked.Reads as is-marked-reads
 
--- src/lib.rt:28:20
 sub-t4 : tie.Need-sub-t4
 sub-t4 c = search needs
 
--- src/lib.rt:24:5
 is-marked-requires : tie.Need-is-marked-requires
 is-marked-requires c κs = (grid-room (c .before .pre .0), (omega arith, omega arith))
 
--- src/lib.rt:19:1
 returns : tie.Need-returns
 returns c = search needs
 

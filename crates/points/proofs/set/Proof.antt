@@ -7,19 +7,15 @@ use Rattle.points.proofs.set.Reads as reads
 use Rattle.points.proofs.set.Lts as lts
 use Rattle.marks.proofs.mark.Reads as mark-reads
 
--- src/lib.rt:44:20
 sub-t6 : tie.Need-sub-t6
 sub-t6 c = search needs
 
--- src/lib.rt:40:5
 mark-requires : tie.Need-mark-requires
 mark-requires c κs = (grid-room (c .before .before .pre .0), (omega arith, omega arith))
 
--- src/lib.rt:35:1
 same-length : tie.Need-same-length
 same-length c = search needs
 
--- src/lib.rt:35:1
 returns : tie.Need-returns
 returns c = search needs
 

@@ -1,3 +1,4 @@
+-- `answer` meets its contract: the memory after each call is what the next one asks.
 use native.Mathlib.Omega.{arith}
 use Rattle.question.proofs.Asks.{to-classify, to-decide, answered}
 use borrow.Author.Needs.{needs}
@@ -9,31 +10,24 @@ use Rattle.classification.proofs.classify.Reads as classify-reads
 use Rattle.marks.proofs.clear.Reads as clear-reads
 use Rattle.question.proofs.evaluation.decide.Reads as decide-reads
 
--- src/lib.rt:59:5
 clear-requires : tie.Need-clear-requires
 clear-requires c κs = search needs
 
--- src/lib.rt:60:5
 classify-requires : tie.Need-classify-requires
 classify-requires c κs = to-classify (c .before .before .before .before .before .before .before .before .before .before .pre) (c .before .before .before .clear .ensures)
 
--- src/lib.rt:61:9
 decide-requires : tie.Need-decide-requires
 decide-requires c κs = to-decide (c .before .before .before .before .before .before .before .before .before .before .before .before .before .before .pre) (c .before .before .before .before .before .before .before .clear .ensures) (c .before .before .before .classify .ensures)
 
--- src/lib.rt:62:17
 mul-clear : tie.Need-mul-clear
 mul-clear c = search needs
 
--- src/lib.rt:62:5
 clear-requires-2 : tie.Need-clear-requires-2
 clear-requires-2 c κs = search needs
 
--- src/lib.rt:43:1
 same-length : tie.Need-same-length
 same-length c = search needs
 
--- src/lib.rt:43:1
 returns : tie.Need-returns
 returns c = answered (c .before .before .before .before .before .before .before .before .before .before .before .before .before .before .before .before .before .before .before .pre) (c .before .before .before .before .before .before .before .before .before .before .before .before .clear .ensures) (c .before .before .before .before .before .before .before .before .classify .ensures) (c .before .before .clear2 .ensures) (c .before .before .before .before .decide .ensures)
 

@@ -6,19 +6,15 @@ use Rattle.question.proofs.of_release.Tie as tie
 use Rattle.question.proofs.of_release.Reads as reads
 use Rattle.question.proofs.of_release.Lts as lts
 
--- src/lib.rt:27:26
 enum-known-checked : tie.Need-enum-known-checked
 enum-known-checked c = search needs
 
--- src/lib.rt:28:33
 enum-told : tie.Need-enum-told
 enum-told c = search needs
 
--- src/lib.rt:23:1
 returns : tie.Need-returns
 returns c = sym (ap ofRelease (c .before .checked .given .1))
 
--- src/lib.rt:23:1
 returns-2 : tie.Need-returns-2
 returns-2 c = search needs
 

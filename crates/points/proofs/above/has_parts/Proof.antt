@@ -1,3 +1,4 @@
+-- `has_parts` meets its contract: the conjuncts before i are set.
 use Prim.Native.Nat.{_≤_, _-_}
 use native.Mathlib.Omega.{arith}
 use borrow.Author.Needs.{needs}
@@ -17,39 +18,30 @@ Inv-loop file table names above k y count i₀ i = (i ≤ count) × PartsBefore 
 abbrev μ-loop : tie.MeasureT-loop
 μ-loop file table names above k y count i₀ i = count - i
 
--- src/above.rt:22:9
 count-requires : tie.Need-count-requires Inv-loop μ-loop
 count-requires c κs = has-count _ _ _ _ (conjunctive (c .before .before .before .pre))
 
--- src/above.rt:24:5
 loop-holds : tie.Need-loop-holds Inv-loop μ-loop
 loop-holds c = (omega arith, parts-none)
 
--- src/above.rt:25:13
 part-requires : tie.Need-part-requires Inv-loop μ-loop
 part-requires c κs = has-part _ _ _ _ (conjunctive (c .before .before .before .before .before .before .pre)) _ (omega (arith, c .loop-test .taken, c .before .before .count .ensures))
 
--- src/above.rt:26:12
 is-set-requires : tie.Need-is-set-requires Inv-loop μ-loop
 is-set-requires c κs = (c .before .before .before .before .before .before .before .pre .rows, (c .before .before .before .before .before .before .before .pre .row, part-small (c .before .before .before .before .before .before .before .pre) _ (c .part .ensures) (omega (arith, c .before .loop-test .taken, c .before .before .before .count .ensures))))
 
--- src/above.rt:27:13
 add-i : tie.Need-add-i Inv-loop μ-loop
 add-i c = search needs
 
--- src/above.rt:24:5
 loop-less : tie.Need-loop-less Inv-loop μ-loop
 loop-less c = search needs
 
--- src/above.rt:24:5
 loop-again : tie.Need-loop-again Inv-loop μ-loop
 loop-again c = (search needs, parts-more (c .before .before .before .before .loop .inv .1) (c .before .before .part .ensures) (c .before .is-set .ensures) (c .if1 .taken))
 
--- src/above.rt:29:13
 returns : tie.Need-returns Inv-loop μ-loop
 returns c = part-missing (omega (arith, c .before .before .before .loop-test .taken, c .before .before .before .before .before .count .ensures)) (c .before .before .part .ensures) (c .before .is-set .ensures) (c .if1 .left)
 
--- src/above.rt:18:1
 returns-2 : tie.Need-returns-2 Inv-loop μ-loop
 returns-2 c = parts-all (c .before .loop .inv .1) (c .before .before .count .ensures) (c .loop-test .left)
 

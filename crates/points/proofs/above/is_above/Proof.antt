@@ -10,27 +10,21 @@ use Rattle.points.proofs.above.has_parts.Reads as has-parts-reads
 use Rattle.points.proofs.is_set.Reads as is-set-reads
 use Rattle.release.proofs.table.kind.Reads as kind-reads
 
--- src/above.rt:43:9
 returns : tie.Need-returns
 returns c = below-top (c .if1 .taken)
 
--- src/above.rt:45:8
 kind-requires : tie.Need-kind-requires
 kind-requires c κs = record { row = omega (arith, c .before .before .before .before .pre .0 .shaped .rows) }
 
--- src/above.rt:46:9
 has-parts-requires : tie.Need-has-parts-requires
 has-parts-requires c κs = record { ranges = c .before .before .before .before .before .before .pre .0; rows = c .before .before .before .before .before .before .pre .1 .0; row = c .before .before .before .before .before .before .pre .1 .1 .0; name = omega arith; kind = sym (c .before .kind .ensures) ∙ c .if2 .taken }
 
--- src/above.rt:46:9
 returns-2 : tie.Need-returns-2
 returns-2 c = below-parts (omega arith) (sym (c .before .before .kind .ensures) ∙ c .before .if2 .taken) (c .has-parts .ensures)
 
--- src/above.rt:48:5
 is-set-requires : tie.Need-is-set-requires
 is-set-requires c κs = (c .before .before .before .before .before .before .pre .1 .0, (c .before .before .before .before .before .before .pre .1 .1 .0, omega (arith, c .before .before .before .before .before .before .pre .0 .few)))
 
--- src/above.rt:36:1
 returns-3 : tie.Need-returns-3
 returns-3 c = below-set (omega arith) (λ z. c .before .if2 .left (c .before .before .kind .ensures ∙ z)) (c .is-set .ensures)
 

@@ -1,3 +1,4 @@
+-- `raise` meets its contract: of the names before `next`, the owner's row gained those above the atom.
 use Prim.Native.Nat.{_≤_, _-_}
 use native.Mathlib.Omega.{arith}
 use mathlib.Core.Path.{_≡_, refl, sym, _∙_}
@@ -22,47 +23,36 @@ Inv-loop file table work square atoms above₀ i row next₀ above next = (next 
 abbrev μ-loop : tie.MeasureT-loop
 μ-loop file table work square atoms above₀ i row next₀ above next = square .names - next
 
--- src/above.rt:90:9
 owner-requires : tie.Need-owner-requires Inv-loop μ-loop
 owner-requires c κs = record { inside = c .before .before .before .before .before .pre .inside }
 
--- src/above.rt:92:5
 loop-holds : tie.Need-loop-holds Inv-loop μ-loop
 loop-holds c = (omega arith, refl, adds-none)
 
--- src/above.rt:94:9
 add-next : tie.Need-add-next Inv-loop μ-loop
 add-next c = search needs
 
--- src/above.rt:95:12
 atom-below-requires : tie.Need-atom-below-requires Inv-loop μ-loop
 atom-below-requires c κs = (given-after (c .before .before .before .before .before .before .before .before .before .before .pre) (c .before .before .before .loop .inv .2), c .before .if1 .taken)
 
--- src/above.rt:96:13
 set-requires : tie.Need-set-requires Inv-loop μ-loop
 set-requires c κs = (given-after (c .before .before .before .before .before .before .before .before .before .before .before .before .before .pre) (c .before .before .before .before .before .before .loop .inv .2) .rows, (omega (arith, c .before .before .before .before .before .before .before .owner .ensures, c .before .before .before .before .before .before .before .before .before .before .before .before .before .pre .owner), omega (arith, c .before .before .before .before .if1 .taken, c .before .before .before .before .before .before .before .before .before .before .before .before .before .pre .setting .ranges .few)))
 
--- src/above.rt:92:5
 loop-less : tie.Need-loop-less Inv-loop μ-loop
 loop-less c = search needs
 
--- src/above.rt:92:5
 loop-again : tie.Need-loop-again Inv-loop μ-loop
 loop-again c = (omega arith, put-grid (c .before .before .set .ensures) ∙ c .before .before .before .before .before .before .before .before .before .loop .inv .1, raise-sets (c .before .before .before .before .before .before .before .before .before .before .before .before .before .before .before .before .pre) (c .before .before .before .before .before .before .before .before .before .loop .inv .2) (c .before .before .before .before .before .atom-below .ensures) _ (c .before .before .before .before .before .before .before .before .before .before .owner .ensures) (c .before .before .before .before .before .before .before .if1 .taken) (c .before .before .before .before .if2 .taken) (c .before .before .set .ensures))
 
--- src/above.rt:92:5
 loop-less-2 : tie.Need-loop-less-2 Inv-loop μ-loop
 loop-less-2 c = search needs
 
--- src/above.rt:92:5
 loop-again-2 : tie.Need-loop-again-2 Inv-loop μ-loop
 loop-again-2 c = (omega arith, c .before .before .before .before .before .loop .inv .1, raise-skips (c .before .before .before .before .before .before .before .before .before .before .before .before .pre) (c .before .before .before .before .before .loop .inv .2) (c .before .atom-below .ensures) (c .if2 .left))
 
--- src/above.rt:86:1
 same-length : tie.Need-same-length Inv-loop μ-loop
 same-length c = search needs
 
--- src/above.rt:86:1
 returns : tie.Need-returns Inv-loop μ-loop
 returns c = record { adds = adds-end (omega arith) (c .before .before .loop .inv .2) }
 

@@ -12,45 +12,35 @@ use Rattle.release.proofs.table.is_restriction.Reads as is-restriction-reads
 use Rattle.release.proofs.table.filler.Reads as filler-reads
 use Rattle.release.proofs.table.role.Reads as role-reads
 
--- src/nodes.rt:44:8
 is-restriction-requires : tie.Need-is-restriction-requires
 is-restriction-requires c κs = search needs
 
--- src/nodes.rt:45:12
 role-requires : tie.Need-role-requires
 role-requires c κs = search needs
 
--- src/nodes.rt:46:13
 returns : tie.Need-returns
 returns c = no-such-role (c .before .role .ensures) (c .if2 .taken)
 
--- src/nodes.rt:48:12
 is-marked-requires : tie.Need-is-marked-requires
 is-marked-requires c κs = search needs
 
--- src/nodes.rt:49:17
 filler-requires : tie.Need-filler-requires
 filler-requires c κs = search needs
 
--- src/nodes.rt:50:16
 is-set-requires : tie.Need-is-set-requires
 is-set-requires c κs =
     let p = c .before .before .before .before .before .before .before .before .before .before .pre in
     (p .0 .grid, (p .0 .row, omega (arith, p .0 .inclusive .few, c .filler .ensures, p .0 .inclusive .fillers _ (p .1) (sym (c .before .before .before .before .before .before .is-restriction .ensures) ∙ c .before .before .before .before .before .if1 .taken))))
 
--- src/nodes.rt:51:17
 returns-2 : tie.Need-returns-2
 returns-2 c = filler-lost (c .before .before .filler .ensures) (c .before .is-set .ensures) (c .if4 .taken)
 
--- src/nodes.rt:53:13
 returns-3 : tie.Need-returns-3
 returns-3 c = it-leads (c .before .before .before .before .before .before .before .before .is-restriction .ensures) (c .before .before .before .before .before .before .before .if1 .taken) (c .before .before .before .before .before .before .role .ensures) (c .before .before .before .before .before .if2 .left) (c .before .before .before .before .is-marked .ensures) (c .before .before .before .if3 .taken) (c .before .before .filler .ensures) (c .before .is-set .ensures) (c .if4 .left)
 
--- src/nodes.rt:30:1
 returns-4 : tie.Need-returns-4
 returns-4 c = not-above (c .before .is-marked .ensures) (c .if3 .left)
 
--- src/nodes.rt:30:1
 returns-5 : tie.Need-returns-5
 returns-5 c = no-restriction (c .before .is-restriction .ensures) (c .if1 .left)
 

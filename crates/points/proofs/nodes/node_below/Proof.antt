@@ -11,29 +11,23 @@ use Rattle.outline.proofs.child.Reads as child-reads
 use Rattle.outline.proofs.value.Reads as value-reads
 use Rattle.points.proofs.nodes.node_reaches.Reads as node-reaches-reads
 
--- src/nodes.rt:96:9
 child-requires : tie.Need-child-requires
 child-requires c κs = record { inside = c .before .before .before .before .pre .0 .inside }
 
--- src/nodes.rt:97:9
 value-requires : tie.Need-value-requires
 value-requires c κs = record { inside = c .before .before .before .before .before .pre .0 .inside }
 
--- src/nodes.rt:99:9
 is-marked-requires : tie.Need-is-marked-requires
 is-marked-requires c κs =
     let small = c .before .before .before .before .before .before .before .pre .0 .named (sym (c .before .before .child .ensures) ∙ c .if1 .taken) in
     (c .before .before .before .before .before .before .before .pre .0 .inclusive .room, (omega arith, omega (arith, c .before .value .ensures)))
 
--- src/nodes.rt:99:9
 returns : tie.Need-returns
 returns c = node-below-name (sym (c .before .before .before .child .ensures) ∙ c .before .if1 .taken) (c .before .before .value .ensures) (c .is-marked .ensures)
 
--- src/nodes.rt:101:5
 node-reaches-requires : tie.Need-node-reaches-requires
 node-reaches-requires c κs = record { inclusive = c .before .before .before .before .before .before .before .pre .0 .inclusive; grid = c .before .before .before .before .before .before .before .pre .0 .grid; node = c .before .before .before .before .before .before .before .pre .1; row = omega (arith, c .before .before .before .before .before .before .before .pre .0 .child, c .before .before .child .ensures) }
 
--- src/nodes.rt:83:1
 returns-2 : tie.Need-returns-2
 returns-2 c = node-below-some (omega (arith, c .before .before .before .child .ensures, c .before .if1 .left)) (c .before .before .before .child .ensures) (c .before .before .value .ensures) (c .node-reaches .ensures)
 

@@ -1,3 +1,4 @@
+-- `node_reaches` meets its contract: no name before b leads to a kept filler.
 use Prim.Native.Nat.{_≤_, _-_}
 use native.Mathlib.Omega.{arith}
 use borrow.Author.Needs.{needs}
@@ -14,31 +15,24 @@ Inv-loop table work square lost x role j b₀ b = (b ≤ square .names) × NoneB
 abbrev μ-loop : tie.MeasureT-loop
 μ-loop table work square lost x role j b₀ b = square .names - b
 
--- src/nodes.rt:73:5
 loop-holds : tie.Need-loop-holds Inv-loop μ-loop
 loop-holds c = (omega arith, none-start)
 
--- src/nodes.rt:74:12
 leads-requires : tie.Need-leads-requires Inv-loop μ-loop
 leads-requires c κs = (c .before .before .before .before .before .before .pre, c .if1 .taken)
 
--- src/nodes.rt:75:13
 returns : tie.Need-returns Inv-loop μ-loop
 returns c = one-found (c .before .before .if1 .taken) (c .before .leads .ensures) (c .if2 .taken)
 
--- src/nodes.rt:77:9
 add-b : tie.Need-add-b Inv-loop μ-loop
 add-b c = search needs
 
--- src/nodes.rt:73:5
 loop-less : tie.Need-loop-less Inv-loop μ-loop
 loop-less c = search needs
 
--- src/nodes.rt:73:5
 loop-again : tie.Need-loop-again Inv-loop μ-loop
 loop-again c = (omega arith, none-more (c .before .before .before .before .loop .inv .1) (c .before .leads .ensures) (c .if2 .left))
 
--- src/nodes.rt:60:1
 returns-2 : tie.Need-returns-2 Inv-loop μ-loop
 returns-2 c = none-end (c .before .before .loop .inv .1) (c .if1 .left)
 

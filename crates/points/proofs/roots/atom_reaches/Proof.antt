@@ -11,33 +11,26 @@ use Rattle.outline.proofs.value.Reads as value-reads
 use Rattle.points.proofs.is_set.Reads as is-set-reads
 use Rattle.points.proofs.nodes.node_reaches.Reads as node-reaches-reads
 
--- src/roots.rt:30:9
 child-requires : tie.Need-child-requires
 child-requires c κs = search needs
 
--- src/roots.rt:31:9
 value-requires : tie.Need-value-requires
 value-requires c κs = search needs
 
--- src/roots.rt:33:9
 node-reaches-requires : tie.Need-node-reaches-requires
 node-reaches-requires c κs =
     let p = c .before .before .before .before .before .before .before .before .pre in
     record { inclusive = p .inclusive; grid = p .nodes; node = omega (arith, c .before .value .ensures, p .named (sym (c .before .before .child .ensures) ∙ c .if1 .taken)); row = p .row }
 
--- src/roots.rt:33:9
 returns : tie.Need-returns
 returns c = reaches-as-name (sym (c .before .before .before .child .ensures) ∙ c .before .if1 .taken) (c .before .before .value .ensures) (c .node-reaches .ensures)
 
--- src/roots.rt:35:8
 is-set-requires : tie.Need-is-set-requires
 is-set-requires c κs = search needs
 
--- src/roots.rt:36:9
 returns-2 : tie.Need-returns-2
 returns-2 c = root-is-lost (omega (arith, c .before .before .before .before .child .ensures, c .before .before .if1 .left)) (c .before .before .before .before .child .ensures) (c .before .is-set .ensures) (c .if2 .taken)
 
--- src/roots.rt:16:1
 returns-3 : tie.Need-returns-3
 returns-3 c = root-is-kept (omega (arith, c .before .before .before .before .child .ensures, c .before .before .if1 .left)) (c .before .before .before .value .ensures) (c .before .before .before .before .child .ensures) (c .before .is-set .ensures) (c .if2 .left)
 

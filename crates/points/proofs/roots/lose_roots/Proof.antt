@@ -1,3 +1,4 @@
+-- `lose_roots` meets its contract: of the roots before `next`, the owner's row gained those that do not lie below the atom.
 use Prim.Native.Nat.{_≤_, _-_}
 use native.Mathlib.Omega.{arith}
 use mathlib.Core.Path.{_≡_, refl, sym, _∙_}
@@ -22,47 +23,36 @@ Inv-loop file table work square below extent above atoms nodes lost₀ i row nex
 abbrev μ-loop : tie.MeasureT-loop
 μ-loop file table work square below extent above atoms nodes lost₀ i row next₀ lost next = extent .roots - next
 
--- src/roots.rt:117:9
 owner-requires : tie.Need-owner-requires Inv-loop μ-loop
 owner-requires c κs = record { inside = c .before .before .before .before .before .before .before .before .pre .inside }
 
--- src/roots.rt:119:5
 loop-holds : tie.Need-loop-holds Inv-loop μ-loop
 loop-holds c = (omega arith, refl, adds-none)
 
--- src/roots.rt:121:9
 add-next : tie.Need-add-next Inv-loop μ-loop
 add-next c = omega (arith, c .before .before .before .before .before .before .before .before .before .before .before .before .pre .few)
 
--- src/roots.rt:122:12
 root-below-requires : tie.Need-root-below-requires Inv-loop μ-loop
 root-below-requires c κs = (given-after (c .before .before .before .before .before .before .before .before .before .before .before .before .before .pre) (c .before .before .before .loop .inv .2), c .before .if1 .taken)
 
--- src/roots.rt:119:5
 loop-less : tie.Need-loop-less Inv-loop μ-loop
 loop-less c = omega arith
 
--- src/roots.rt:119:5
 loop-again : tie.Need-loop-again Inv-loop μ-loop
 loop-again c = (omega arith, c .before .before .before .before .before .loop .inv .1, root-kept (c .before .before .before .before .before .before .before .before .before .before .before .before .before .before .before .pre) (c .before .before .before .before .before .loop .inv .2) (c .before .root-below .ensures) (c .if2 .taken))
 
--- src/roots.rt:124:13
 set-requires : tie.Need-set-requires Inv-loop μ-loop
 set-requires c κs = (given-after (c .before .before .before .before .before .before .before .before .before .before .before .before .before .before .before .before .pre) (c .before .before .before .before .before .before .loop .inv .2) .roots, (omega (arith, c .before .before .before .before .before .before .before .owner .ensures, c .before .before .before .before .before .before .before .before .before .before .before .before .before .before .before .before .pre .owner), omega (arith, c .before .before .before .before .if1 .taken, c .before .before .before .before .before .before .before .before .before .before .before .before .before .before .before .before .pre .few)))
 
--- src/roots.rt:119:5
 loop-less-2 : tie.Need-loop-less-2 Inv-loop μ-loop
 loop-less-2 c = omega arith
 
--- src/roots.rt:119:5
 loop-again-2 : tie.Need-loop-again-2 Inv-loop μ-loop
 loop-again-2 c = (omega arith, put-grid (c .before .before .set .ensures) ∙ c .before .before .before .before .before .before .before .before .before .loop .inv .1, root-lost (c .before .before .before .before .before .before .before .before .before .before .before .before .before .before .before .before .before .before .before .pre) (c .before .before .before .before .before .before .before .before .before .loop .inv .2) (c .before .before .before .before .before .root-below .ensures) _ (c .before .before .before .before .before .before .before .before .before .before .owner .ensures) (c .before .before .before .before .before .before .before .if1 .taken) (c .before .before .before .before .if2 .left) (c .before .before .set .ensures))
 
--- src/roots.rt:101:1
 same-length : tie.Need-same-length Inv-loop μ-loop
 same-length c = search needs
 
--- src/roots.rt:101:1
 returns : tie.Need-returns Inv-loop μ-loop
 returns c = record { adds = adds-end (omega arith) (c .before .before .loop .inv .2) }
 

@@ -11,29 +11,23 @@ use Rattle.outline.proofs.value.Reads as value-reads
 use Rattle.points.proofs.above.is_above.Reads as is-above-reads
 use Rattle.points.proofs.roots.root_reaches.Reads as root-reaches-reads
 
--- src/roots.rt:92:9
 child-requires : tie.Need-child-requires
 child-requires c κs = record { inside = c .before .before .before .before .before .before .before .before .pre .0 .inside }
 
--- src/roots.rt:93:9
 value-requires : tie.Need-value-requires
 value-requires c κs = record { inside = c .before .before .before .before .before .before .before .before .before .pre .0 .inside }
 
--- src/roots.rt:95:9
 is-above-requires : tie.Need-is-above-requires
 is-above-requires c κs =
     let p = c .before .before .before .before .before .before .before .before .before .before .before .pre in
     (p .0 .ranges, (p .0 .above, (omega (arith, p .0 .few, p .1), omega (arith, c .before .value .ensures, p .0 .named (sym (c .before .before .child .ensures) ∙ c .if1 .taken)))))
 
--- src/roots.rt:95:9
 returns : tie.Need-returns
 returns c = root-under-name (sym (c .before .before .before .child .ensures) ∙ c .before .if1 .taken) (c .before .before .value .ensures) (c .is-above .ensures)
 
--- src/roots.rt:97:5
 root-reaches-requires : tie.Need-root-reaches-requires
 root-reaches-requires c κs = from-roots (c .before .before .before .before .before .before .before .before .before .before .before .pre .0) (omega (arith, c .before .before .child .ensures, c .if1 .left)) (c .before .before .child .ensures)
 
--- src/roots.rt:74:1
 returns-2 : tie.Need-returns-2
 returns-2 c = root-under-some (omega (arith, c .before .before .before .child .ensures, c .before .if1 .left)) (c .before .before .value .ensures) (c .before .before .before .child .ensures) (c .root-reaches .ensures)
 

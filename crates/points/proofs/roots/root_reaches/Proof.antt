@@ -1,3 +1,4 @@
+-- `root_reaches` meets its contract: no atom of the root before `next` does.
 use Prim.Native.Nat.{_≤_, _-_}
 use native.Mathlib.Omega.{arith}
 use borrow.Author.Needs.{needs}
@@ -15,43 +16,33 @@ Inv-loop table work square atoms extent nodes lost k role j next₀ next = (next
 abbrev μ-loop : tie.MeasureT-loop
 μ-loop table work square atoms extent nodes lost k role j next₀ next = extent .atoms - next
 
--- src/roots.rt:61:5
 loop-holds : tie.Need-loop-holds Inv-loop μ-loop
 loop-holds c = (omega arith, none-start)
 
--- src/roots.rt:63:9
 add-next : tie.Need-add-next Inv-loop μ-loop
 add-next c = omega arith
 
--- src/roots.rt:64:12
 owner-requires : tie.Need-owner-requires Inv-loop μ-loop
 owner-requires c κs = record { inside = omega (arith, c .before .before .before .before .before .before .before .before .pre .inside, c .if1 .taken) }
 
--- src/roots.rt:65:16
 atom-reaches-requires : tie.Need-atom-reaches-requires Inv-loop μ-loop
 atom-reaches-requires c κs = from-root (c .before .before .before .before .before .before .before .before .before .before .pre) (c .before .before .if1 .taken)
 
--- src/roots.rt:66:17
 returns : tie.Need-returns Inv-loop μ-loop
 returns c = one-found (c .before .before .before .before .if1 .taken) (c .before .before .before .owner .ensures) (c .before .before .if2 .taken) (c .before .atom-reaches .ensures) (c .if3 .taken)
 
--- src/roots.rt:61:5
 loop-less : tie.Need-loop-less Inv-loop μ-loop
 loop-less c = omega arith
 
--- src/roots.rt:61:5
 loop-again : tie.Need-loop-again Inv-loop μ-loop
 loop-again c = (omega arith, none-own (c .before .before .before .before .before .before .loop .inv .1) (c .before .atom-reaches .ensures) (c .if3 .left))
 
--- src/roots.rt:61:5
 loop-less-2 : tie.Need-loop-less-2 Inv-loop μ-loop
 loop-less-2 c = omega arith
 
--- src/roots.rt:61:5
 loop-again-2 : tie.Need-loop-again-2 Inv-loop μ-loop
 loop-again-2 c = (omega arith, none-other (c .before .before .before .before .loop .inv .1) (c .before .owner .ensures) (c .if2 .left))
 
--- src/roots.rt:45:1
 returns-2 : tie.Need-returns-2 Inv-loop μ-loop
 returns-2 c = none-end (c .before .before .loop .inv .1) (c .if1 .left)
 

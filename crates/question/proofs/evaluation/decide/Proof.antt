@@ -1,3 +1,4 @@
+-- `decide` meets its contract: each call gives what the next one asks, and root 0 is the whole concept.
 use native.Mathlib.Omega.{arith}
 use Rattle.question.proofs.Verdicts.{zeros-grid, zeros-unmarked, verdict-lost, verdict-kept}
 use Rattle.marks.proofs.Squares.{refuted}
@@ -11,88 +12,69 @@ use Rattle.points.proofs.is_set.Reads as is-set-reads
 use Rattle.question.proofs.evaluation.fill_above.Reads as fill-above-reads
 use Rattle.question.proofs.evaluation.lose_all.Reads as lose-all-reads
 
--- src/evaluation.rt:62:39
 slice-aggregate-outline : tie.Need-slice-aggregate-outline
 slice-aggregate-outline c = search needs
 
--- src/evaluation.rt:62:52
 slice-aggregate-outline-2 : tie.Need-slice-aggregate-outline-2
 slice-aggregate-outline-2 c = search needs
 
--- src/evaluation.rt:62:9
 outline-requires : tie.Need-outline-requires
 outline-requires c κs = search needs
 
--- src/evaluation.rt:64:39
 slice-aggregate-outline-3 : tie.Need-slice-aggregate-outline-3
 slice-aggregate-outline-3 c = search needs
 
--- src/evaluation.rt:64:52
 slice-aggregate-outline-4 : tie.Need-slice-aggregate-outline-4
 slice-aggregate-outline-4 c = search needs
 
--- src/evaluation.rt:64:9
 outline-requires-2 : tie.Need-outline-requires-2
 outline-requires-2 c κs =
     let p = c .before .before .before .before .before .before .before .before .before .before .before .before .pre in
     record { names = _; roles = _; concept = _; text = p .above-text; stack = omega arith; room = omega arith }
 
--- src/evaluation.rt:66:43
 slice-aggregate-fill-above : tie.Need-slice-aggregate-fill-above
 slice-aggregate-fill-above c = search needs
 
--- src/evaluation.rt:66:71
 slice-aggregate-fill-above-2 : tie.Need-slice-aggregate-fill-above-2
 slice-aggregate-fill-above-2 c = search needs
 
--- src/evaluation.rt:66:5
 fill-above-requires : tie.Need-fill-above-requires
 fill-above-requires c κs =
     let p = c .before .before .before .before .before .before .before .before .before .before .before .before .before .before .before .before .before .pre in
     record { world = p .world; shape = c .before .before .before .before .before .before .before .before .before .outline .ensures _ _ _ (p .below-text) .shape; rows = zeros-grid 16384 (omega arith); unmarked = zeros-unmarked 16384 (omega arith) }
 
--- src/evaluation.rt:74:9
 slice-aggregate-lose-all : tie.Need-slice-aggregate-lose-all
 slice-aggregate-lose-all c = search needs
 
--- src/evaluation.rt:76:9
 slice-aggregate-lose-all-2 : tie.Need-slice-aggregate-lose-all-2
 slice-aggregate-lose-all-2 c = search needs
 
--- src/evaluation.rt:77:9
 slice-aggregate-lose-all-3 : tie.Need-slice-aggregate-lose-all-3
 slice-aggregate-lose-all-3 c = search needs
 
--- src/evaluation.rt:79:9
 slice-aggregate-lose-all-4 : tie.Need-slice-aggregate-lose-all-4
 slice-aggregate-lose-all-4 c = search needs
 
--- src/evaluation.rt:80:9
 slice-aggregate-lose-all-5 : tie.Need-slice-aggregate-lose-all-5
 slice-aggregate-lose-all-5 c = search needs
 
--- src/evaluation.rt:69:5
 lose-all-requires : tie.Need-lose-all-requires
 lose-all-requires c κs =
     let p = c .before .before .before .before .before .before .before .before .before .before .before .before .before .before .before .before .before .before .before .before .before .before .before .before .pre in
     record { world = p .world; from = c .before .before .before .before .before .before .before .before .before .before .before .before .before .before .before .before .outline .ensures _ _ _ (p .below-text) .shape; filled = c .before .before .before .before .before .before .fill-above .ensures; shape = c .before .before .before .before .before .before .before .before .before .before .before .outline2 .ensures _ _ _ (p .above-text) .shape; nodes = zeros-grid 16384 (omega arith); roots = zeros-grid 16384 (omega arith); nodes-unmarked = zeros-unmarked 16384 (omega arith); roots-unmarked = zeros-unmarked 16384 (omega arith) }
 
--- src/evaluation.rt:82:15
 slice-aggregate-is-set : tie.Need-slice-aggregate-is-set
 slice-aggregate-is-set c = search needs
 
--- src/evaluation.rt:82:8
 is-set-requires : tie.Need-is-set-requires
 is-set-requires c κs = (c .before .before .before .lose-all .ensures .rows, (omega arith, omega arith))
 
--- src/evaluation.rt:83:9
 returns : tie.Need-returns
 returns c =
     λ n m a b below above.
     let first = c .before .before .before .before .before .before .before .before .before .before .before .before .before .before .before .before .before .before .before .before .before .before .outline .ensures n m a below in
     verdict-lost (c .before .before .before .before .before .lose-all .ensures) (first .shape .whole) (first .means _) (c .before .before .before .before .before .before .before .before .before .before .before .before .before .before .before .before .before .outline2 .ensures n m b above .means _) (c .before .is-set .ensures .sound (c .if1 .taken))
 
--- src/evaluation.rt:56:1
 returns-2 : tie.Need-returns-2
 returns-2 c =
     λ n m a b below above.

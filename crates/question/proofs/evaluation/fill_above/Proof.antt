@@ -1,3 +1,4 @@
+-- `fill_above` meets its contract: the rows are those of the atoms from `left` on.
 use Prim.Native.Nat.{_≤_, _-_}
 use native.Mathlib.Omega.{arith}
 use mathlib.Core.Path.{_≡_, refl, _∙_, ap}
@@ -18,33 +19,26 @@ Inv-loop file table work square atoms above₀ left₀ above left = (left ≤ le
 abbrev μ-loop : tie.MeasureT-loop
 μ-loop file table work square atoms above₀ left₀ above left = left
 
--- src/evaluation.rt:23:5
 loop-holds : tie.Need-loop-holds Inv-loop μ-loop
 loop-holds c = (omega arith, refl, fill-start (c .before .before .before .before .before .pre))
 
--- src/evaluation.rt:24:9
 sub-left : tie.Need-sub-left Inv-loop μ-loop
 sub-left c = omega arith
 
--- src/evaluation.rt:25:9
 raise-requires : tie.Need-raise-requires Inv-loop μ-loop
 raise-requires c κs =
     let p = c .before .before .before .before .before .before .before .before .pre in
     fill-atom (p .world) (p .shape) (omega arith) (same-grid (c .before .before .loop .inv .1) (p .rows))
 
--- src/evaluation.rt:23:5
 loop-less : tie.Need-loop-less Inv-loop μ-loop
 loop-less c = omega arith
 
--- src/evaluation.rt:23:5
 loop-again : tie.Need-loop-again Inv-loop μ-loop
 loop-again c = (omega arith, c .before .before .raise .ensures .adds .long ∙ c .before .before .before .before .before .loop .inv .1, fill-turn (c .before .before .before .before .before .before .before .before .before .before .before .pre) (c .before .before .before .before .loop-test .taken) (c .before .before .before .before .before .loop .inv .0) (c .before .before .before .before .before .loop .inv .2) (c .before .before .raise .ensures))
 
--- src/evaluation.rt:18:1
 same-length : tie.Need-same-length Inv-loop μ-loop
 same-length c = search needs
 
--- src/evaluation.rt:18:1
 returns : tie.Need-returns Inv-loop μ-loop
 returns c = fill-end (c .before .before .before .before .before .before .before .pre) (c .loop-test .left) (c .before .loop .inv .1) (c .before .loop .inv .2)
 

@@ -1,3 +1,4 @@
+-- `lose_all` meets its contract: the rows have lost what the atoms from `left` on do not have below them.
 use Prim.Native.Nat.{_≤_, _-_}
 use native.Mathlib.Omega.{arith}
 use mathlib.Core.Path.{_≡_, refl, _∙_, ap}
@@ -17,45 +18,36 @@ Inv-loop file table work square below extent above atoms nodes₀ roots₀ left�
 abbrev μ-loop : tie.MeasureT-loop
 μ-loop file table work square below extent above atoms nodes₀ roots₀ left₀ nodes roots left = left
 
--- src/evaluation.rt:47:5
 loop-holds : tie.Need-loop-holds Inv-loop μ-loop
 loop-holds c = (omega arith, refl, refl, lose-start (c .before .before .before .before .before .before .before .before .pre))
 
--- src/evaluation.rt:48:9
 sub-left : tie.Need-sub-left Inv-loop μ-loop
 sub-left c = omega arith
 
--- src/evaluation.rt:49:9
 lose-roots-requires : tie.Need-lose-roots-requires Inv-loop μ-loop
 lose-roots-requires c κs =
     let p = c .before .before .before .before .before .before .before .before .before .before .before .before .pre in
     root-atom (p .world) (p .shape) (omega arith) (p .from) (p .filled .rows) (same-grid (c .before .before .before .loop .inv .1) (p .nodes)) (same-grid (c .before .before .before .loop .inv .2) (p .roots))
 
--- src/evaluation.rt:50:9
 lose-nodes-requires : tie.Need-lose-nodes-requires Inv-loop μ-loop
 lose-nodes-requires c κs =
     let p = c .before .before .before .before .before .before .before .before .before .before .before .before .before .before .before .before .pre in
     node-atom (p .world) (p .shape) (omega arith) (same-grid (c .before .before .before .before .before .before .before .loop .inv .1) (p .nodes))
 
--- src/evaluation.rt:47:5
 loop-less : tie.Need-loop-less Inv-loop μ-loop
 loop-less c = omega arith
 
--- src/evaluation.rt:47:5
 loop-again : tie.Need-loop-again Inv-loop μ-loop
 loop-again c =
     let v = c .before .before .before .before .before .before .before .before .before .before .loop .inv in
     (omega arith, c .before .before .lose-nodes .ensures .adds .long ∙ v .1, c .before .before .before .before .before .before .lose-roots .ensures .adds .long ∙ v .2, lose-turn (c .before .before .before .before .before .before .before .before .before .before .before .before .before .before .before .before .before .before .before .pre) (c .before .before .before .before .before .before .before .before .before .loop-test .taken) (v .0) (v .3) (c .before .before .before .before .before .before .lose-roots .ensures) (c .before .before .lose-nodes .ensures))
 
--- src/evaluation.rt:30:1
 same-length : tie.Need-same-length Inv-loop μ-loop
 same-length c = search needs
 
--- src/evaluation.rt:30:1
 same-length-2 : tie.Need-same-length-2 Inv-loop μ-loop
 same-length-2 c = search needs
 
--- src/evaluation.rt:30:1
 returns : tie.Need-returns Inv-loop μ-loop
 returns c = lose-end (c .before .before .before .before .before .before .before .before .before .before .pre) (c .loop-test .left) (c .before .loop .inv .2) (c .before .loop .inv .3)
 

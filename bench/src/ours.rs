@@ -1,0 +1,86 @@
+//! The proved library, by its C interface. A slice passes as a pointer and a length. The calls ask nothing of their
+//! caller beyond what Rust's references already ensure: lent memory is valid, and what is written is lent once.
+//!
+//! Without the feature `ours` the baseline stands in, so that the measuring itself can be tried.
+
+/// A comparison: number * 256 + side, 0 for accepted.
+pub fn compare(first: &[u8], second: &[u8], signature: &[u8], result: &mut [u8], work: &mut [u8]) -> u32 {
+    linked::compare(first, second, signature, result, work)
+}
+
+/// A question: number * 65536 + side * 256 + value.
+pub fn ask(file: &[u8], below: &[u8], above: &[u8], work: &mut [u8]) -> u32 {
+    linked::ask(file, below, above, work)
+}
+
+#[cfg(feature = "ours")]
+pub const NAME: &str = "ours";
+
+#[cfg(not(feature = "ours"))]
+pub const NAME: &str = "stand-in";
+
+#[cfg(feature = "ours")]
+mod linked {
+    extern "C" {
+        fn berrytick_compare(
+            first: *const u8,
+            first_len: usize,
+            second: *const u8,
+            second_len: usize,
+            signature: *const u8,
+            signature_len: usize,
+            result: *mut u8,
+            result_len: usize,
+            work: *mut u8,
+            work_len: usize,
+        ) -> u32;
+
+        fn berrytick_ask(
+            file: *const u8,
+            file_len: usize,
+            below: *const u8,
+            below_len: usize,
+            above: *const u8,
+            above_len: usize,
+            work: *mut u8,
+            work_len: usize,
+        ) -> u32;
+    }
+
+    pub fn compare(first: &[u8], second: &[u8], signature: &[u8], result: &mut [u8], work: &mut [u8]) -> u32 {
+        unsafe {
+            berrytick_compare(
+                first.as_ptr(),
+                first.len(),
+                second.as_ptr(),
+                second.len(),
+                signature.as_ptr(),
+                signature.len(),
+                result.as_mut_ptr(),
+                result.len(),
+                work.as_mut_ptr(),
+                work.len(),
+            )
+        }
+    }
+
+    pub fn ask(file: &[u8], below: &[u8], above: &[u8], work: &mut [u8]) -> u32 {
+        unsafe {
+            berrytick_ask(
+                file.as_ptr(),
+                file.len(),
+                below.as_ptr(),
+                below.len(),
+                above.as_ptr(),
+                above.len(),
+                work.as_mut_ptr(),
+                work.len(),
+            )
+        }
+    }
+}
+
+#[cfg(not(feature = "ours"))]
+mod linked {
+    pub use crate::calls::{baseline_ask as ask, baseline_compare as compare};
+}
