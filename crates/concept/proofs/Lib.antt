@@ -1,4 +1,2 @@
--- Laws of reading a concept. To be read in this order.
-pub mod Ends
-pub mod Accepted
+-- Laws of reading a concept.
 pub mod Texts

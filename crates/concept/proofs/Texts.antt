@@ -1,6 +1,5 @@
 -- An accepted text and the concept that it is determine each other.
 --   GivesBack n m s p    what p gives is a concept, within n and m, with the bytes of s before the rest
---   end-gives-back       so is the concept that stands before an end
 --   accepted-is-text     an accepted text is a text of the concept read
 --   text-is-accepted     a text of a concept is accepted, and is read as that concept
 --   refused-exactly      refusal 19 is met exactly where the text is that of no concept
@@ -8,13 +7,11 @@ use mathlib.Core.Path.{_≡_, refl, sym, ap, _∙_}
 use mathlib.Core.Logic.{_↔_}
 use mathlib.Core.Bool.{Bool, true, false, _&&_, false≢true}
 use mathlib.Core.List.{List, [], _∷_, _++_, append-assoc, append-nil}
-use Prim.Native.Nat.{ℕ, zero, suc, _-_, _≤_}
+use Prim.Native.Nat.{ℕ, zero, suc, _≤_}
 use native.Mathlib.Omega.{arith}
 use borrow.Author.Tests.{leb-true, le-leb, eqb-true}
 use lib.Dec.{ltb, leb, eqb}
-use lib.ListN.{length, drop, length-append}
-use Rattle.concept.specs.declared.End.the-variants.{At}
-use Rattle.concept.specs.Ends.{EndsAs, conceptAt}
+use lib.ListN.{length, length-append}
 use Rattle.el.specs.Lists.{pick}
 use Rattle.el.specs.Concepts.{Concept, top, name, both, some}
 use Rattle.concept.specs.Bytes.{conceptBytes, isWithin, Parsed, parsed, notParsed, nameFrom, bothFrom, someFrom}
@@ -78,14 +75,6 @@ reading-gives-back (suc f) n m (suc (suc zero) ∷ s) good =
 reading-gives-back (suc f) n m (suc (suc (suc zero)) ∷ s) good =
     some-gives-back n m (conceptFrom f n m) (reading-gives-back f n m) s good
 reading-gives-back (suc f) n m (suc (suc (suc (suc k))) ∷ s) good = absurd (false≢true good)
-
--- the concept that stands before an end
-pub end-gives-back : (n m : ℕ) (s : List ℕ) (at e : ℕ) → EndsAs n m s at (At e)
-    → (conceptBytes (conceptAt n m s at) ++ drop e s ≡ drop at s) × (isWithin n m (conceptAt n m s at) ≡ true)
-end-gives-back n m s at e ends =
-    let read = ends .reads (length s - at) (omega arith) in
-    let back = reading-gives-back (length s - at) n m (drop at s) (read .0) in
-    (rw (← read .1) (back .bytes), back .within)
 
 pub accepted-is-text : (n m : ℕ) (s : List ℕ) → conceptOk n m s ≡ true → IsTextOf n m (readConcept n m s .concept) s
 unfolding conceptOk

@@ -1,3 +1,2 @@
--- A question's concept as bytes. To be read in this order.
+-- A question's concept as bytes.
 pub mod Bytes
-pub mod Ends

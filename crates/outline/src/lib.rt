@@ -23,8 +23,8 @@ fn wide(x: u8) -> usize
     x as usize
 }
 
-// Whether the bytes are one concept and nothing else: as `concept::is_concept`, in one pass that calls nothing, so that a question's stack holds no calls
-// beside its rows. `pending` counts the concepts still to be read.
+// Whether the bytes are one concept and nothing else, at most 255 of them. One pass that calls nothing, so that no bytes make the
+// stack deep. `pending` counts the concepts still to be read.
 pub fn is_text(bytes: &[u8], names: usize, roles: usize) -> bool
     ensures { λ r. ⌜ r ≡ conceptOk names roles (now (bytes .entry)) ⌝ }
 {
