@@ -17,7 +17,7 @@ use Rattle.release.proofs.Linked.{no-header-fault}
 use Rattle.signature.specs.Bytes.{signatureFault}
 use Rattle.marks.specs.declared.Square.{Square}
 use Rattle.marks.specs.Squares.{Room, Unmarked, Apart, Frame, Zeroed}
-use Rattle.marks.proofs.Squares.{frame-marked, marked-frame, frame-unmarked, zeroed-unmarked}
+use Rattle.marks.proofs.Squares.{span-size, frame-marked, marked-frame, frame-unmarked, zeroed-unmarked}
 use Rattle.classification.specs.Inclusions.{Unclassified, Classified}
 use Rattle.classification.proofs.Meaning.{inclusions-stay}
 use Rattle.layout.specs.declared.Layout.{Layout}
@@ -43,29 +43,29 @@ module _ {s t a b : List ℕ} {n : ℕ} {w : List ℕ} (given : BothGiven s t a 
 
   module _ {k : ℕ} (e : IsSize n k) where
     room-at : (base : ℕ) → base ≤ 3 * k → (v : List ℕ) → length v ≡ length w → Room (squareAt n base) v
-    room-at base h v long = record { small = record { few = omega (arith, few); near = omega (arith, e .small) }; fits = omega (arith, e .is, given .room) }
+    room-at base h v long = record { small = record { few = omega (arith, few); near = omega (arith, e .small) }; fits = omega (arith, span-size n, e .is, given .room) }
 
     -- inclusions
     module _ {w1 : List ℕ} (z : Zeroed (4 * k) w w1) where
       unmarked-at : (base : ℕ) → base ≤ 3 * k → Unmarked (squareAt n base) w1
-      unmarked-at base h = zeroed-unmarked z (omega (arith, e .is))
+      unmarked-at base h = zeroed-unmarked z (omega (arith, span-size n, e .is))
 
       pub first-asks : Unclassified s a (squareAt n 0) w1
       first-asks = record { release = given .first; names = given .first-names; room = room-at 0 (omega arith) w1 (z .long); unmarked = unmarked-at 0 (omega arith) }
 
       module _ {w2 : List ℕ} (c : Classified s (squareAt n 0) w1 w2) where
         pub second-asks : Unclassified t b (squareAt n k) w2
-        second-asks = record { release = given .second; names = given .second-names; room = room-at k (omega arith) w2 (c .frame .long ∙ z .long); unmarked = frame-unmarked (c .frame) (inr (omega (arith, e .is))) (unmarked-at k (omega arith)) }
+        second-asks = record { release = given .second; names = given .second-names; room = room-at k (omega arith) w2 (c .frame .long ∙ z .long); unmarked = frame-unmarked (c .frame) (inr (omega (arith, span-size n, e .is))) (unmarked-at k (omega arith)) }
 
         module _ {w3 : List ℕ} (d : Classified t (squareAt n k) w2 w3) where
           still-unmarked : (base : ℕ) → 2 * k ≤ base → base ≤ 3 * k → Unmarked (squareAt n base) w3
-          still-unmarked base h i = frame-unmarked (d .frame) (inr (omega (arith, e .is))) (frame-unmarked (c .frame) (inr (omega (arith, e .is))) (unmarked-at base i))
+          still-unmarked base h i = frame-unmarked (d .frame) (inr (omega (arith, span-size n, e .is))) (frame-unmarked (c .frame) (inr (omega (arith, span-size n, e .is))) (unmarked-at base i))
 
           pub both-included : BothIncluded s t n k w w3
           both-included = record {
             long = d .frame .long ∙ (c .frame .long ∙ z .long);
-            past = λ i h. d .frame .past i (omega (arith, e .is)) ∙ (c .frame .past i (omega (arith, e .is)) ∙ z .past i h);
-            first = inclusions-stay (d .frame) (inl (omega (arith, e .is))) (c .inclusions);
+            past = λ i h. d .frame .past i (omega (arith, span-size n, e .is)) ∙ (c .frame .past i (omega (arith, span-size n, e .is)) ∙ z .past i h);
+            first = inclusions-stay (d .frame) (inl (omega (arith, span-size n, e .is))) (c .inclusions);
             second = d .inclusions;
             third-unmarked = still-unmarked (2 * k) (omega arith) (omega arith);
             fourth-unmarked = still-unmarked (3 * k) (omega arith) (omega arith);
@@ -90,8 +90,8 @@ module _ {g s t a b : List ℕ} {n m k : ℕ} {w : List ℕ} (given : Given g s 
       first-inclusions = i .first;
       second-inclusions = i .second;
       unmarked = i .third-unmarked;
-      first-apart = omega (arith, e .is);
-      second-apart = omega (arith, e .is);
+      first-apart = omega (arith, span-size n, e .is);
+      second-apart = omega (arith, span-size n, e .is);
     }
 
     pub forward-asks : Setting g a b (forwardLayout n m k) w1
@@ -113,18 +113,18 @@ module _ {g s t a b : List ℕ} {n m k : ℕ} {w : List ℕ} (given : Given g s 
             first-room = room-at (given .both) e 0 (omega arith) w2 long;
             second-room = room-at (given .both) e k (omega arith) w2 long;
             room = room-at (given .both) e (3 * k) (omega arith) w2 long;
-            first-inclusions = inclusions-stay (forth .frame) (inl (omega (arith, e .is))) (i .first);
-            second-inclusions = inclusions-stay (forth .frame) (inl (omega (arith, e .is))) (i .second);
-            unmarked = frame-unmarked (forth .frame) (inr (omega (arith, e .is))) (i .fourth-unmarked);
-            first-apart = omega (arith, e .is);
-            second-apart = omega (arith, e .is);
+            first-inclusions = inclusions-stay (forth .frame) (inl (omega (arith, span-size n, e .is))) (i .first);
+            second-inclusions = inclusions-stay (forth .frame) (inl (omega (arith, span-size n, e .is))) (i .second);
+            unmarked = frame-unmarked (forth .frame) (inr (omega (arith, span-size n, e .is))) (i .fourth-unmarked);
+            first-apart = omega (arith, span-size n, e .is);
+            second-apart = omega (arith, span-size n, e .is);
           }
 
       pub all-marked : {w3 : List ℕ} → Backwarded g s t (backwardLayout n m k) w2 w3 → AllMarked g s t n m k w w3
       all-marked r = record {
         long = r .frame .long ∙ (forth .frame .long ∙ i .long);
-        past = λ j h. r .frame .past j (omega (arith, e .is)) ∙ (forth .frame .past j (omega (arith, e .is)) ∙ i .past j h);
-        forward = forward-stays (r .frame) (inl (omega (arith, e .is))) (forth .marked);
+        past = λ j h. r .frame .past j (omega (arith, span-size n, e .is)) ∙ (forth .frame .past j (omega (arith, span-size n, e .is)) ∙ i .past j h);
+        forward = forward-stays (r .frame) (inl (omega (arith, span-size n, e .is))) (forth .marked);
         backward = r .marked;
       }
 
@@ -137,6 +137,6 @@ module _ {g s t a b : List ℕ} {n m k : ℕ} {w : List ℕ} (given : Given g s 
     compared written cleared = record {
       byte = λ c h. is-byte refl refl h (marked .forward) (marked .backward) (written .byte c h);
       rest = written .past;
-      zero = λ i h. cleared .zero i (omega (arith, e .is));
-      past = λ i h. cleared .past i (omega (arith, e .is)) ∙ marked .past i (omega (arith, e .is));
+      zero = λ i h. cleared .zero i (omega (arith, span-size n, e .is));
+      past = λ i h. cleared .past i (omega (arith, span-size n, e .is)) ∙ marked .past i (omega (arith, span-size n, e .is));
     }

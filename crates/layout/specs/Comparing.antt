@@ -7,7 +7,7 @@ use Prim.Native.Nat.{ℕ, _+_, _≤_}
 use lib.ListN.{length}
 use Rattle.release.specs.Files.{namesOf}
 use Rattle.release.specs.Tables.{Release}
-use Rattle.marks.specs.Squares.{size, Room, Unmarked}
+use Rattle.marks.specs.Squares.{span, Room, Unmarked}
 use Rattle.classification.specs.Inclusions.{Inclusions}
 use Rattle.layout.specs.declared.Layout.{Layout}
 use Rattle.layout.specs.Layouts.{firstSquare, secondSquare, markSquare}
@@ -24,5 +24,5 @@ pub record Comparing (g s t a b : List ℕ) (l : Layout) (w : List ℕ) : Type 0
   pub first-inclusions : Inclusions s (firstSquare l) w
   pub second-inclusions : Inclusions t (secondSquare l) w
   pub unmarked : Unmarked (markSquare l) w
-  pub first-apart : l .first + size (l .names) ≤ l .marks
-  pub second-apart : l .second + size (l .names) ≤ l .marks
+  pub first-apart : l .first + span (l .names) ≤ l .marks
+  pub second-apart : l .second + span (l .names) ≤ l .marks

@@ -1,3 +1,4 @@
--- Laws of squares and passes.
+-- Laws of squares of marks. To be read in this order.
+pub mod Bits
 pub mod Squares
 pub mod Passes

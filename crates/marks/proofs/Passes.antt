@@ -1,30 +1,27 @@
 -- Laws of passes, for every rule.
 --   grows-further, marks-stay, grows-frame, room-stays     what growth keeps
 --   grows-good                                             if the rule allows only what is good, all marks stay good
---   put-pass                                               a mark that the rule allows is a pass
+--   put-pass, put-grows                                    a mark that the rule allows is a pass;  grows-as, pass-by: by another rule
 --   pass-as, pass-with                                     what is done said otherwise; the latter knows that nothing changed
 --   due-there, due-not, due-as                             a mark that is there, that is not allowed, that a test tells of
 --   pass-changed, pass-unchanged, changed-before           two passes, by whether the second, or the first, changed anything
---   turn-changed, turn-unchanged, turn-skipped             the same for a turn of a loop; turns-none, turns-end: its start and end
+--   turn-changed, turn-unchanged, turn-both, turn-skipped  the same for a turn of a loop; turns-none, turns-to, turns-end: no turn
 --   pass-closed                                            a pass that changed nothing ends the passes
 -- Not here: laws of single cells (Squares).
 use mathlib.Core.Path.{_≡_, refl, sym, _∙_}
-use mathlib.Core.Bool.{Bool, true, false}
-use mathlib.Core.List.{List, [], _∷_}
-use Prim.Native.Nat.{ℕ, zero, suc, _+_, _≤_, _<_}
-use native.Mathlib.Nat.{not-suc-le-zero, le-of-suc-le-suc}
+use mathlib.Core.Bool.{Bool, true, false, _||_}
+use mathlib.Core.List.{List}
+use mathlib.Core.Logic.{inl, inr}
+use Prim.Native.Nat.{ℕ, _+_, _/_, _≤_, _<_}
+use lib.ListN.{getD}
 use native.Mathlib.Omega.{arith}
-use native.Mathlib.Decide.{ℕ-discrete}
-use borrow.Author.Tests.{ne-eqb}
-use lib.Dec.{eqb}
-use lib.ListN.{length, getD, set, length-set}
-use lib.Seq.{getD-set-other}
-use Rattle.el.specs.Lists.{pick}
+use native.Mathlib.Decide.{ℕ-discrete, decLt}
 use Rattle.el.proofs.Tests.{Tells}
 use Rattle.marks.specs.declared.Square.{Square}
-use Rattle.marks.specs.Squares.{cell, Room, Marked, Unmarked, Frame, Put}
-use Rattle.marks.specs.Passes.{unset, Grows, none, more, Pass, Closed, Below, Due, AllGood}
-use Rattle.marks.proofs.Squares.{not-true, not-false, refuted, cell-below, cell-from, cell-same, mark-stays, frame-same, frame-room}
+use Rattle.marks.specs.Squares.{place, Room, Marked, Unmarked, Frame, Put, Within, unset}
+use Rattle.marks.specs.Passes.{Grows, none, more, Pass, Closed, Below, Due, AllGood, FromRow}
+use Rattle.marks.proofs.Squares.{not-true, not-false, refuted, frame-same, frame-further, frame-room, hand-byte}
+use Rattle.marks.proofs.Bits.{orAt}
 
 -- what a loop over an index has finished
 module _ {D : ℕ → List ℕ → Type 0} {w : List ℕ} where
@@ -52,17 +49,6 @@ module _ {A M : Type 0} where
   pub due-as : {r : Bool} → Tells r A → Due r A M
   due-as t = record { allowed = t .sound; settled = λ e a. absurd (refuted t e a) }
 
--- a mark more is one byte fewer that is none
-unset-set : (w : List ℕ) (i : ℕ) → i < length w → (getD w i 0 ≡ 1 → ⊥) → unset (set w i 1) < unset w
-unfolding unset
-unset-set [] i l e = absurd (not-suc-le-zero l)
-unset-set (b ∷ bs) zero l e = rw (ne-eqb b 1 e) (omega arith)
-unset-set (b ∷ bs) (suc i) l e = by-test (eqb b 1) (unset-set bs i (le-of-suc-le-suc l) e)
-  where
-    by-test : (t : Bool) → unset (set bs i 1) < unset bs → pick t (unset (set bs i 1)) (suc (unset (set bs i 1))) < pick t (unset bs) (suc (unset bs))
-    by-test true h = h
-    by-test false h = omega arith
-
 pub unmarked-good : {q : Square} {Good : ℕ → ℕ → Type 0} {w : List ℕ} → Unmarked q w → AllGood q Good w
 unmarked-good u = record { good = λ x y h l m. absurd (u .none x y h l m) }
 
@@ -70,36 +56,28 @@ module _ {Rule : List ℕ → ℕ → ℕ → Type 0} {q : Square} where
   -- growth
   pub grows-further : {u w v : List ℕ} → Grows Rule q u w → Grows Rule q w v → Grows Rule q u v
   grows-further g none = g
-  grows-further g (more t x y h a b l z e) = more t x y (grows-further g h) a b l z e
+  grows-further g (more t u h e f) = more t u (grows-further g h) e f
 
   pub unset-falls : {w v : List ℕ} → Grows Rule q w v → unset v ≤ unset w
   unset-falls none = omega arith
-  unset-falls (more t x y h a b l z e) = omega (arith, unset-falls h, unset-set t (cell q x y) l (λ m. z (record { is = m })))
+  unset-falls (more t u h e f) = omega (arith, unset-falls h, e .fewer)
 
   pub grows-frame : {w v : List ℕ} → Grows Rule q w v → Frame q w v
   grows-frame none = frame-same
-  grows-frame (more t x y h a b l z e) =
-      let f = grows-frame h in
-      record {
-        long = length-set t (cell q x y) 1 ∙ f .long;
-        before = λ i k. getD-set-other t (cell q x y) i 1 0 (λ j. omega (arith, cell-from q x y)) ∙ f .before i k;
-        past = λ i k. getD-set-other t (cell q x y) i 1 0 (λ j. omega (arith, cell-below q x y a b)) ∙ f .past i k;
-      }
+  grows-frame (more t u h e f) = frame-further (grows-frame h) (e .frame)
 
   pub room-stays : {w v : List ℕ} → Grows Rule q w v → Room q w → Room q v
   room-stays g r = frame-room (grows-frame g) r
 
   pub marks-stay : {w v : List ℕ} {x y : ℕ} → Grows Rule q w v → Marked q w x y → Marked q v x y
   marks-stay none m = m
-  marks-stay (more t x y h a b l z e) m = mark-stays (cell q x y) l (marks-stay h m)
+  marks-stay (more t u h e f) m = e .stays _ _ (marks-stay h m)
 
   pub grows-good : {Good : ℕ → ℕ → Type 0} {w v : List ℕ} → ((u : List ℕ) (x y : ℕ) → Grows Rule q w u → AllGood q Good u → x ≤ q .names → y ≤ q .names → Rule u x y → Good x y) → AllGood q Good w → Grows Rule q w v → AllGood q Good v
   grows-good keeps good none = good
-  grows-good {Good} {w} keeps good (more t x y h a b l z e) = record { good = λ c d i j m. by-cell (grows-good keeps good h) c d i j m (ℕ-discrete (cell q c d) (cell q x y)) }
-    where
-      by-cell : AllGood q Good t → (c d : ℕ) → c ≤ q .names → d ≤ q .names → Marked q (set t (cell q x y) 1) c d → Dec (cell q c d ≡ cell q x y) → Good c d
-      by-cell k c d i j m (yes f) = let r = cell-same q c d x y j b f in rw (r .0, r .1) (keeps t x y h k a b e)
-      by-cell k c d i j m (no f) = k .good c d i j (record { is = sym (getD-set-other t (cell q x y) (cell q c d) 1 0 f) ∙ m .is })
+  grows-good keeps good (more t u h e f) =
+      let before = grows-good keeps good h in
+      record { good = λ x y i j m. elim (f x y i j m) [ inl k ↦ before .good x y i j k | inr r ↦ keeps t x y h before i j r ] }
 
   -- one pass
   pub pass-none : {Done : List ℕ → Type 0} {w : List ℕ} → Done w → Pass Rule q Done w w false
@@ -111,20 +89,11 @@ module _ {Rule : List ℕ → ℕ → ℕ → Type 0} {q : Square} where
   pub pass-as : {D E : List ℕ → Type 0} {w v : List ℕ} {r : Bool} → (D v → E v) → Pass Rule q D w v r → Pass Rule q E w v r
   pass-as f p = pass-with (λ e. f) p
 
-  pub put-pass : {x y : ℕ} {w v : List ℕ} {r : Bool} → Put q x y w v r → Room q w → x ≤ q .names → y ≤ q .names → Rule w x y → Pass Rule q (λ u. Marked q u x y) w v r
-  put-pass {x} {y} {w} {v} {r} p m a b e = by-answer r refl
-    where
-      inside : cell q x y < length w
-      inside = omega (arith, cell-below q x y a b, m .fits)
+  pub put-grows : {x y : ℕ} {w v : List ℕ} {r : Bool} → Put q x y w v r → Rule w x y → Grows Rule q w v
+  put-grows {w = w} {v = v} p e = more w v none (p .extends) (λ a b i j m. elim (p .only a b i j m) [ inl k ↦ inl k | inr k ↦ inr (rw (k .0, k .1) e) ])
 
-      by-answer : (t : Bool) → r ≡ t → Pass Rule q (λ u. Marked q u x y) w v r
-      by-answer true k = record {
-        grows = rw (p .put k) (more w x y none a b inside (p .fresh k) e);
-        fewer = λ j. rw (p .put k) (unset-set w (cell q x y) inside (λ z. p .fresh k (record { is = z })));
-        same = λ j. not-true (sym k ∙ j);
-        done = λ j. not-true (sym k ∙ j);
-      }
-      by-answer false k = record { grows = rw (p .same k) none; fewer = λ j. not-false (sym k ∙ j); same = p .same; done = λ j. rw (p .same k) (p .found k) }
+  pub put-pass : {x y : ℕ} {w v : List ℕ} {r : Bool} → Put q x y w v r → Rule w x y → Pass Rule q (λ u. Marked q u x y) w v r
+  put-pass p e = record { grows = put-grows p e; fewer = p .less; same = p .same; done = λ k. p .there }
 
   -- two passes: the second changed something, or nothing; the first did
   pub pass-changed : {D E F : List ℕ → Type 0} {u w v : List ℕ} {r t : Bool} → Pass Rule q D u w r → Pass Rule q E w v t → t ≡ true → Pass Rule q F u v true
@@ -151,6 +120,13 @@ module _ {Rule : List ℕ → ℕ → ℕ → Type 0} {q : Square} where
     done = λ k. not-true k;
   }
 
+  -- whatever the two changed
+  pub pass-both : {D E F : List ℕ → Type 0} {u w v : List ℕ} {r t : Bool} → (D v → E v → F v) → Pass Rule q D u w r → Pass Rule q E w v t → Pass Rule q F u v (r || t)
+  pass-both {r = true} {t = true} f p s = pass-changed p s refl
+  pass-both {r = true} {t = false} f p s = pass-unchanged f p s refl
+  pass-both {r = false} {t = true} f p s = pass-changed p s refl
+  pass-both {r = false} {t = false} f p s = pass-unchanged f p s refl
+
   -- turns of a loop
   pub turns-none : {D : ℕ → List ℕ → Type 0} {w : List ℕ} → Pass Rule q (Below D 0) w w false
   turns-none = pass-none below-none
@@ -162,8 +138,15 @@ module _ {Rule : List ℕ → ℕ → ℕ → Type 0} {q : Square} where
     pub turn-unchanged : {k : ℕ} {v : List ℕ} {r t : Bool} → Pass Rule q (Below D k) u w r → Pass Rule q (D k) w v t → t ≡ false → Pass Rule q (Below D (k + 1)) u v r
     turn-unchanged p s e = pass-unchanged below-more p s e
 
+    pub turn-both : {k : ℕ} {v : List ℕ} {r t : Bool} → Pass Rule q (Below D k) u w r → Pass Rule q (D k) w v t → Pass Rule q (Below D (k + 1)) u v (r || t)
+    turn-both p s = pass-both below-more p s
+
     pub turn-skipped : {k : ℕ} {r : Bool} → Pass Rule q (Below D k) u w r → D k w → Pass Rule q (Below D (k + 1)) u w r
     turn-skipped p d = pass-as (λ b. below-more b d) p
+
+    -- places that are finished without a turn
+    pub turns-to : {k n : ℕ} {r : Bool} → Pass Rule q (Below D k) u w r → ((i : ℕ) → k ≤ i → i < n → D i w) → Pass Rule q (Below D n) u w r
+    turns-to {k} p f = pass-as (λ b. record { at = λ i l. elim (decLt i k) [ yes h ↦ b .at i h | no h ↦ f i (omega arith) l ] }) p
 
     pub turns-end : {k n : ℕ} {r : Bool} → n ≤ k → Pass Rule q (Below D k) u w r → Pass Rule q (Below D n) u w r
     turns-end h p = pass-as (below-end h) p
@@ -174,3 +157,31 @@ module _ {Rule : List ℕ → ℕ → ℕ → Type 0} {q : Square} where
 
   pub closed-further : {D : List ℕ → Type 0} {u w v : List ℕ} → Grows Rule q u w → Closed Rule q D w v → Closed Rule q D u v
   closed-further g c = record { grows = grows-further g (c .grows); done = c .done }
+
+-- the same growth by another rule, which allows what the first one does
+pub grows-as : {R S : List ℕ → ℕ → ℕ → Type 0} {q : Square} {w v : List ℕ} → ((u : List ℕ) (x y : ℕ) → Grows R q w u → x ≤ q .names → y ≤ q .names → R u x y → S u x y) → Grows R q w v → Grows S q w v
+grows-as f none = none
+grows-as f (more t u h e g) = more t u (grows-as f h) e (λ x y i j m. elim (g x y i j m) [ inl k ↦ inl k | inr r ↦ inr (f t x y h i j r) ])
+
+pub pass-by : {R S : List ℕ → ℕ → ℕ → Type 0} {q : Square} {D : List ℕ → Type 0} {w v : List ℕ} {r : Bool} → ((u : List ℕ) (x y : ℕ) → Grows R q w u → x ≤ q .names → y ≤ q .names → R u x y → S u x y) → Pass R q D w v r → Pass S q D w v r
+pass-by f p = record { grows = grows-as f (p .grows); fewer = p .fewer; same = p .same; done = p .done }
+
+-- a byte of a row handed on
+pub hand-further : {q : Square} {u w : List ℕ} {from to source target : ℕ} (i : ℕ) → Grows (FromRow q from to) q u w → Room q u → from ≤ q .names → to ≤ q .names → i ≤ q .names / 8 → source ≡ place q from 0 → target ≡ place q to 0 → Grows (FromRow q from to) q u (orAt w (target + i) (getD w (source + i) 0))
+hand-further {q} {w = w} {from = from} {to = to} {source = source} {target = target} i g room f t l s e =
+    let b = hand-byte q w from to i source target (room-stays g room) f t l s e in
+    more w _ g (b .0) (λ x y h k m. elim (b .1 x y h k m) [ inl z ↦ inl z | inr z ↦ inr (record { row = z .0; marked = z .1 }) ])
+
+-- the marks of a row put in another one, column after column
+pub record HasMark (q : Square) (a x y : ℕ) (w : List ℕ) : Type 0 where
+  pub marked : Marked q w a y → Marked q w x y
+
+module _ {q : Square} {a z y : ℕ} where
+  pub column-pass : {w v : List ℕ} {r : Bool} → Marked q w a y → Put q z y w v r → Pass (FromRow q a z) q (HasMark q a z y) w v r
+  column-pass m p = pass-as (λ k. record { marked = λ j. k }) (put-pass p (record { row = refl; marked = m }))
+
+  pub column-none : {w : List ℕ} {r : Bool} → Tells r (Marked q w a y) → r ≡ false → HasMark q a z y w
+  column-none t e = record { marked = λ m. absurd (refuted t e m) }
+
+pub columns-end : {q : Square} {a z k : ℕ} {w v : List ℕ} {r : Bool} → q .names < k → Pass (FromRow q a z) q (Below (HasMark q a z) k) w v r → Pass (FromRow q a z) q (Within q a z) w v r
+columns-end l p = pass-as (λ b. record { marked = λ y h m. b .at y (omega arith) .marked m }) p

@@ -1,6 +1,8 @@
--- Laws of cells, of one mark, and of zeroed memory.
---   cell-below, cell-same              a cell lies in its square, and is of one row and one column
---   mark-stays                         a mark stays when another byte is set to 1
+-- Laws of places, of one mark, of a row, and of zeroed memory.
+--   place-below, place-same            a place lies in its square, and with its bit is of one row and one column
+--   span-size                          the bytes of a square are no more than its cells
+--   extends-same, or-extends           memory with no more marks; with more bits in a byte of the square
+--   put-found, put-fresh               a cell that was marked; that was not
 --   marked-frame, frame-marked         a square apart from the one that changed keeps its marks, and has no others
 --   zeroed-unmarked                    a square in zeroed memory has no mark
 --   refuted                            a test that is false refutes what it tells of
@@ -8,17 +10,19 @@
 use mathlib.Core.Path.{_≡_, refl, sym, ap, _∙_}
 use mathlib.Core.Bool.{Bool, true, false, false≢true}
 use mathlib.Core.List.{List}
-use mathlib.Core.Logic.{inl, inr}
-use Prim.Native.Nat.{ℕ, suc, _+_, _*_, _≤_, _<_}
-use native.Mathlib.Nat.{mul-le-mul, mul-le-mul-right, suc-mul}
+use mathlib.Core.Logic.{_⊎_, inl, inr}
+use Prim.Native.Nat.{ℕ, suc, _+_, _*_, _/_, _%_, _^_, _≤_, _<_}
+use native.Mathlib.Nat.{mul-le-mul, mul-le-mul-right, suc-mul, mod-lt, zero-lt-suc}
 use native.Mathlib.Numerals.{add-one}
 use native.Mathlib.Omega.{arith}
 use native.Mathlib.Decide.{ℕ-discrete, decLt}
 use lib.ListN.{length, getD, set, length-set}
 use lib.Seq.{getD-set-same, getD-set-other}
+use lib.Bits.{bitOr, bitXor}
 use Rattle.el.proofs.Tests.{Tells, always, never}
 use Rattle.marks.specs.declared.Square.{Square}
-use Rattle.marks.specs.Squares.{cell, size, mostNames, mostCells, Cell, Room, Marked, Unmarked, Apart, Frame, Put, Zeroed}
+use Rattle.marks.specs.Squares.{bit, width, span, size, place, unset, mostNames, mostCells, farthest, Place, Room, Marked, Unmarked, Apart, Frame, Extends, Put, Within, NextMarked, NextUnmarked, Zeroed}
+use Rattle.marks.proofs.Bits.{bit-same, bit-other, both-zero, within-byte, no-high-bit, high-bits, bit-of-zero, orAt, or-stays, or-has, or-only, or-fewer, or-less}
 
 pub not-true : {A : Type 0} → true ≡ false → A
 not-true e = absurd (false≢true (sym e))
@@ -30,8 +34,8 @@ pub refuted : {b : Bool} {A : Type 0} → Tells b A → b ≡ false → A → �
 refuted t e a = false≢true (sym e ∙ t .complete a)
 
 -- places
-pub product-small : (x k : ℕ) → x ≤ mostNames → k ≤ suc mostNames → x * k ≤ mostCells
-product-small x k h l = omega (arith, mul-le-mul {n₂ = mostNames} {m₂ = suc mostNames} h l)
+pub product-small : {x k : ℕ} → x ≤ mostNames → k ≤ mostNames → x * k ≤ mostCells
+product-small h l = omega (arith, mul-le-mul {n₂ = mostNames} {m₂ = mostNames} h l)
 
 pub size-is : (n : ℕ) → (n + 1) * (n + 1) ≡ size n
 unfolding size
@@ -40,85 +44,23 @@ size-is n = rw add-one
 pub size-small : (n : ℕ) → n ≤ mostNames → (n + 1) * (n + 1) ≤ mostCells
 size-small n h = mul-le-mul {n₂ = suc mostNames} {m₂ = suc mostNames} (omega arith) (omega arith)
 
-module _ (q : Square) where
-  abbrev n : ℕ
-  n = q .names
+pub width-is : (n : ℕ) → n ≤ mostNames → (n / 8 + 1 ≡ width n) × (n / 8 + 1 ≤ mostNames)
+unfolding width
+width-is n h = (refl, omega arith)
 
-  pub cell-is : (x y : ℕ) → q .base + (x * (n + 1) + y) ≡ cell q x y
-  unfolding cell
-  cell-is x y = rw add-one
+width-small : (n : ℕ) → width n ≤ suc n
+unfolding width
+width-small n = omega arith
 
-  pub cell-below : (x y : ℕ) → x ≤ n → y ≤ n → cell q x y < q .base + size n
-  unfolding cell size
-  cell-below x y h l = omega (arith, mul-le-mul-right (suc n) h, suc-mul n (suc n))
+pub span-size : (n : ℕ) → span n ≤ size n
+unfolding span size
+span-size n = omega (arith, mul-le-mul {n₁ = suc n} {m₁ = width n} {n₂ = suc n} {m₂ = suc n} (omega arith) (width-small n))
 
-  pub cell-from : (x y : ℕ) → q .base ≤ cell q x y
-  unfolding cell
-  cell-from x y = omega arith
+pub column-byte : (n y : ℕ) → y ≤ n → y / 8 < width n
+unfolding width
+column-byte n y h = omega arith
 
-  row-before : (x y a b : ℕ) → y ≤ n → x < a → cell q x y ≡ cell q a b → ⊥
-  unfolding cell
-  row-before x y a b h l e = omega (arith, mul-le-mul-right (suc n) l, suc-mul x (suc n))
-
-  same-row : (x y a b : ℕ) → y ≤ n → b ≤ n → cell q x y ≡ cell q a b → x ≡ a
-  same-row x y a b h l e = by-order (decLt x a) (decLt a x)
-    where
-      by-order : Dec (x < a) → Dec (a < x) → x ≡ a
-      by-order (yes k) j = absurd (row-before x y a b h k e)
-      by-order (no k) (yes j) = absurd (row-before a b x y l j (sym e))
-      by-order (no k) (no j) = omega arith
-
-  pub cell-same : (x y a b : ℕ) → y ≤ n → b ≤ n → cell q x y ≡ cell q a b → (x ≡ a) × (y ≡ b)
-  unfolding cell
-  cell-same x y a b h l e =
-      let r = same-row x y a b h l e in
-      let m : x * suc n ≡ a * suc n = ap (λ (k : ℕ). k * suc n) r in
-      (r, omega arith)
-
-  pub cell-of : (x y : ℕ) → x ≤ n → y ≤ n → Cell q x y (q .base + (x * (n + 1) + y))
-  cell-of x y h l = record { is = cell-is x y; below = rw (cell-is x y) (cell-below x y h l) }
-
--- one cell
-pub mark-stays : {q : Square} {w : List ℕ} {x y : ℕ} (i : ℕ) → i < length w → Marked q w x y → Marked q (set w i 1) x y
-mark-stays {q} {w} {x} {y} i l m = record { is = by-place (ℕ-discrete (cell q x y) i) }
-  where
-    by-place : Dec (cell q x y ≡ i) → getD (set w i 1) (cell q x y) 0 ≡ 1
-    by-place (yes e) = rw e (getD-set-same w i 1 0 l)
-    by-place (no k) = getD-set-other w i (cell q x y) 1 0 k ∙ m .is
-
-module _ {q : Square} {x y i : ℕ} {w : List ℕ} (c : Cell q x y i) where
-  byte-marked : getD w i 0 ≡ 1 → Marked q w x y
-  byte-marked h = record { is = rw (← c .is) h }
-
-  marked-byte : Marked q w x y → getD w i 0 ≡ 1
-  marked-byte m = rw (c .is) (m .is)
-
-  pub tells-marked : getD w i 0 ≡ 1 → Tells true (Marked q w x y)
-  tells-marked h = always (byte-marked h)
-
-  pub tells-unmarked : (getD w i 0 ≡ 1 → ⊥) → Tells false (Marked q w x y)
-  tells-unmarked h = never (λ m. h (marked-byte m))
-
-  pub put-found : getD w i 0 ≡ 1 → Put q x y w w false
-  put-found h = record { fresh = λ e. not-false e; put = λ e. not-false e; same = λ e. refl; found = λ e. byte-marked h }
-
-  pub put-fresh : (getD w i 0 ≡ 1 → ⊥) → Put q x y w (set w i 1) true
-  put-fresh h = record { fresh = λ e m. h (marked-byte m); put = λ e. ap (λ j. set w j 1) (c .is); same = λ e. not-true e; found = λ e. not-true e }
-
-pub put-told : {q : Square} {x y : ℕ} {w v : List ℕ} {r t : Bool} → r ≡ t → Put q x y w v r → Put q x y w v t
-put-told e p = rw (← e) p
-
--- a square p apart from the one that changed
-module _ {p q : Square} {w v : List ℕ} (f : Frame q w v) (apart : Apart p q) {x y : ℕ} (h : x ≤ p .names) (l : y ≤ p .names) where
-  cell-stays : getD v (cell p x y) 0 ≡ getD w (cell p x y) 0
-  cell-stays = elim apart [ inl b ↦ f .before (cell p x y) (omega (arith, cell-below p x y h l)) | inr b ↦ f .past (cell p x y) (omega (arith, cell-from p x y)) ]
-
-  pub frame-marked : Marked p w x y → Marked p v x y
-  frame-marked m = record { is = cell-stays ∙ m .is }
-
-  pub marked-frame : Marked p v x y → Marked p w x y
-  marked-frame m = record { is = sym cell-stays ∙ m .is }
-
+-- frames, and memory with more marks
 pub frame-room : {p q : Square} {w v : List ℕ} → Frame q w v → Room p w → Room p v
 frame-room f r = record { small = r .small; fits = omega (arith, r .fits, f .long) }
 
@@ -127,6 +69,271 @@ frame-same = record { long = refl; before = λ i h. refl; past = λ i h. refl }
 
 pub frame-further : {q : Square} {u w v : List ℕ} → Frame q u w → Frame q w v → Frame q u v
 frame-further f g = record { long = g .long ∙ f .long; before = λ i h. g .before i h ∙ f .before i h; past = λ i h. g .past i h ∙ f .past i h }
+
+pub extends-same : {q : Square} {w : List ℕ} → Extends q w w
+extends-same = record { frame = frame-same; stays = λ x y m. m; fewer = omega arith }
+
+pub or-extends : {q : Square} (w : List ℕ) (i m : ℕ) → q .base ≤ i → i < q .base + span (q .names) → i < length w → Extends q w (orAt w i m)
+or-extends w i m f b l = record {
+  frame = record {
+    long = length-set w i (bitOr (getD w i 0) m);
+    before = λ j h. getD-set-other w i j (bitOr (getD w i 0) m) 0 (λ e. omega arith);
+    past = λ j h. getD-set-other w i j (bitOr (getD w i 0) m) 0 (λ e. omega arith);
+  };
+  stays = λ x y k. record { is = or-stays w i m _ _ l (k .is) };
+  fewer = or-fewer w i m;
+}
+
+add-left : (a b c : ℕ) → a + b ≡ a + c → b ≡ c
+add-left a b c e = omega arith
+
+module _ (q : Square) where
+  abbrev n : ℕ
+  n = q .names
+
+  pub place-below : (x y : ℕ) → x ≤ n → y ≤ n → place q x y < q .base + span n
+  unfolding place span
+  place-below x y h l = omega (arith, mul-le-mul-right (width n) h, suc-mul n (width n), column-byte n y l)
+
+  pub place-from : (x y : ℕ) → q .base ≤ place q x y
+  unfolding place
+  place-from x y = omega arith
+
+  row-before : (x y a b : ℕ) → y ≤ n → x < a → place q x y ≡ place q a b → ⊥
+  unfolding place
+  row-before x y a b h l e = omega (arith, mul-le-mul-right (width n) l, suc-mul x (width n), column-byte n y h)
+
+  same-row : (x y a b : ℕ) → y ≤ n → b ≤ n → place q x y ≡ place q a b → x ≡ a
+  same-row x y a b h l e = by-order (decLt x a) (decLt a x)
+    where
+      by-order : Dec (x < a) → Dec (a < x) → x ≡ a
+      by-order (yes k) j = absurd (row-before x y a b h k e)
+      by-order (no k) (yes j) = absurd (row-before a b x y l j (sym e))
+      by-order (no k) (no j) = omega arith
+
+  pub place-same : (x y a b : ℕ) → y ≤ n → b ≤ n → place q x y ≡ place q a b → y % 8 ≡ b % 8 → (x ≡ a) × (y ≡ b)
+  unfolding place
+  place-same x y a b h l e f =
+      let r = same-row x y a b h l e in
+      let m : x * width n ≡ a * width n = ap (λ (k : ℕ). k * width n) r in
+      (r, omega arith)
+
+  -- a byte of a row is that of a column, and a cell has one
+  pub place-column : (x y : ℕ) → place q x 0 + y / 8 ≡ place q x y
+  unfolding place
+  place-column x y = omega arith
+
+  place-is : (x y r : ℕ) → r ≡ width n → q .base + (x * r + y / 8) ≡ place q x y
+  unfolding place
+  place-is x y r e = rw e
+
+  pub place-of : (x y r : ℕ) → r ≡ width n → x ≤ n → y ≤ n → Place q x y (q .base + (x * r + y / 8))
+  place-of x y r e h l = record { is = place-is x y r e; below = rw (place-is x y r e) (place-below x y h l) }
+
+  -- the bytes of a row
+  pub row-byte : (x i : ℕ) → x ≤ n → i ≤ n / 8 → place q x 0 + i < q .base + span n
+  unfolding place span width
+  row-byte x i h l = omega (arith, mul-le-mul-right (width n) h, suc-mul n (width n))
+
+  row-place : (x y a i : ℕ) → y ≤ n → i ≤ n / 8 → place q x y ≡ place q a 0 + i → (x ≡ a) × (y / 8 ≡ i)
+  row-place x y a i h l e =
+      let b : place q a 0 + i ≡ place q a (8 * i) = ap (λ (k : ℕ). place q a 0 + k) (omega arith) ∙ place-column a (8 * i) in
+      let r = same-row x y a (8 * i) h (omega arith) (e ∙ b) in
+      (r, by-row r)
+    where
+      by-row : x ≡ a → y / 8 ≡ i
+      by-row r = add-left (place q a 0) (y / 8) i (ap (λ (z : ℕ). place q z 0 + y / 8) (sym r) ∙ place-column x y ∙ e)
+
+  -- a byte of row `from` handed on to row `to`
+  pub hand-byte : (w : List ℕ) (from to i source target : ℕ) → Room q w → from ≤ n → to ≤ n → i ≤ n / 8 → source ≡ place q from 0 → target ≡ place q to 0 → Extends q w (orAt w (target + i) (getD w (source + i) 0)) × ((x y : ℕ) → x ≤ n → y ≤ n → Marked q (orAt w (target + i) (getD w (source + i) 0)) x y → Marked q w x y ⊎ ((x ≡ to) × Marked q w from y))
+  hand-byte w from to i source target room f t l s g = (or-extends w (target + i) (getD w (source + i) 0) lower upper inside, new)
+    where
+      lower : q .base ≤ target + i
+      lower = omega (arith, g, place-from to 0)
+
+      upper : target + i < q .base + span n
+      upper = omega (arith, g, row-byte to i t l)
+
+      inside : target + i < length w
+      inside = omega (arith, upper, room .fits)
+
+      source-place : (y : ℕ) → y / 8 ≡ i → source + i ≡ place q from y
+      source-place y e = ap (λ (z : ℕ). z + i) s ∙ ap (λ (z : ℕ). place q from 0 + z) (sym e) ∙ place-column from y
+
+      new : (x y : ℕ) → x ≤ n → y ≤ n → Marked q (orAt w (target + i) (getD w (source + i) 0)) x y → Marked q w x y ⊎ ((x ≡ to) × Marked q w from y)
+      new x y xb yb m = elim (or-only w (target + i) (getD w (source + i) 0) _ _ inside (m .is)) [
+        | inl z ↦ inl (record { is = z })
+        | inr z ↦ let p = row-place x y to i yb l (z .0 ∙ ap (λ (k : ℕ). k + i) g) in inr (p .0, record { is = rw (← source-place y (p .1)) (z .1) })
+      ]
+
+span-small : (n : ℕ) → n ≤ mostNames → span n ≤ mostCells
+unfolding size
+span-small n h = omega (arith, span-size n, size-small n h, size-is n)
+
+-- a byte of a row is in the memory, and its place does not wrap
+pub row-inside : {q : Square} {w : List ℕ} {x r i : ℕ} → Room q w → x ≤ q .names → i ≤ q .names / 8 → Place q x 0 r → (r + i < length w) × (r + i < farthest + mostCells)
+row-inside {q} {x = x} {r = r} {i = i} room h l p =
+    let e : r + i ≡ place q x 0 + i = ap (λ (z : ℕ). z + i) (p .is) in
+    (omega (arith, row-byte q x i h l, room .fits), omega (arith, row-byte q x i h l, span-small (q .names) (room .small .few), room .small .near))
+
+-- no mark so far
+pub record NoneBefore (q : Square) (w : List ℕ) (x from y : ℕ) : Type 0 where
+  pub after : from ≤ y
+  pub none : (z : ℕ) → from ≤ z → z < y → z ≤ q .names → Marked q w x z → ⊥
+
+-- all marked so far
+pub record AllBefore (q : Square) (w : List ℕ) (x from y : ℕ) : Type 0 where
+  pub after : from ≤ y
+  pub all : (z : ℕ) → from ≤ z → z < y → z ≤ q .names → Marked q w x z
+
+-- bytes of one row seen in another
+pub record SeenWithin (w : List ℕ) (source target i missing : ℕ) : Type 0 where
+  pub byte : missing ≡ 0 → (j : ℕ) → j < i → bitXor (bitOr (getD w (source + j) 0) (getD w (target + j) 0)) (getD w (target + j) 0) ≡ 0
+
+pub seen-none : {w : List ℕ} {source target missing : ℕ} → SeenWithin w source target 0 missing
+seen-none = record { byte = λ e j l. absurd (omega arith) }
+
+pub seen-more : {w : List ℕ} {source target i missing : ℕ} → SeenWithin w source target i missing → SeenWithin w source target (i + 1) (bitOr missing (bitXor (bitOr (getD w (source + i) 0) (getD w (target + i) 0)) (getD w (target + i) 0)))
+seen-more {w} {source} {target} {i} {missing} seen = record { byte = λ e j l. let z = both-zero missing _ e in by-place j l (z .0) (z .1) (ℕ-discrete j i) }
+  where
+    by-place : (j : ℕ) → j < i + 1 → missing ≡ 0 → bitXor (bitOr (getD w (source + i) 0) (getD w (target + i) 0)) (getD w (target + i) 0) ≡ 0 → Dec (j ≡ i) → bitXor (bitOr (getD w (source + j) 0) (getD w (target + j) 0)) (getD w (target + j) 0) ≡ 0
+    by-place j l e h (yes z) = rw z h
+    by-place j l e h (no z) = seen .byte e j (omega arith)
+
+pub seen-within : {q : Square} {w : List ℕ} {from to source target i missing : ℕ} → source ≡ place q from 0 → target ≡ place q to 0 → (i ≤ q .names / 8 → ⊥) → SeenWithin w source target i missing → missing ≡ 0 → Within q from to w
+seen-within {q} {w} {from} {to} {source} {target} s t h seen e = record {
+  marked = λ y l m.
+      let a : source + y / 8 ≡ place q from y = ap (λ (z : ℕ). z + y / 8) s ∙ place-column q from y in
+      let b : target + y / 8 ≡ place q to y = ap (λ (z : ℕ). z + y / 8) t ∙ place-column q to y in
+      let has : bit (getD w (source + y / 8) 0) (y % 8) ≡ 1 = rw a (m .is) in
+      record { is = rw (← b) (within-byte (getD w (source + y / 8) 0) (getD w (target + y / 8) 0) (y % 8) (seen .byte e (y / 8) (omega arith)) has) };
+}
+
+-- the next mark of a row
+module _ {q : Square} {w : List ℕ} {x from : ℕ} where
+  pub next-start : (y : ℕ) → y ≡ from → NoneBefore q w x from y
+  next-start y e = record { after = omega arith; none = λ z h l k m. absurd (omega arith) }
+
+  pub next-here : {y i : ℕ} → y ≤ q .names → NoneBefore q w x from y → Place q x y i → getD w i 0 / 2 ^ (y % 8) % 2 ≡ 1 → NextMarked q w x from y
+  unfolding bit
+  next-here l n p e = record { after = n .after; inside = omega arith; none = λ z h k m. n .none z h k (omega arith) m; found = λ h. record { is = rw (← p .is) e } }
+
+  pub next-one : {y i : ℕ} → NoneBefore q w x from y → Place q x y i → (getD w i 0 / 2 ^ (y % 8) % 2 ≡ 1 → ⊥) → NoneBefore q w x from (y + 1)
+  unfolding bit
+  next-one {y} {i} n p e = record { after = omega (arith, n .after); none = λ z h l k m. by-place z h l k m (ℕ-discrete z y) }
+    where
+      by-place : (z : ℕ) → from ≤ z → z < y + 1 → z ≤ q .names → Marked q w x z → Dec (z ≡ y) → ⊥
+      by-place z h l k m (yes g) = let c : Marked q w x y = rw g at m in e (rw (p .is) (c .is))
+      by-place z h l k m (no g) = n .none z h (omega arith) k m
+
+  pub next-byte : {y i : ℕ} → NoneBefore q w x from y → Place q x y i → getD w i 0 / 2 ^ (y % 8) ≡ 0 → NoneBefore q w x from (8 * (y / 8) + 8)
+  next-byte {y} {i} n p e = record { after = omega (arith, n .after); none = λ z h l k m. by-place z h l k m (decLt z y) }
+    where
+      by-place : (z : ℕ) → from ≤ z → z < 8 * (y / 8) + 8 → z ≤ q .names → Marked q w x z → Dec (z < y) → ⊥
+      by-place z h l k m (yes g) = n .none z h g k m
+      by-place z h l k m (no g) =
+          let same : z / 8 ≡ y / 8 = omega arith in
+          let there : place q x z ≡ i = sym (place-column q x z) ∙ ap (λ (b : ℕ). place q x 0 + b) same ∙ place-column q x y ∙ sym (p .is) in
+          let has : bit (getD w i 0) (z % 8) ≡ 1 = rw there at (m .is) in
+          omega (arith, no-high-bit (getD w i 0) (y % 8) (z % 8) (omega arith) e)
+
+  pub next-none : {y : ℕ} → from ≤ suc (q .names) → NoneBefore q w x from y → q .names < y → NextMarked q w x from (q .names + 1)
+  next-none f n l = record { after = omega arith; inside = omega arith; none = λ z h k m. n .none z h (omega arith) (omega arith) m; found = λ h. absurd (omega arith) }
+
+-- the next cell of a row that is not marked
+module _ {q : Square} {w : List ℕ} {x from : ℕ} where
+  pub all-start : (y : ℕ) → y ≡ from → AllBefore q w x from y
+  all-start y e = record { after = omega arith; all = λ z h l k. absurd (omega arith) }
+
+  pub unmarked-here : {y i : ℕ} → y ≤ q .names → AllBefore q w x from y → Place q x y i → (getD w i 0 / 2 ^ (y % 8) % 2 ≡ 1 → ⊥) → NextUnmarked q w x from y
+  unfolding bit
+  unmarked-here l n p e = record { after = n .after; inside = omega arith; all = λ z h k. n .all z h k (omega arith); found = λ h m. e (rw (p .is) (m .is)) }
+
+  pub all-one : {y i : ℕ} → AllBefore q w x from y → Place q x y i → getD w i 0 / 2 ^ (y % 8) % 2 ≡ 1 → AllBefore q w x from (y + 1)
+  unfolding bit
+  all-one {y} {i} n p e = record { after = omega (arith, n .after); all = λ z h l k. by-place z h l k (ℕ-discrete z y) }
+    where
+      here : Marked q w x y
+      here = record { is = rw (← p .is) e }
+
+      by-place : (z : ℕ) → from ≤ z → z < y + 1 → z ≤ q .names → Dec (z ≡ y) → Marked q w x z
+      by-place z h l k (yes g) = rw g here
+      by-place z h l k (no g) = n .all z h (omega arith) k
+
+  pub all-byte : {y i : ℕ} → AllBefore q w x from y → Place q x y i → getD w i 0 / 2 ^ (y % 8) ≡ 255 / 2 ^ (y % 8) → AllBefore q w x from (8 * (y / 8) + 8)
+  all-byte {y} {i} n p e = record { after = omega (arith, n .after); all = λ z h l k. by-place z h l k (decLt z y) }
+    where
+      by-place : (z : ℕ) → from ≤ z → z < 8 * (y / 8) + 8 → z ≤ q .names → Dec (z < y) → Marked q w x z
+      by-place z h l k (yes g) = n .all z h g k
+      by-place z h l k (no g) =
+          let same : z / 8 ≡ y / 8 = omega arith in
+          let there : place q x z ≡ i = sym (place-column q x z) ∙ ap (λ (b : ℕ). place q x 0 + b) same ∙ place-column q x y ∙ sym (p .is) in
+          record { is = rw there (high-bits (getD w i 0) (y % 8) (z % 8) (omega arith) (omega arith) e) }
+
+  pub unmarked-none : {y : ℕ} → from ≤ suc (q .names) → AllBefore q w x from y → q .names < y → NextUnmarked q w x from (q .names + 1)
+  unmarked-none f n l = record { after = omega arith; inside = omega arith; all = λ z h k. n .all z h (omega arith) (omega arith); found = λ h. absurd (omega arith) }
+
+-- one cell
+column-bit : (y : ℕ) → y % 8 < 8
+column-bit y = mod-lt y (zero-lt-suc 7)
+
+-- 1 << k
+abbrev mask : ℕ → ℕ
+mask y = 1 * 2 ^ (y % 8) % 256
+
+module _ {q : Square} {x y i : ℕ} (w : List ℕ) (p : Place q x y i) where
+  byte-marked : bit (getD w i 0) (y % 8) ≡ 1 → Marked q w x y
+  byte-marked h = record { is = rw (← p .is) h }
+
+  marked-byte : Marked q w x y → bit (getD w i 0) (y % 8) ≡ 1
+  marked-byte m = rw (p .is) (m .is)
+
+  pub tells-marked : getD w i 0 / 2 ^ (y % 8) % 2 ≡ 1 → Tells true (Marked q w x y)
+  unfolding bit
+  tells-marked h = always (byte-marked h)
+
+  pub tells-unmarked : (getD w i 0 / 2 ^ (y % 8) % 2 ≡ 1 → ⊥) → Tells false (Marked q w x y)
+  unfolding bit
+  tells-unmarked h = never (λ m. h (marked-byte m))
+
+  pub put-found : getD w i 0 / 2 ^ (y % 8) % 2 ≡ 1 → Put q x y w w false
+  unfolding bit
+  put-found h = record { extends = extends-same; there = byte-marked h; only = λ a b k l m. inl m; less = λ e. not-false e; fresh = λ e. not-false e; same = λ e. refl }
+
+  unset-bit : (getD w i 0 / 2 ^ (y % 8) % 2 ≡ 1 → ⊥) → bit (getD w i 0) (y % 8) ≡ 1 → ⊥
+  unfolding bit
+  unset-bit h e = h e
+
+  pub put-fresh : Room q w → y ≤ q .names → (getD w i 0 / 2 ^ (y % 8) % 2 ≡ 1 → ⊥) → Put q x y w (orAt w i (mask y)) true
+  put-fresh room yb h = record {
+    extends = or-extends w i (mask y) (rw (p .is) (place-from q x y)) (p .below) inside;
+    there = record { is = rw (← p .is) (or-has w i (mask y) (y % 8) inside (bit-same (y % 8) (column-bit y))) };
+    only = λ a b k l m. elim (or-only w i (mask y) _ _ inside (m .is)) [ inl z ↦ inl (record { is = z }) | inr z ↦ inr (by-bit a b l (z .0 ∙ p .is) (z .1) (ℕ-discrete (b % 8) (y % 8))) ];
+    less = λ e. or-less w i (mask y) (y % 8) inside (column-bit y) (unset-bit h) (bit-same (y % 8) (column-bit y));
+    fresh = λ e m. unset-bit h (marked-byte m);
+    same = λ e. not-true e;
+  }
+    where
+      inside : i < length w
+      inside = omega (arith, p .below, room .fits)
+
+      by-bit : (a b : ℕ) → b ≤ q .names → place q a b ≡ place q x y → bit (mask y) (b % 8) ≡ 1 → Dec (b % 8 ≡ y % 8) → (a ≡ x) × (b ≡ y)
+      by-bit a b l e m (yes z) = place-same q a b x y l yb e z
+      by-bit a b l e m (no z) = absurd (omega (arith, bit-other (y % 8) (b % 8) (column-bit y) z))
+
+pub put-told : {q : Square} {x y : ℕ} {w v : List ℕ} {r t : Bool} → r ≡ t → Put q x y w v r → Put q x y w v t
+put-told e p = rw (← e) p
+
+-- a square p apart from the one that changed
+module _ {p q : Square} {w v : List ℕ} (f : Frame q w v) (apart : Apart p q) {x y : ℕ} (h : x ≤ p .names) (l : y ≤ p .names) where
+  byte-stays : getD v (place p x y) 0 ≡ getD w (place p x y) 0
+  byte-stays = elim apart [ inl b ↦ f .before (place p x y) (omega (arith, place-below p x y h l)) | inr b ↦ f .past (place p x y) (omega (arith, place-from p x y)) ]
+
+  pub frame-marked : Marked p w x y → Marked p v x y
+  frame-marked m = record { is = rw byte-stays (m .is) }
+
+  pub marked-frame : Marked p v x y → Marked p w x y
+  marked-frame m = record { is = rw (← byte-stays) (m .is) }
 
 -- zeroed memory
 pub zeroed-none : {w : List ℕ} → Zeroed 0 w w
@@ -142,8 +349,11 @@ zeroed-more {k} {w} {v} l z = record { long = length-set v k 0 ∙ z .long; zero
 pub zeroed-end : {i k : ℕ} {w v : List ℕ} → i ≤ k → k ≤ i → Zeroed i w v → Zeroed k w v
 zeroed-end {i} {k} h l z = let e : i ≡ k = omega arith in rw (← e) z
 
-pub zeroed-unmarked : {k : ℕ} {q : Square} {w v : List ℕ} → Zeroed k w v → q .base + size (q .names) ≤ k → Unmarked q v
-zeroed-unmarked {k} {q} z r = record { none = λ x y h l m. omega (arith, m .is, z .zero (cell q x y) (omega (arith, cell-below q x y h l))) }
+pub zero-unmarked : {q : Square} {w : List ℕ} {x y : ℕ} → getD w (place q x y) 0 ≡ 0 → Marked q w x y → ⊥
+zero-unmarked {y = y} e m = let z : bit 0 (y % 8) ≡ 1 = rw e at (m .is) in omega (arith, bit-of-zero (y % 8))
+
+pub zeroed-unmarked : {k : ℕ} {q : Square} {w v : List ℕ} → Zeroed k w v → q .base + span (q .names) ≤ k → Unmarked q v
+zeroed-unmarked {k} {q} z r = record { none = λ x y h l m. zero-unmarked (z .zero (place q x y) (omega (arith, place-below q x y h l))) m }
 
 pub frame-unmarked : {p q : Square} {w v : List ℕ} → Frame q w v → Apart p q → Unmarked p w → Unmarked p v
 frame-unmarked f apart u = record { none = λ x y h l m. u .none x y h l (marked-frame f apart h l m) }

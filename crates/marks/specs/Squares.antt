@@ -1,25 +1,41 @@
--- A square of marks in lent memory: names + 1 rows and columns, row after row, a byte a cell. A mark is a byte 1.
---   cell q x y         the place of the cell in row x and column y of the square q;  size n: how many cells there are
+-- A square of marks in lent memory: names + 1 rows and columns, row after row, a bit a cell. A mark is a bit 1.
+--   bit b k            the bit k of the byte b
+--   width n            the bytes of a row;  span n: of a square;  size n: how many cells there are, the bytes lent for a square
+--   place q x y        the byte of the cell in row x and column y of the square q; its bit is y % 8
 --   Room q w           the square q lies in the memory w
 --   Marked q w x y     the cell is marked;  Unmarked q w: no cell is
---   Frame q w v        v is w but for cells of q;  Apart p q: no cell of p is one of q
+--   Frame q w v        v is w but for bytes of q;  Apart p q: no byte of p is one of q
+--   unset w            the number of bits that are no mark: it falls with each mark, so marking ends
+--   Extends q w v      v is w but for marks of q that w has not
 --   Put q x y w v r    v is w with the cell marked; r: it was not marked in w
+--   Within q a x w     row x has the marks of row a
+--   NextMarked q w x from r   r is the first column of row x from `from` on that is marked, or the number after the last
+--   NextUnmarked q w x from r   the same, the first that is not marked
 --   Zeroed k w v       v is w with the first k bytes 0
 use mathlib.Core.Path.{_≡_}
 use mathlib.Core.Bool.{Bool, true, false}
-use mathlib.Core.List.{List}
+use mathlib.Core.List.{List, [], _∷_}
 use mathlib.Core.Logic.{_⊎_}
-use Prim.Native.Nat.{ℕ, suc, _+_, _*_, _≤_, _<_}
-use lib.ListN.{length, getD, set}
+use Prim.Native.Nat.{ℕ, zero, suc, _+_, _-_, _*_, _/_, _%_, _^_, _≤_, _<_}
+use lib.ListN.{length, getD}
 use Rattle.marks.specs.declared.Square.{Square}
 
-unfoldable pub cell : Square → ℕ → ℕ → ℕ
-cell q x y = q .base + (x * suc (q .names) + y)
+unfoldable pub bit : ℕ → ℕ → ℕ
+bit b k = b / 2 ^ k % 2
+
+unfoldable pub width : ℕ → ℕ
+width n = n / 8 + 1
+
+unfoldable pub span : ℕ → ℕ
+span n = suc n * width n
 
 unfoldable pub size : ℕ → ℕ
 size n = suc n * suc n
 
--- limits within which no place of a cell wraps: names, cells of a square, bytes before it
+unfoldable pub place : Square → ℕ → ℕ → ℕ
+place q x y = q .base + (x * width (q .names) + y / 8)
+
+-- limits within which no place wraps: names, cells of a square, bytes before it
 abbrev pub mostNames : ℕ
 mostNames = 4095
 
@@ -33,34 +49,64 @@ pub record Small (q : Square) : Type 0 where
   pub few : q .names ≤ mostNames
   pub near : q .base ≤ farthest
 
-pub record Cell (q : Square) (x y r : ℕ) : Type 0 where
-  pub is : r ≡ cell q x y
-  pub below : r < q .base + size (q .names)
+pub record Place (q : Square) (x y r : ℕ) : Type 0 where
+  pub is : r ≡ place q x y
+  pub below : r < q .base + span (q .names)
 
 pub record Room (q : Square) (w : List ℕ) : Type 0 where
   pub small : Small q
-  pub fits : q .base + size (q .names) ≤ length w
+  pub fits : q .base + span (q .names) ≤ length w
 
 pub record Marked (q : Square) (w : List ℕ) (x y : ℕ) : Type 0 where
-  pub is : getD w (cell q x y) 0 ≡ 1
+  pub is : bit (getD w (place q x y) 0) (y % 8) ≡ 1
 
 pub record Unmarked (q : Square) (w : List ℕ) : Type 0 where
   pub none : (x y : ℕ) → x ≤ q .names → y ≤ q .names → Marked q w x y → ⊥
 
--- two squares have no cell in common
+-- two squares have no byte in common
 abbrev pub Apart : Square → Square → Type 0
-Apart p q = (p .base + size (p .names) ≤ q .base) ⊎ (q .base + size (q .names) ≤ p .base)
+Apart p q = (p .base + span (p .names) ≤ q .base) ⊎ (q .base + span (q .names) ≤ p .base)
 
 pub record Frame (q : Square) (w v : List ℕ) : Type 0 where
   pub long : length v ≡ length w
   pub before : (i : ℕ) → i < q .base → getD v i 0 ≡ getD w i 0
-  pub past : (i : ℕ) → q .base + size (q .names) ≤ i → getD v i 0 ≡ getD w i 0
+  pub past : (i : ℕ) → q .base + span (q .names) ≤ i → getD v i 0 ≡ getD w i 0
+
+unfoldable pub unsetBelow : ℕ → ℕ → ℕ
+unsetBelow zero b = 0
+unsetBelow (suc k) b = unsetBelow k b + (1 - bit b k)
+
+unfoldable pub unset : List ℕ → ℕ
+unset [] = 0
+unset (b ∷ bs) = unsetBelow 8 b + unset bs
+
+pub record Extends (q : Square) (w v : List ℕ) : Type 0 where
+  pub frame : Frame q w v
+  pub stays : (x y : ℕ) → Marked q w x y → Marked q v x y
+  pub fewer : unset v ≤ unset w
 
 pub record Put (q : Square) (x y : ℕ) (w v : List ℕ) (r : Bool) : Type 0 where
+  pub extends : Extends q w v
+  pub there : Marked q v x y
+  pub only : (a b : ℕ) → a ≤ q .names → b ≤ q .names → Marked q v a b → Marked q w a b ⊎ ((a ≡ x) × (b ≡ y))
+  pub less : r ≡ true → unset v < unset w
   pub fresh : r ≡ true → Marked q w x y → ⊥
-  pub put : r ≡ true → v ≡ set w (cell q x y) 1
   pub same : r ≡ false → v ≡ w
-  pub found : r ≡ false → Marked q w x y
+
+pub record Within (q : Square) (a x : ℕ) (w : List ℕ) : Type 0 where
+  pub marked : (y : ℕ) → y ≤ q .names → Marked q w a y → Marked q w x y
+
+pub record NextMarked (q : Square) (w : List ℕ) (x from r : ℕ) : Type 0 where
+  pub after : from ≤ r
+  pub inside : r ≤ suc (q .names)
+  pub none : (y : ℕ) → from ≤ y → y < r → Marked q w x y → ⊥
+  pub found : r ≤ q .names → Marked q w x r
+
+pub record NextUnmarked (q : Square) (w : List ℕ) (x from r : ℕ) : Type 0 where
+  pub after : from ≤ r
+  pub inside : r ≤ suc (q .names)
+  pub all : (y : ℕ) → from ≤ y → y < r → Marked q w x y
+  pub found : r ≤ q .names → Marked q w x r → ⊥
 
 pub record Zeroed (k : ℕ) (w v : List ℕ) : Type 0 where
   pub long : length v ≡ length w

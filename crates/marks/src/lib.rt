@@ -1,25 +1,36 @@
-// Squares of marks in lent memory. Nothing here knows what a mark means.
+// Squares of marks in lent memory, a bit a cell. Nothing here knows what a mark means.
 ghost use mathlib.Core.Path.{_≡_};
+ghost use mathlib.Core.Bool.{true};
 ghost use Prim.Native.Nat.{_≤_};
 ghost use lib.ListN.{length};
 ghost use Rattle.el.proofs.Tests.{Tells};
-ghost use Rattle.marks.specs.Squares.{size, mostNames, mostCells, Small, Cell, Room, Marked, Put, Zeroed};
+ghost use Rattle.marks.specs.Squares.{size, width, mostNames, mostCells, Small, Place, Room, Marked, Put, Zeroed};
 
 pub mod pending;
+pub mod rows;
 
-// The place of a square: names + 1 rows and as many columns, row after row from `base` on, a byte a cell.
+// The place of a square: names + 1 rows and as many columns, row after row from `base` on. A row begins with a byte of its own.
 pub struct Square {
     pub base: usize,
     pub names: usize,
 }
 
-// The place of a cell: the only product with a row.
-fn cell(square: Square, x: usize, y: usize) -> usize
+// The bytes of a row.
+fn width(names: usize) -> usize
+    requires { ⌜ names ≤ mostNames ⌝ }
+    ensures { λ r. ⌜ (r ≡ width names) × (r ≤ mostNames) ⌝ }
+{
+    names / 8 + 1
+}
+
+// The byte of a cell: the only product with a row.
+fn place(square: Square, x: usize, y: usize) -> usize
     requires { ⌜ Small square ⌝ }
     requires { ⌜ (x ≤ square .names) × (y ≤ square .names) ⌝ }
-    ensures { λ r. ⌜ Cell square x y r ⌝ }
+    ensures { λ r. ⌜ Place square x y r ⌝ }
 {
-    square.base + (x * (square.names + 1) + y)
+    let width = width(square.names);
+    square.base + (x * width + y / 8)
 }
 
 // Whether a cell is marked.
@@ -28,8 +39,10 @@ pub fn is_marked(work: &[u8], square: Square, x: usize, y: usize) -> bool
     requires { ⌜ (x ≤ square .names) × (y ≤ square .names) ⌝ }
     ensures { λ r. ⌜ Tells r (Marked square (now (work .entry)) x y) ⌝ }
 {
-    let i = cell(square, x, y);
-    if work[i] == 1 {
+    let i = place(square, x, y);
+    let byte = work[i];
+    let bit = (byte >> (y % 8)) % 2;
+    if bit == 1 {
         return true;
     }
     false
@@ -41,11 +54,13 @@ pub fn mark(work: &mut [u8], square: Square, x: usize, y: usize) -> bool
     requires { ⌜ (x ≤ square .names) × (y ≤ square .names) ⌝ }
     ensures { λ r. ⌜ Put square x y (now (work .entry)) (now (work .exit)) r ⌝ }
 {
-    let i = cell(square, x, y);
-    if work[i] == 1 {
+    let i = place(square, x, y);
+    let byte = work[i];
+    let bit = (byte >> (y % 8)) % 2;
+    if bit == 1 {
         return false;
     }
-    work[i] = 1;
+    work[i] = byte | (1 << (y % 8));
     true
 }
 

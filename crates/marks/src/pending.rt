@@ -1,7 +1,7 @@
 // Cells that wait to be dealt with: a stack of new marks, so that each is dealt with once. It is only a hint: nothing is said
 // of what it holds, so whoever takes a cell from it looks whether the cell is marked.
 ghost use mathlib.Core.Path.{_≡_};
-ghost use Prim.Native.Nat.{_≤_};
+ghost use Prim.Native.Nat.{_≤_, _<_};
 ghost use Rattle.marks.specs.Squares.{Room, Put};
 use crate::Square;
 use crate::mark;
@@ -40,7 +40,7 @@ fn narrow(x: usize) -> u16
 }
 
 // Lets a cell wait. Out of range nothing happens.
-pub fn note(pending: &mut [u16; Pending::LENGTH], x: usize, y: usize) {
+fn note(pending: &mut [u16; Pending::LENGTH], x: usize, y: usize) {
     let count = wide(pending[0]);
     if count < Pending::ROOM {
         if x < Pending::NODES {
@@ -53,7 +53,9 @@ pub fn note(pending: &mut [u16; Pending::LENGTH], x: usize, y: usize) {
 }
 
 // Takes the last cell that waits. Where there is none, a row that is out of range.
-pub fn take(pending: &mut [u16; Pending::LENGTH]) -> Place {
+pub fn take(pending: &mut [u16; Pending::LENGTH]) -> Place
+    ensures { λ r. ⌜ r .y < 128 ⌝ }
+{
     let count = wide(pending[0]);
     if 0 < count {
         if count <= Pending::ROOM {

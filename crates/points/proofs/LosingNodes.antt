@@ -94,7 +94,7 @@ module _ {t : List ℕ} {q : Square} {w o l : List ℕ} {i : ℕ} (given : OfAto
 
 module _ {t : List ℕ} {q : Square} {w o l : List ℕ} {i : ℕ} (given : OfAtom t q w o l i) {e : ℕ} {v : List ℕ} (adds : Adds (ownerAt o i) e (λ x. NodeBelow t q w o l i x → ⊥) (NodeBelow t q w o l i) l v) {r : Bool} (tells : Tells r (NodeBelow t q w o v i e)) where
   pub node-lost : {p : Bool} {u : List ℕ} (row : ℕ) → row ≡ ownerAt o i → e ≤ q .names → r ≡ false → Put grid row e v u p → Adds (ownerAt o i) (e + 1) (λ x. NodeBelow t q w o l i x → ⊥) (NodeBelow t q w o l i) l u
-  node-lost row is h z put = adds-more (given .owner) (omega (arith, given .inclusive .few)) (given-after given adds .grid) adds (refuted (tells-before given adds tells) z) (rw is at put)
+  node-lost row is h z put = adds-more adds (refuted (tells-before given adds tells) z) (rw is at put)
 
   pub node-kept : r ≡ true → Adds (ownerAt o i) (e + 1) (λ x. NodeBelow t q w o l i x → ⊥) (NodeBelow t q w o l i) l v
   node-kept z = adds-skipped adds (tells-before given adds tells .sound z)

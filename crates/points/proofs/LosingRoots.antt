@@ -113,7 +113,7 @@ module _ {s t : List ℕ} {q : Square} {w o : List ℕ} {x : Extent} {a p ln l :
 
   module _ {e : ℕ} {v : List ℕ} (adds : Adds (ownerAt p i) e (λ k. RootBelowAtom s t q w o (x .atoms) a p ln l i k → ⊥) (RootBelowAtom s t q w o (x .atoms) a p ln l i) l v) {r : Bool} (tells : Tells r (RootBelowAtom s t q w o (x .atoms) a p ln v i e)) where
     pub root-lost : {z : Bool} {u : List ℕ} (row : ℕ) → row ≡ ownerAt p i → e < x .roots → r ≡ false → Put grid row e v u z → Adds (ownerAt p i) (e + 1) (λ k. RootBelowAtom s t q w o (x .atoms) a p ln l i k → ⊥) (RootBelowAtom s t q w o (x .atoms) a p ln l i) l u
-    root-lost row is h z put = adds-more (given .owner) (omega (arith, given .few)) (given-after adds .roots) adds (refuted (tells-before adds tells) z) (rw is at put)
+    root-lost row is h z put = adds-more adds (refuted (tells-before adds tells) z) (rw is at put)
 
     pub root-kept : r ≡ true → Adds (ownerAt p i) (e + 1) (λ k. RootBelowAtom s t q w o (x .atoms) a p ln l i k → ⊥) (RootBelowAtom s t q w o (x .atoms) a p ln l i) l v
     root-kept z = adds-skipped adds (tells-before adds tells .sound z)

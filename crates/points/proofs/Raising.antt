@@ -135,7 +135,7 @@ module _ {s t : List ℕ} {q : Square} {w o a : List ℕ} {i : ℕ} (given : OfA
 -- the turns
 module _ {s t : List ℕ} {q : Square} {w o a : List ℕ} {i : ℕ} (given : OfAtom s t q w o a i) {e : ℕ} {b : List ℕ} (adds : Adds (ownerAt o i) e (AtomBelow s t q w o a i) (λ y. AtomBelow s t q w o a i y → ⊥) a b) {r : Bool} (tells : Tells r (AtomBelow s t q w o b i e)) where
   pub raise-sets : {p : Bool} {v : List ℕ} (row : ℕ) → row ≡ ownerAt o i → e < q .names → r ≡ true → Put grid row e b v p → Adds (ownerAt o i) (e + 1) (AtomBelow s t q w o a i) (λ y. AtomBelow s t q w o a i y → ⊥) a v
-  raise-sets row is h z put = adds-more (given .owner) (omega (arith, given .setting .ranges .few)) (given-after given adds .rows) adds (tells-before given adds tells .sound z) (rw is at put)
+  raise-sets row is h z put = adds-more adds (tells-before given adds tells .sound z) (rw is at put)
 
   pub raise-skips : r ≡ false → Adds (ownerAt o i) (e + 1) (AtomBelow s t q w o a i) (λ y. AtomBelow s t q w o a i y → ⊥) a b
   raise-skips z = adds-skipped adds (refuted (tells-before given adds tells) z)

@@ -14,7 +14,7 @@ abbrev pub grid : Square
 grid = record { base = 0; names = 127 }
 
 pub record Grid (w : List ℕ) : Type 0 where
-  pub room : 16384 ≤ length w
+  pub room : 2048 ≤ length w
 
 abbrev pub Set : List ℕ → ℕ → ℕ → Type 0
 Set w k y = Marked grid w k y

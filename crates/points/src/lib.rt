@@ -13,8 +13,8 @@ pub mod roots;
 // The rows of a grid, and the places in a row: as many as there can be roots, or nodes.
 pub const SIDE: usize = 128;
 
-// The bytes of a grid.
-pub const AREA: usize = 16384;
+// The bytes of a grid: a bit a place.
+pub const AREA: usize = 2048;
 
 pub fn is_set(rows: &[u8], k: usize, y: usize) -> bool
     requires { ⌜ Grid (now rows) ⌝ }

@@ -23,7 +23,7 @@ use Rattle.concept.specs.Bytes.{conceptOk, IsTextOf}
 use Rattle.concept.proofs.Texts.{accepted-is-text}
 use Rattle.marks.specs.declared.Square.{Square}
 use Rattle.marks.specs.Squares.{size, Room, Zeroed, Frame}
-use Rattle.marks.proofs.Squares.{zeroed-unmarked}
+use Rattle.marks.proofs.Squares.{span-size, zeroed-unmarked}
 use Rattle.classification.specs.Inclusions.{Unclassified, Classified}
 use Rattle.question.specs.declared.Asked.{Asked}
 use Rattle.question.specs.declared.Asked.the-variants.{Answer, Refused}
@@ -43,10 +43,10 @@ module _ {s t c d w : List ℕ} {n cells : ℕ} (given : ToAnswer s t c d w n ce
   few = omega (arith, given .names, few-names s (given .release .accepted))
 
   room-in : {v : List ℕ} → length v ≡ length w → Room square v
-  room-in long = record { small = record { few = omega (arith, few); near = omega arith }; fits = omega (arith, given .cells-are, given .room) }
+  room-in long = record { small = record { few = omega (arith, few); near = omega arith }; fits = omega (arith, span-size n, given .cells-are, given .room) }
 
   pub to-classify : {v : List ℕ} → Zeroed cells w v → Unclassified s t (record { base = 0; names = n }) v
-  to-classify zeroed = record { release = given .release; names = given .names; room = room-in (zeroed .long); unmarked = zeroed-unmarked zeroed (omega (arith, given .cells-are)) }
+  to-classify zeroed = record { release = given .release; names = given .names; room = room-in (zeroed .long); unmarked = zeroed-unmarked zeroed (omega (arith, span-size n, given .cells-are)) }
 
   text : {b : List ℕ} → textOk s b ≡ true → IsTextOf n (rolesOf s) (conceptIn s b) b
   text {b} ok = rw (given .names) (accepted-is-text (namesOf s) (rolesOf s) b ok)
@@ -70,7 +70,7 @@ module _ {s t c d w : List ℕ} {n cells : ℕ} (given : ToAnswer s t c d w n ce
         cleared = rw (← z) record {
           long = cleared .long ∙ (classified .frame .long ∙ zeroed .long);
           zero = cleared .zero;
-          past = λ i h. cleared .past i h ∙ (classified .frame .past i (omega (arith, given .cells-are)) ∙ zeroed .past i (omega arith));
+          past = λ i h. cleared .past i h ∙ (classified .frame .past i (omega (arith, span-size n, given .cells-are)) ∙ zeroed .past i (omega arith));
         };
       }
 

@@ -5,28 +5,24 @@ use mathlib.Core.Path.{_≡_, refl}
 use mathlib.Core.List.{List}
 use Prim.Native.Nat.{ℕ, _+_, _≤_, _<_}
 use native.Mathlib.Omega.{arith}
-use lib.ListN.{length, getD, replicate, length-replicate, getD-replicate}
+use lib.ListN.{replicate, length-replicate, getD-replicate}
 use Rattle.el.specs.Concepts.{Concept}
 use Rattle.el.specs.Derivability.{Derives, IsAnswer}
 use Rattle.el.proofs.Derivations.{_▹_}
 use Rattle.release.specs.Files.{axiomsOf}
-use Rattle.marks.specs.Squares.{cell, size, Unmarked}
-use Rattle.marks.proofs.Squares.{cell-below}
+use Rattle.marks.specs.Squares.{span, width, place, Unmarked}
+use Rattle.marks.proofs.Squares.{place-below, zero-unmarked}
 use Rattle.outline.specs.declared.Extent.{Extent}
 use Rattle.outline.specs.Atoms.{atomsFrom, rootOf, Same}
 use Rattle.points.specs.Grids.{grid, Grid, Set}
 use Rattle.question.specs.Evaluation.{rootPoint, Lost}
 
-pub zeros-grid : (k : ℕ) → 16384 ≤ k → Grid (replicate k 0)
+pub zeros-grid : (k : ℕ) → 2048 ≤ k → Grid (replicate k 0)
 zeros-grid k h = record { room = rw length-replicate h }
 
-pub zeros-unmarked : (k : ℕ) → 16384 ≤ k → Unmarked grid (replicate k 0)
-unfolding size
-zeros-unmarked k h = record {
-  none = λ x y a b m.
-      let zero : _≡_ {A = ℕ} (getD (replicate k 0) (cell grid x y) 0) 0 = getD-replicate {A = ℕ} k (cell grid x y) 0 0 (omega (arith, cell-below grid x y a b)) in
-      omega (arith, m .is);
-}
+pub zeros-unmarked : (k : ℕ) → 2048 ≤ k → Unmarked grid (replicate k 0)
+unfolding span width
+zeros-unmarked k h = record { none = λ x y a b m. zero-unmarked (getD-replicate {A = ℕ} k (place grid x y) 0 0 (omega (arith, place-below grid x y a b))) m }
 
 module _ {s o : List ℕ} {r : Extent} {p : List ℕ} {u : Extent} {l : List ℕ} (lost : Lost s o r p u l) (whole : 0 < r .roots) {c d : Concept} (below : Same (axiomsOf s) c (rootPoint o r 0)) (above : Same (axiomsOf s) d (rootOf (atomsFrom p 0 (u .atoms)) 0)) where
   pub verdict-lost : Set l 0 0 → IsAnswer (axiomsOf s) c d 0

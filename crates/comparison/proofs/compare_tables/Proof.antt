@@ -10,43 +10,33 @@ use Rattle.comparison.proofs.result.write_bytes.Reads as write-bytes-re
 use Rattle.marks.proofs.clear.Reads as clear-reads
 use Rattle.marks.proofs.size.Reads as size-reads
 
--- src/lib.rt:56:9
 size-requires : tie.Need-size-requires
 size-requires c κs = omega (arith, few (c .before .before .before .before .before .before .before .pre .0 .both))
 
--- src/lib.rt:57:5
 fill-requires : tie.Need-fill-requires
 fill-requires c κs = (c .before .before .before .before .before .before .before .before .before .pre .0, record { is = c .before .size .ensures .0; small = c .before .size .ensures .1 })
 
--- src/lib.rt:58:87
 mul-clear : tie.Need-mul-clear
 mul-clear c = search needs
 
--- src/lib.rt:59:88
 mul-clear-2 : tie.Need-mul-clear-2
 mul-clear-2 c = search needs
 
--- src/lib.rt:60:5
 write-bytes-requires : tie.Need-write-bytes-requires
 write-bytes-requires c κs = let p = c .before .before .before .before .before .before .before .before .before .before .before .before .before .before .pre in (readable (p .0) (record { is = c .before .before .before .before .before .before .size .ensures .0; small = c .before .before .before .before .before .before .size .ensures .1 }) (c .before .before .before .before .fill .ensures), p .1)
 
--- src/lib.rt:61:24
 mul-clear-3 : tie.Need-mul-clear-3
 mul-clear-3 c = search needs
 
--- src/lib.rt:61:5
 clear-requires : tie.Need-clear-requires
 clear-requires c κs = search needs
 
--- src/lib.rt:41:1
 same-length : tie.Need-same-length
 same-length c = search needs
 
--- src/lib.rt:41:1
 same-length-2 : tie.Need-same-length-2
 same-length-2 c = search needs
 
--- src/lib.rt:41:1
 returns : tie.Need-returns
 returns c = compared (c .before .before .before .before .before .before .before .before .before .before .before .before .before .before .before .before .before .before .before .before .before .pre .0) (record { is = c .before .before .before .before .before .before .before .before .before .before .before .before .before .size .ensures .0; small = c .before .before .before .before .before .before .before .before .before .before .before .before .before .size .ensures .1 }) (c .before .before .before .before .before .before .before .before .before .before .before .fill .ensures) (c .before .before .before .before .before .before .write-bytes .ensures) (c .before .before .clear .ensures)
 

@@ -8,31 +8,24 @@ use Rattle.backward.proofs.mark_lost_below.Reads as mark-lost-below-reads
 use Rattle.comparison.proofs.fill_inclusions.Reads as fill-inclusions-reads
 use Rattle.forward.proofs.mark_lost_above.Reads as mark-lost-above-reads
 
--- src/lib.rt:50:5
 fill-inclusions-requires : tie.Need-fill-inclusions-requires
 fill-inclusions-requires c κs = search needs
 
--- src/lib.rt:51:87
 mul-t15 : tie.Need-mul-t15
 mul-t15 c = search needs
 
--- src/lib.rt:52:5
 mark-lost-above-requires : tie.Need-mark-lost-above-requires
 mark-lost-above-requires c κs = let p = c .before .before .before .before .before .before .before .before .before .before .before .pre in (forward-asks (p .0) (p .1) (c .before .before .before .fill-inclusions .ensures), few (p .0 .both))
 
--- src/lib.rt:53:88
 mul-t15-2 : tie.Need-mul-t15-2
 mul-t15-2 c = search needs
 
--- src/lib.rt:54:5
 mark-lost-below-requires : tie.Need-mark-lost-below-requires
 mark-lost-below-requires c κs = let p = c .before .before .before .before .before .before .before .before .before .before .before .before .before .before .before .pre in backward-asks (p .0) (p .1) (c .before .before .before .before .before .before .before .fill-inclusions .ensures) (c .before .before .before .mark-lost-above .ensures)
 
--- src/lib.rt:35:1
 same-length : tie.Need-same-length
 same-length c = search needs
 
--- src/lib.rt:35:1
 returns : tie.Need-returns
 returns c = let p = c .before .before .before .before .before .before .before .before .before .before .before .before .before .before .before .before .before .before .pre in all-marked (p .0) (p .1) (c .before .before .before .before .before .before .before .before .before .before .fill-inclusions .ensures) (c .before .before .before .before .before .before .mark-lost-above .ensures) (c .before .before .mark-lost-below .ensures)
 

@@ -5,15 +5,12 @@ use Rattle.layout.proofs.has_name.Tie as tie
 use Rattle.layout.proofs.has_name.Reads as reads
 use Rattle.layout.proofs.has_name.Lts as lts
 
--- src/lib.rt:65:16
 shared-slice-read-result : tie.Need-shared-slice-read-result
 shared-slice-read-result c = search needs
 
--- src/lib.rt:65:9
 returns : tie.Need-returns
 returns c = name-inside (c .before .before .before .args .layout) (c .before .before .before .args .signature .now) (c .before .before .before .args .name) (c .before .if1 .taken)
 
--- src/lib.rt:60:1
 returns-2 : tie.Need-returns-2
 returns-2 c = name-outside (c .before .before .args .layout) (c .before .before .args .signature .now) (c .before .before .args .name) (c .if1 .left)
 

@@ -5,19 +5,15 @@ use Rattle.layout.proofs.has_role.Tie as tie
 use Rattle.layout.proofs.has_role.Reads as reads
 use Rattle.layout.proofs.has_role.Lts as lts
 
--- src/lib.rt:76:26
 add-result : tie.Need-add-result
 add-result c = search needs
 
--- src/lib.rt:76:16
 shared-slice-read-result : tie.Need-shared-slice-read-result
 shared-slice-read-result c = search needs
 
--- src/lib.rt:76:9
 returns : tie.Need-returns
 returns c = role-inside (c .before .before .before .before .args .layout) (c .before .before .before .before .args .signature .now) (c .before .before .before .before .args .role) (c .before .before .if1 .taken)
 
--- src/lib.rt:71:1
 returns-2 : tie.Need-returns-2
 returns-2 c = role-outside (c .before .before .args .layout) (c .before .before .args .signature .now) (c .before .before .args .role) (c .if1 .left)
 

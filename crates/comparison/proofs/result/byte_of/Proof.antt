@@ -9,27 +9,21 @@ use Rattle.comparison.proofs.result.byte.Reads as byte-reads
 use Rattle.layout.proofs.has_name.Reads as has-name-reads
 use Rattle.layout.proofs.is_marked.Reads as is-marked-reads
 
--- src/result.rt:33:8
 has-name-requires : tie.Need-has-name-requires
 has-name-requires c κs = search needs
 
--- src/result.rt:34:13
 is-marked-requires : tie.Need-is-marked-requires
 is-marked-requires c κs = search needs
 
--- src/result.rt:35:13
 is-marked-requires-2 : tie.Need-is-marked-requires-2
 is-marked-requires-2 c κs = search needs
 
--- src/result.rt:36:9
 byte-requires : tie.Need-byte-requires
 byte-requires c κs = search needs
 
--- src/result.rt:36:9
 returns : tie.Need-returns
 returns c = byte-inside (sym (c .before .before .before .before .has-name .ensures) ∙ c .before .before .before .if1 .taken) (c .before .before .is-marked .ensures) (c .before .is-marked2 .ensures) (c .byte .ensures)
 
--- src/result.rt:28:1
 returns-2 : tie.Need-returns-2
 returns-2 c = byte-outside (sym (c .before .has-name .ensures) ∙ c .if1 .left)
 

@@ -16,35 +16,27 @@ Inv-loop signature work result₀ forward backward name₀ result name = (name �
 abbrev μ-loop : tie.MeasureT-loop
 μ-loop signature work result₀ forward backward name₀ result name = forward .names - name
 
--- src/result.rt:48:5
 loop-holds : tie.Need-loop-holds Inv-loop μ-loop
 loop-holds c = (search needs, refl, written-none)
 
--- src/result.rt:49:13
 byte-of-requires : tie.Need-byte-of-requires Inv-loop μ-loop
 byte-of-requires c κs = search needs
 
--- src/result.rt:50:9
 slice-write-result : tie.Need-slice-write-result Inv-loop μ-loop
 slice-write-result c = search needs
 
--- src/result.rt:51:9
 add-name : tie.Need-add-name Inv-loop μ-loop
 add-name c = search needs
 
--- src/result.rt:48:5
 loop-less : tie.Need-loop-less Inv-loop μ-loop
 loop-less c = search needs
 
--- src/result.rt:48:5
 loop-again : tie.Need-loop-again Inv-loop μ-loop
 loop-again c = (search needs, simp length-set (search needs), written-more (c .byte-of .result) (search needs) (c .before .before .before .loop .inv .2) (c .byte-of .ensures))
 
--- src/result.rt:42:1
 same-length : tie.Need-same-length Inv-loop μ-loop
 same-length c = search needs
 
--- src/result.rt:42:1
 returns : tie.Need-returns Inv-loop μ-loop
 returns c = written-end (c .before .before .loop .inv .0) (c .if1 .left) (c .before .before .loop .inv .2)
 

@@ -7,27 +7,21 @@ use Rattle.marks.proofs.pending.put.Lts as lts
 use Rattle.marks.proofs.mark.Reads as mark-reads
 use Rattle.marks.proofs.pending.note.Reads as note-reads
 
--- src/pending.rt:81:8
 mark-requires : tie.Need-mark-requires
 mark-requires c κs = search needs
 
--- src/pending.rt:82:9
 note-requires : tie.Need-note-requires
 note-requires c κs = search needs
 
--- src/pending.rt:83:9
 same-length : tie.Need-same-length
 same-length c = search needs
 
--- src/pending.rt:83:9
 returns : tie.Need-returns
 returns c = put-told (c .before .before .if1 .taken) (c .before .before .before .before .before .mark .ensures)
 
--- src/pending.rt:70:1
 same-length-2 : tie.Need-same-length-2
 same-length-2 c = search needs
 
--- src/pending.rt:70:1
 returns-2 : tie.Need-returns-2
 returns-2 c = put-told (c .if1 .left) (c .before .before .before .mark .ensures)
 

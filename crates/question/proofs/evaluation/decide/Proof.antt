@@ -41,7 +41,7 @@ slice-aggregate-fill-above-2 c = search needs
 fill-above-requires : tie.Need-fill-above-requires
 fill-above-requires c κs =
     let p = c .before .before .before .before .before .before .before .before .before .before .before .before .before .before .before .before .before .pre in
-    record { world = p .world; shape = c .before .before .before .before .before .before .before .before .before .outline .ensures _ _ _ (p .below-text) .shape; rows = zeros-grid 16384 (omega arith); unmarked = zeros-unmarked 16384 (omega arith) }
+    record { world = p .world; shape = c .before .before .before .before .before .before .before .before .before .outline .ensures _ _ _ (p .below-text) .shape; rows = zeros-grid 2048 (omega arith); unmarked = zeros-unmarked 2048 (omega arith) }
 
 slice-aggregate-lose-all : tie.Need-slice-aggregate-lose-all
 slice-aggregate-lose-all c = search needs
@@ -61,7 +61,7 @@ slice-aggregate-lose-all-5 c = search needs
 lose-all-requires : tie.Need-lose-all-requires
 lose-all-requires c κs =
     let p = c .before .before .before .before .before .before .before .before .before .before .before .before .before .before .before .before .before .before .before .before .before .before .before .before .pre in
-    record { world = p .world; from = c .before .before .before .before .before .before .before .before .before .before .before .before .before .before .before .before .outline .ensures _ _ _ (p .below-text) .shape; filled = c .before .before .before .before .before .before .fill-above .ensures; shape = c .before .before .before .before .before .before .before .before .before .before .before .outline2 .ensures _ _ _ (p .above-text) .shape; nodes = zeros-grid 16384 (omega arith); roots = zeros-grid 16384 (omega arith); nodes-unmarked = zeros-unmarked 16384 (omega arith); roots-unmarked = zeros-unmarked 16384 (omega arith) }
+    record { world = p .world; from = c .before .before .before .before .before .before .before .before .before .before .before .before .before .before .before .before .outline .ensures _ _ _ (p .below-text) .shape; filled = c .before .before .before .before .before .before .fill-above .ensures; shape = c .before .before .before .before .before .before .before .before .before .before .before .outline2 .ensures _ _ _ (p .above-text) .shape; nodes = zeros-grid 2048 (omega arith); roots = zeros-grid 2048 (omega arith); nodes-unmarked = zeros-unmarked 2048 (omega arith); roots-unmarked = zeros-unmarked 2048 (omega arith) }
 
 slice-aggregate-is-set : tie.Need-slice-aggregate-is-set
 slice-aggregate-is-set c = search needs
