@@ -1,9 +1,10 @@
 -- The rules over the table are the rules over the axioms.
---   step-includes        a step is a rule of Includes, by the marks as a test: so steps are sound
+--   step-includes        a step is a rule of Includes, by the marks as a test, or goes through a node: so steps are sound
 --   rows-closed          where no row has anything left to mark, the test is closed under Includes: so it is complete
 use mathlib.Core.Path.{_≡_, refl, sym, ap, _∙_}
 use mathlib.Core.Bool.{true}
 use mathlib.Core.List.{List}
+use mathlib.Core.Logic.{_⊎_, inl, inr}
 use Prim.Native.Nat.{ℕ, suc, _≤_, _<_}
 use native.Mathlib.Omega.{arith}
 use Rattle.el.specs.Concepts.{Node, named}
@@ -16,27 +17,35 @@ use Rattle.release.specs.Files.{namesOf, axiomsOf}
 use Rattle.release.specs.Readings.{nodeNumber}
 use Rattle.release.specs.Tables.{countAt, partAt, Release}
 use Rattle.marks.specs.declared.Square.{Square}
+use Rattle.marks.specs.Squares.{Marked}
 use Rattle.marks.specs.Passes.{Below}
 use Rattle.classification.specs.Inclusions.{nodeAt, says}
-use Rattle.classification.specs.Steps.{PartMarked, Gathers, Fills, Step, to-itself, to-top, to-part, to-gathered, to-filled, Row}
+use Rattle.classification.specs.Steps.{PartMarked, Gathers, Fills, Step, to-itself, to-top, to-part, to-gathered, to-filled, through, Row}
 use Rattle.classification.proofs.Nodes.{at-top, at-name, number-at, number-small, said, marked}
 use Rattle.classification.proofs.AxiomRows.{is-conjunction, is-restriction, conjunction-joins, restriction-restricts, defined-conjunction, defined-restriction, is-2, is-4, role-is, name-is, filler-is, part-in, part-at, formed, own, find, joined, restricted}
 
--- a step is a rule
+-- by a node between
+pub record Through (q : Square) (w : List ℕ) (x y : ℕ) : Type 0 where
+  pub it : ℕ
+  pub inside : it ≤ q .names
+  pub first : Marked q w x it
+  pub second : Marked q w it y
+
+-- a step is a rule, or goes through a node
 module _ {s t : List ℕ} {q : Square} (r : Release s t) (names : q .names ≡ namesOf s) where
   module _ {w : List ℕ} {x y : ℕ} (h : x ≤ q .names) (l : y ≤ q .names) where
-    pub step-includes : Step s t q w x y → Includes (axiomsOf s) (says q w) (nodeAt (q .names) x) (nodeAt (q .names) y)
-    step-includes (to-itself e) = the-same (ap (nodeAt (q .names)) (sym e))
-    step-includes (to-top e) = to-everything (at-top (q .names) y e)
+    pub step-includes : Step s t q w x y → Includes (axiomsOf s) (says q w) (nodeAt (q .names) x) (nodeAt (q .names) y) ⊎ Through q w x y
+    step-includes (to-itself e) = inl (the-same (ap (nodeAt (q .names)) (sym e)))
+    step-includes (to-top e) = inl (to-everything (at-top (q .names) y e))
     step-includes (to-part b i bn j m c e) =
         let f = joined r names b bn j in
         let p = part-in f (is-conjunction f j) i c in
         let yn : y < q .names = rw e (formed r names .parts-in (f .member) p) in
-        by-part (f .member) (said (nodeAt (q .names) x) (named (f .it .left)) (number-at (q .names) x h) (f .left) m) p (ap named (sym e) ∙ sym (at-name (q .names) y yn))
+        inl (by-part (f .member) (said (nodeAt (q .names) x) (named (f .it .left)) (number-at (q .names) x h) (f .left) m) p (ap named (sym e) ∙ sym (at-name (q .names) y yn)))
     step-includes (to-gathered yn g) =
         let f = find r names y yn (λ z. omega (arith, g .kind)) in
         let k = defined-conjunction f (g .kind) in
-        by-parts (f .member) (name-is f yn) (record { is-defined = k .1; is-conjunction = k .0 }) (record { at = λ z i. let p = part-at f (k .0) i in said (nodeAt (q .names) x) (named z) (number-at (q .names) x h) refl (rw (p .is) at (g .parts .at (p .at) (p .inside) .is)) })
+        inl (by-parts (f .member) (name-is f yn) (record { is-defined = k .1; is-conjunction = k .0 }) (record { at = λ z i. let p = part-at f (k .0) i in said (nodeAt (q .names) x) (named z) (number-at (q .names) x h) refl (rw (p .is) at (g .parts .at (p .at) (p .inside) .is)) }))
     step-includes (to-filled b bn j m yn g) =
         let f = find r names y yn (λ z. omega (arith, g .kind)) in
         let k = defined-restriction f (g .kind) in
@@ -44,7 +53,8 @@ module _ {s t : List ℕ} {q : Square} (r : Release s t) (names : q .names ≡ n
         let i = is-restriction c j in
         let fills : el.Fills (roleOf (c .it)) (f .it) = record { is-defined = k .1; is-restriction = k .0; role = sym (role-is c i) ∙ (g .role ∙ role-is f (k .0)) } in
         let link : Link (says q w) (nodeAt (q .names) x) (roleOf (c .it)) (c .it) = record { above = said (nodeAt (q .names) x) (named (c .it .left)) (number-at (q .names) x h) (c .left) m; is-restriction = i; role = refl } in
-        by-filler (f .member) (name-is f yn) fills (c .member) link (said (fillerOf (c .it)) (fillerOf (f .it)) (filler-is c i) (filler-is f (k .0)) (g .filler))
+        inl (by-filler (f .member) (name-is f yn) fills (c .member) link (said (fillerOf (c .it)) (fillerOf (f .it)) (filler-is c i) (filler-is f (k .0)) (g .filler)))
+    step-includes (through c cn m k) = inr (record { it = c; inside = cn; first = m; second = k })
 
   -- and rows with nothing left to mark are closed
   module _ {v : List ℕ} (rows : Below (Row s t q) (suc (q .names)) v) (a b : Node) (i : IsNode (q .names) a) where

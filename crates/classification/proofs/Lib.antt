@@ -3,4 +3,5 @@ pub mod Marking
 pub mod Nodes
 pub mod AxiomRows
 pub mod Bridge
+pub mod Settled
 pub mod Meaning

@@ -3,12 +3,12 @@
 --   part-pass, fill-pass, ..-pass         a mark put by a rule is a pass
 --   ..-grows                              the same where only the growth is asked, for a new mark that is dealt with
 --   over-filler, served-over              what a new mark asks of restrictions, from the tests made on them
---   spread-.., looked-..                  what is left to mark by a name, by its axiom's form and by whether it is marked
+--   spread-.., gathered-.., absorb-..     what is left to mark by a name's axiom, by its conjuncts, by a row above;  row-done: in a row
 -- Not here: laws of passes for any rule (crate marks).
 use mathlib.Core.Path.{_≡_, refl, sym, _∙_}
-use mathlib.Core.Bool.{Bool, true, false, false≢true}
+use mathlib.Core.Bool.{Bool, true, false, _||_, false≢true}
 use mathlib.Core.List.{List}
-use Prim.Native.Nat.{ℕ, _≤_, _<_}
+use Prim.Native.Nat.{ℕ, suc, _≤_, _<_}
 use native.Mathlib.Omega.{arith}
 use Rattle.el.proofs.Tests.{Tells, tells-as, never, always}
 use Rattle.el.proofs.Derivations.{Serves}
@@ -16,11 +16,11 @@ use Rattle.release.specs.Files.{joins, restricts}
 use Rattle.release.specs.Tables.{kindAt, roleAt, fillerAt, countAt, partAt, HasRow, Conjunctive, Shaped}
 use Rattle.release.proofs.Faults.{restricts-not-joins}
 use Rattle.marks.specs.declared.Square.{Square}
-use Rattle.marks.specs.Squares.{Room, Marked, Put}
-use Rattle.marks.specs.Passes.{Grows, Pass, Below, Due}
+use Rattle.marks.specs.Squares.{Room, Marked, Put, Within, NextMarked}
+use Rattle.marks.specs.Passes.{Grows, Pass, Below, Due, FromRow}
 use Rattle.marks.proofs.Squares.{refuted}
-use Rattle.marks.proofs.Passes.{room-stays, marks-stay, below-end, pass-none, pass-as, pass-with, pass-changed, pass-unchanged, put-pass, due-as}
-use Rattle.classification.specs.Steps.{PartMarked, Gathers, Fills, Step, to-itself, to-top, to-part, to-gathered, to-filled, Filled, Spread, Looked, Seeds, Row, Setting, InRow, Source, Pair, MarkedCell, Over, Served}
+use Rattle.marks.proofs.Passes.{room-stays, marks-stay, below-end, pass-none, pass-as, pass-with, pass-changed, pass-unchanged, pass-both, pass-by, grows-as, put-pass, put-grows, due-as}
+use Rattle.classification.specs.Steps.{PartMarked, Gathers, Fills, Step, to-itself, to-top, to-part, to-gathered, to-filled, through, Filled, Spread, Gathered, Above, Own, Seeded, Settled, Seeds, Setting, InRow, Source, Pair, MarkedCell, Over, Served}
 
 not-both : {A : Type 0} (k : ℕ) → joins k ≡ true → restricts k ≡ true → A
 not-both k j r = absurd (false≢true (sym (restricts-not-joins k r) ∙ j))
@@ -55,10 +55,10 @@ module _ {s t : List ℕ} {q : Square} {w : List ℕ} {x b : ℕ} (h : InRow s t
 -- conjuncts and fillers of a marked name
 module _ {s t : List ℕ} {q : Square} {w v : List ℕ} {x b : ℕ} {r : Bool} (h : Source s t q w x b) where
   pub part-pass : {i y : ℕ} → joins (kindAt t b) ≡ true → i < countAt s t b → y ≡ partAt s t b i → Put q x y w v r → Pass (Step s t q) q (PartMarked s t q x b i) w v r
-  part-pass {i} j l e p = pass-as (λ m. record { is = rw (← e) m }) (put-pass p (h .in-row .setting .room) (h .in-row .row) (part-small (h .in-row) j l e) (to-part b i (h .in-row .name) j (h .marked) l e))
+  part-pass {i} j l e p = pass-as (λ m. record { is = rw (← e) m }) (put-pass p (to-part b i (h .in-row .name) j (h .marked) l e))
 
   pub fill-pass : {y : ℕ} → restricts (kindAt t b) ≡ true → y < q .names → Fills t q b y w → Put q x y w v r → Pass (Step s t q) q (Filled t q x b y) w v r
-  fill-pass k l f p = pass-as (λ m. record { marked = λ g. m }) (put-pass p (h .in-row .setting .room) (h .in-row .row) (omega arith) (to-filled b (h .in-row .name) k (h .marked) l f))
+  fill-pass k l f p = pass-as (λ m. record { marked = λ g. m }) (put-pass p (to-filled b (h .in-row .name) k (h .marked) l f))
 
 pub filled : {t : List ℕ} {q : Square} {w : List ℕ} {x b y : ℕ} {r : Bool} → Due r (Fills t q b y w) (Marked q w x y) → r ≡ false → Filled t q x b y w
 filled d e = record { marked = d .settled e }
@@ -93,38 +93,41 @@ module _ {s t : List ℕ} {q : Square} {w : List ℕ} {x b : ℕ} where
   pub spread-none : joins (kindAt t b) ≡ false → restricts (kindAt t b) ≡ false → Spread s t q x b w
   spread-none j r = record { parts = λ k. absurd (false≢true (sym j ∙ k)); fillers = λ k. absurd (false≢true (sym r ∙ k)) }
 
-  spread-unmarked : (Marked q w x b → ⊥) → Spread s t q x b w
-  spread-unmarked f = record { parts = λ k m. absurd (f m); fillers = λ k m. absurd (f m) }
+  pub gathered-there : Marked q w x b → Pass (Step s t q) q (Gathered s t q x b) w w false
+  gathered-there m = pass-none (record { marked = λ g. m })
 
-  pub looked-marked : {v : List ℕ} {r : Bool} → Marked q w x b → Pass (Step s t q) q (Spread s t q x b) w v r → Pass (Step s t q) q (Looked s t q x b) w v r
-  looked-marked m p = pass-as (λ z. record { spread = z; gathered = λ g. marks-stay (p .grows) m }) p
+  pub gather-pass : {v : List ℕ} {r : Bool} → InRow s t q w x b → Gathers s t q x b w → Put q x b w v r → Pass (Step s t q) q (Gathered s t q x b) w v r
+  gather-pass h g p = pass-as (λ m. record { marked = λ z. m }) (put-pass p (to-gathered (h .name) g))
 
-  pub gather-pass : {v : List ℕ} {r : Bool} → InRow s t q w x b → (Marked q w x b → ⊥) → Gathers s t q x b w → Put q x b w v r → Pass (Step s t q) q (Looked s t q x b) w v r
-  gather-pass h f g p = pass-with (λ e m. absurd (f (rw e at m))) (put-pass p (h .setting .room) (h .row) (omega (arith, h .name)) (to-gathered (h .name) g))
-
-  pub looked-unmarked : (Marked q w x b → ⊥) → (Gathers s t q x b w → ⊥) → Pass (Step s t q) q (Looked s t q x b) w w false
-  looked-unmarked f g = pass-none (record { spread = spread-unmarked f; gathered = λ z. absurd (g z) })
+  pub gathered-not : (Gathers s t q x b w → ⊥) → Pass (Step s t q) q (Gathered s t q x b) w w false
+  gathered-not g = pass-none (record { marked = λ z. absurd (g z) })
 
 -- a row
 module _ {q : Square} {w u v : List ℕ} {x : ℕ} {a b : Bool} (room : Room q w) (h : x ≤ q .names) (p : Put q x x w u a) (o : Put q x (q .names) u v b) where
   itself : (s t : List ℕ) → Pass (Step s t q) q (λ z. Marked q z x x) w u a
-  itself s t = put-pass p room h h (to-itself refl)
+  itself s t = put-pass p (to-itself refl)
 
   top : (s t : List ℕ) → Pass (Step s t q) q (λ z. Marked q z x (q .names)) u v b
-  top s t = put-pass o (room-stays (itself s t .grows) room) h (omega arith) (to-top refl)
+  top s t = put-pass o (to-top refl)
 
   pub seeds-changed : b ≡ true → Seeds q x w v true
-  seeds-changed e = record { pass = λ s t. pass-changed (itself s t) (top s t) e }
+  seeds-changed e = record { pass = λ s t. pass-changed (itself s t) (top s t) e; itself = o .extends .stays x x (p .there) }
 
   pub seeds-unchanged : b ≡ false → Seeds q x w v a
-  seeds-unchanged e = record { pass = λ s t. pass-unchanged (λ d m. record { itself = d; top = m }) (itself s t) (top s t) e }
+  seeds-unchanged e = record { pass = λ s t. pass-unchanged (λ d m. record { itself = d; top = m }) (itself s t) (top s t) e; itself = o .extends .stays x x (p .there) }
 
-module _ {s t : List ℕ} {q : Square} {w u v : List ℕ} {x : ℕ} {a b : Bool} (p : Seeds q x w u a) (o : Pass (Step s t q) q (Below (Looked s t q x) (q .names)) u v b) where
-  pub row-changed : b ≡ true → Pass (Step s t q) q (Row s t q x) w v true
-  row-changed e = pass-changed (p .pass s t) o e
+-- the rows of the nodes above x
+module _ {s t : List ℕ} {q : Square} {x c : ℕ} where
+  pub absorb-pass : {w v : List ℕ} {r : Bool} → Marked q w x c → c ≤ q .names → Pass (FromRow q c x) q (Within q c x) w v r → Pass (Step s t q) q (Above q x c) w v r
+  absorb-pass m h p = pass-as (λ k. record { within = λ z. k }) (pass-by (λ u y z g i j f. through c h (rw (f .row) (marks-stay g m)) (f .marked)) p)
 
-  pub row-unchanged : b ≡ false → Pass (Step s t q) q (Row s t q x) w v a
-  row-unchanged e = pass-unchanged (λ d l. record { seeded = d; looked = l }) (p .pass s t) o e
+-- nothing is above x before the next mark of its row
+pub above-none : {q : Square} {w : List ℕ} {x k r : ℕ} → NextMarked q w x k r → (i : ℕ) → k ≤ i → i < r → Above q x i w
+above-none n i h l = record { within = λ m. absurd (n .none i h l m) }
+
+-- the four parts of a pass over a row
+pub row-done : {s t : List ℕ} {q : Square} {w u v o p : List ℕ} {x : ℕ} {a b c d : Bool} → Seeds q x w u a → Pass (Step s t q) q (Own s t q x) u v b → Pass (Step s t q) q (Below (Gathered s t q x) (q .names)) v o c → Pass (Step s t q) q (Below (Above q x) (suc (q .names))) o p d → Pass (Step s t q) q (Settled s t q x) w p (((a || b) || c) || d)
+row-done {s} {t} {q} {x = x} e f g h = pass-both {D = λ u. Seeded q x u × (Own s t q x u × Below (Gathered s t q x) (q .names) u)} (λ y z. record { seeded = y .0; own = y .1 .0; gathered = y .1 .1; above = z }) (pass-both {D = λ u. Seeded q x u × Own s t q x u} (λ y z. (y .0, (y .1, z))) (pass-both (λ y z. (y, z)) (e .pass s t) f) g) h
 
 pub in-row-at : {s t : List ℕ} {q : Square} {w : List ℕ} {x b z : ℕ} → InRow s t q w x b → z < q .names → InRow s t q w x z
 in-row-at h l = record { setting = h .setting; row = h .row; name = l }
@@ -138,28 +141,22 @@ module _ {s t : List ℕ} {q : Square} {w v : List ℕ} (g : Grows (Step s t q) 
   cell-stays h = record { setting = setting-stays g (h .setting); row = h .row; column = h .column; marked = marks-stay g (h .marked) }
 
   pub over-stays : {b y : ℕ} → Over s t q w b y → Over s t q v b y
-  over-stays h = record { setting = setting-stays g (h .setting); name = h .name; is-restriction = h .is-restriction; marked = marks-stay g (h .marked) }
-
-  pub served-stays : {b z : ℕ} → Served s t q w b z → Served s t q v b z
-  served-stays h = record { setting = setting-stays g (h .setting); left = h .left; is-restriction = h .is-restriction; right = h .right; fills = record { kind = h .fills .kind; role = h .fills .role; filler = marks-stay g (h .fills .filler) } }
+  over-stays h = record { setting = setting-stays g (h .setting); name = h .name; itself = marks-stay g (h .itself); is-restriction = h .is-restriction; marked = marks-stay g (h .marked) }
 
 module _ {s t : List ℕ} {q : Square} {w v : List ℕ} {r : Bool} where
   pub gather-grows : {x y : ℕ} → InRow s t q w x y → Gathers s t q x y w → Put q x y w v r → Grows (Step s t q) q w v
-  gather-grows h g p = put-pass p (h .setting .room) (h .row) (omega (arith, h .name)) (to-gathered (h .name) g) .grows
+  gather-grows h g p = put-grows p (to-gathered (h .name) g)
 
-  pub serve-grows : {x b z : ℕ} → Served s t q w b z → x ≤ q .names → Marked q w x b → Put q x z w v r → Grows (Step s t q) q w v
-  serve-grows {b = b} h l m p = put-pass p (h .setting .room) l (omega (arith, h .right)) (to-filled b (h .left) (h .is-restriction) m (h .right) (h .fills)) .grows
+  pub served-grows : {b z : ℕ} → Served s t q w b z → Put q b z w v r → Grows (Step s t q) q w v
+  served-grows {b = b} h p = put-grows p (to-filled b (h .left) (h .is-restriction) (h .itself) (h .right) (h .fills))
 
-  pub itself-grows : {x : ℕ} → Setting s t q w → x ≤ q .names → Put q x x w v r → Grows (Step s t q) q w v
-  itself-grows h l p = put-pass p (h .room) l l (to-itself refl) .grows
+  pub through-grows : {x c y : ℕ} → c ≤ q .names → Marked q w x c → Marked q w c y → Put q x y w v r → Grows (Step s t q) q w v
+  through-grows {c = c} h m k p = put-grows p (through c h m k)
 
-  pub top-grows : {x : ℕ} → Setting s t q w → x ≤ q .names → Put q x (q .names) w v r → Grows (Step s t q) q w v
-  top-grows h l p = put-pass p (h .room) l (omega arith) (to-top refl) .grows
-
-pub over-filler : {s t : List ℕ} {q : Square} {w : List ℕ} {x y b filler : ℕ} → MarkedCell s t q w x y → b < q .names → filler ≡ fillerAt t b → filler ≡ x → restricts (kindAt t b) ≡ true → Over s t q w b y
-over-filler {t = t} {x = x} {b = b} h l e f r =
+pub over-filler : {s t : List ℕ} {q : Square} {w : List ℕ} {x y b filler : ℕ} → MarkedCell s t q w x y → b < q .names → filler ≡ fillerAt t b → filler ≡ x → restricts (kindAt t b) ≡ true → Marked q w b b → Over s t q w b y
+over-filler {t = t} {x = x} {b = b} h l e f r m =
     let p : fillerAt t b ≡ x = sym e ∙ f in
-    record { setting = h .setting; name = l; is-restriction = r; marked = rw p (h .marked) }
+    record { setting = h .setting; name = l; itself = m; is-restriction = r; marked = rw p (h .marked) }
 
 pub source-of : {s t : List ℕ} {q : Square} {w : List ℕ} {x y : ℕ} → MarkedCell s t q w x y → y < q .names → Source s t q w x y
 source-of h l = record { in-row = record { setting = h .setting; row = h .row; name = l }; marked = h .marked }
@@ -167,4 +164,21 @@ source-of h l = record { in-row = record { setting = h .setting; row = h .row; n
 pub served-over : {s t : List ℕ} {q : Square} {w : List ℕ} {b y z kind filler role role-z : ℕ} → Over s t q w b y → z < q .names → kind ≡ kindAt t z → kind ≡ 4 → filler ≡ fillerAt t z → filler ≡ y → role ≡ roleAt t b → role-z ≡ roleAt t z → Serves role role-z → Served s t q w b z
 served-over {t = t} {y = y} {z = z} h l e four f g i j same =
     let p : fillerAt t z ≡ y = sym f ∙ g in
-    record { setting = h .setting; left = h .name; is-restriction = h .is-restriction; right = l; fills = record { kind = sym e ∙ four; role = sym i ∙ same ∙ j; filler = rw p (h .marked) } }
+    record { setting = h .setting; left = h .name; itself = h .itself; is-restriction = h .is-restriction; right = l; fills = record { kind = sym e ∙ four; role = sym i ∙ same ∙ j; filler = rw p (h .marked) } }
+
+-- a row handed on to another one, in which its node is marked
+pub row-grows : {s t : List ℕ} {q : Square} {w v : List ℕ} {x c : ℕ} → Marked q w x c → c ≤ q .names → Grows (FromRow q c x) q w v → Grows (Step s t q) q w v
+row-grows {c = c} m h g = grows-as (λ u y z k i j f. through c h (rw (f .row) (marks-stay k m)) (f .marked)) g
+
+pub own-none : {s t : List ℕ} {q : Square} {w : List ℕ} {x : ℕ} → q .names ≤ x → Pass (Step s t q) q (Own s t q x) w w false
+own-none h = pass-none (record { spread = λ l. absurd (omega arith) })
+
+pub own-pass : {s t : List ℕ} {q : Square} {w v : List ℕ} {x : ℕ} {r : Bool} → Pass (Step s t q) q (Spread s t q x x) w v r → Pass (Step s t q) q (Own s t q x) w v r
+own-pass p = pass-as (λ z. record { spread = λ l. z }) p
+
+-- what a new mark asks, once it is put
+pub cell-put : {s t : List ℕ} {q : Square} {w v : List ℕ} {x y : ℕ} {r : Bool} → Setting s t q w → x ≤ q .names → y ≤ q .names → Grows (Step s t q) q w v → Put q x y w v r → MarkedCell s t q v x y
+cell-put h i j g p = record { setting = setting-stays g h; row = i; column = j; marked = p .there }
+
+pub conjunct-small : {n : ℕ} {s t : List ℕ} {b i y : ℕ} → Conjunctive n s t b → i < countAt s t b → y ≡ partAt s t b i → y < n
+conjunct-small {b = b} {i = i} h l e = omega (arith, e, h .shaped .part b i (h .is-name) (h .is-conjunction) l)

@@ -5,8 +5,10 @@
 use mathlib.Core.Path.{_≡_, refl}
 use mathlib.Core.Bool.{true}
 use mathlib.Core.List.{List}
+use mathlib.Core.Logic.{inl, inr}
 use Prim.Native.Nat.{ℕ, suc, _≤_}
 use Rattle.el.specs.Concepts.{Node}
+use Rattle.el.proofs.Derivations.{_▹_}
 use Rattle.el.proofs.Nodes.{IsNode}
 use Rattle.el.proofs.Classification.{Included, includes-sound, includes-complete, Table}
 use Rattle.release.specs.Files.{namesOf, axiomsOf}
@@ -18,9 +20,10 @@ use Rattle.marks.specs.Passes.{Closed, Below, AllGood}
 use Rattle.marks.proofs.Squares.{frame-marked, marked-frame}
 use Rattle.marks.proofs.Passes.{grows-frame, grows-good, unmarked-good}
 use Rattle.classification.specs.Inclusions.{nodeAt, says, Unclassified, Inclusions, Classified}
-use Rattle.classification.specs.Steps.{Step, Row, Setting}
+use Rattle.classification.specs.Steps.{Step, Row, Settled, Setting}
 use Rattle.classification.proofs.Nodes.{at-node, number-at, at-number, number-small, said, marked}
 use Rattle.classification.proofs.AxiomRows.{formed, ranges}
+use Rattle.classification.proofs.Settled.{rows-settled}
 use Rattle.classification.proofs.Bridge.{step-includes, rows-closed}
 
 abbrev Means : List ℕ → ℕ → ℕ → ℕ → Type 0
@@ -35,15 +38,18 @@ setting u = record { shaped = ranges (u .release) (u .names); room = u .room }
 
 module _ {s t : List ℕ} {q : Square} (r : Release s t) (names : q .names ≡ namesOf s) where
   step-sound : (w : List ℕ) (x y : ℕ) → AllGood q (Means s (q .names)) w → x ≤ q .names → y ≤ q .names → Step s t q w x y → Means s (q .names) x y
-  step-sound w x y g h l o = includes-sound (formed r names) (says q w) (good-says s q w g) (nodeAt (q .names) x) (nodeAt (q .names) y) (at-node (q .names) x h) (at-node (q .names) y l) (step-includes r names h l o)
+  step-sound w x y g h l o = elim (step-includes r names h l o) [
+    | inl i ↦ includes-sound (formed r names) (says q w) (good-says s q w g) (nodeAt (q .names) x) (nodeAt (q .names) y) (at-node (q .names) x h) (at-node (q .names) y l) i
+    | inr i ↦ g .good x (i .it) h (i .inside) (i .first) ▹ g .good (i .it) y (i .inside) l (i .second)
+  ]
 
   rows-complete : (v : List ℕ) → Below (Row s t q) (suc (q .names)) v → (x y : ℕ) → x ≤ q .names → y ≤ q .names → Means s (q .names) x y → Marked q v x y
   rows-complete v rows x y h l p = marked (nodeAt (q .names) x) (nodeAt (q .names) y) (number-at (q .names) x h) (number-at (q .names) y l) (includes-complete (formed r names) (says q v) (λ a b i j k. rows-closed r names rows a b i k) (nodeAt (q .names) x) (nodeAt (q .names) y) (at-node (q .names) x h) (at-node (q .names) y l) p)
 
-pub classified : {s t : List ℕ} {q : Square} {w v : List ℕ} → Unclassified s t q w → Closed (Step s t q) q (Below (Row s t q) (suc (q .names))) w v → Classified s q w v
+pub classified : {s t : List ℕ} {q : Square} {w v : List ℕ} → Unclassified s t q w → Closed (Step s t q) q (Below (Settled s t q) (suc (q .names))) w v → Classified s q w v
 classified {v = v} u c = record {
   frame = grows-frame (c .grows);
-  inclusions = record { sound = grows-good (λ z x y g k h l o. step-sound (u .release) (u .names) z x y k h l o) (unmarked-good (u .unmarked)) (c .grows) .good; complete = rows-complete (u .release) (u .names) v (c .done) };
+  inclusions = record { sound = grows-good (λ z x y g k h l o. step-sound (u .release) (u .names) z x y k h l o) (unmarked-good (u .unmarked)) (c .grows) .good; complete = rows-complete (u .release) (u .names) v (rows-settled (setting u .shaped) (c .done)) };
 }
 
 -- a square apart from the one that changed keeps them

@@ -6,7 +6,7 @@
 use mathlib.Core.Path.{_≡_}
 use mathlib.Core.Bool.{Bool}
 use mathlib.Core.List.{List}
-use Prim.Native.Nat.{ℕ, _≤_}
+use Prim.Native.Nat.{ℕ, _%_, _≤_}
 use lib.Dec.{eqb}
 use lib.ListN.{getD}
 use Rattle.el.specs.Lists.{pick}
@@ -16,13 +16,13 @@ use Rattle.release.specs.Files.{namesOf, axiomsOf}
 use Rattle.release.specs.Readings.{nodeNumber}
 use Rattle.release.specs.Tables.{Release}
 use Rattle.marks.specs.declared.Square.{Square}
-use Rattle.marks.specs.Squares.{cell, Room, Marked, Unmarked, Frame}
+use Rattle.marks.specs.Squares.{bit, place, Room, Marked, Unmarked, Frame}
 
 unfoldable pub nodeAt : ℕ → ℕ → Node
 nodeAt n k = pick (eqb k n) everything (named k)
 
 unfoldable pub says : Square → List ℕ → Node → Node → Bool
-says q w x y = eqb (getD w (cell q (nodeNumber (q .names) x) (nodeNumber (q .names) y)) 0) 1
+says q w x y = eqb (bit (getD w (place q (nodeNumber (q .names) x) (nodeNumber (q .names) y)) 0) (nodeNumber (q .names) y % 8)) 1
 
 -- what classifying asks: an accepted release and its table, and a square without marks for its nodes
 pub record Unclassified (s t : List ℕ) (q : Square) (w : List ℕ) : Type 0 where

@@ -1,21 +1,22 @@
 -- The rules of classification over the table of a release, by the marks of a square q in the memory w.
 --   Step s t q w x y        a rule allows the mark (x, y): x ⊑ x; x ⊑ ⊤; a conjunct of a marked name; a defined conjunction of
---                           which all conjuncts are marked; a defined ∃r.B, by a marked name below ∃r.C with (C, B) marked
+--                           which all conjuncts are marked; a defined ∃r.B, by a marked name below ∃r.C with (C, B) marked; what
+--                           is marked in the row of a marked node
 --   Gathers s t q x y w     y is a defined conjunction, and its conjuncts are marked in row x
 --   Fills t q b y w         y is a defined ∃r.B, and b lies below ∃r.C with (C, B) marked
 --   Looked s t q x b w      nothing is left to mark in row x by b: by its axiom if it is marked, and itself by its conjuncts
---   Row s t q x w           nothing is left to mark in row x
+--   Row s t q x w           nothing is left to mark in row x;  Settled s t q x w: what a pass finishes of it
 -- Not here: what the rules mean (proofs/Bridge).
 use mathlib.Core.Path.{_≡_}
 use mathlib.Core.Bool.{Bool, true}
 use mathlib.Core.List.{List}
-use Prim.Native.Nat.{ℕ, _*_, _≤_, _<_}
+use Prim.Native.Nat.{ℕ, suc, _*_, _≤_, _<_}
 use lib.ListN.{length}
 use Rattle.el.proofs.Derivations.{Serves}
 use Rattle.release.specs.Files.{joins, restricts}
 use Rattle.release.specs.Tables.{kindAt, roleAt, fillerAt, countAt, partAt, Shaped}
 use Rattle.marks.specs.declared.Square.{Square}
-use Rattle.marks.specs.Squares.{Room, Marked}
+use Rattle.marks.specs.Squares.{Room, Marked, Within}
 use Rattle.marks.specs.Passes.{Pass, Below}
 
 -- the conjunct i of b is marked in row x
@@ -37,6 +38,7 @@ pub data Step (s t : List ℕ) (q : Square) (w : List ℕ) (x y : ℕ) : Type 0 
   to-part : (b i : ℕ) → b < q .names → joins (kindAt t b) ≡ true → Marked q w x b → i < countAt s t b → y ≡ partAt s t b i → Step s t q w x y
   to-gathered : y < q .names → Gathers s t q x y w → Step s t q w x y
   to-filled : (b : ℕ) → b < q .names → restricts (kindAt t b) ≡ true → Marked q w x b → y < q .names → Fills t q b y w → Step s t q w x y
+  through : (c : ℕ) → c ≤ q .names → Marked q w x c → Marked q w c y → Step s t q w x y
 
 -- nothing left to mark: the ∃r.B that b serves for; what the axiom of b gives; b; the two cells that are marked in any row
 pub record Filled (t : List ℕ) (q : Square) (x b y : ℕ) (w : List ℕ) : Type 0 where
@@ -58,9 +60,27 @@ pub record Row (s t : List ℕ) (q : Square) (x : ℕ) (w : List ℕ) : Type 0 w
   pub seeded : Seeded q x w
   pub looked : Below (Looked s t q x) (q .names) w
 
+-- what a pass finishes of a row: the marks that its own axiom gives, the conjunctions gathered in it, and the rows above it. Where
+-- all rows are so, nothing is left to mark in any (proofs/Settled)
+pub record Gathered (s t : List ℕ) (q : Square) (x y : ℕ) (w : List ℕ) : Type 0 where
+  pub marked : Gathers s t q x y w → Marked q w x y
+
+pub record Above (q : Square) (x c : ℕ) (w : List ℕ) : Type 0 where
+  pub within : Marked q w x c → Within q c x w
+
+pub record Own (s t : List ℕ) (q : Square) (x : ℕ) (w : List ℕ) : Type 0 where
+  pub spread : x < q .names → Spread s t q x x w
+
+pub record Settled (s t : List ℕ) (q : Square) (x : ℕ) (w : List ℕ) : Type 0 where
+  pub seeded : Seeded q x w
+  pub own : Own s t q x w
+  pub gathered : Below (Gathered s t q x) (q .names) w
+  pub above : Below (Above q x) (suc (q .names)) w
+
 -- a pass that seeds a row, whatever the release
 pub record Seeds (q : Square) (x : ℕ) (w v : List ℕ) (r : Bool) : Type 0 where
   pub pass : (s t : List ℕ) → Pass (Step s t q) q (Seeded q x) w v r
+  pub itself : Marked q v x x
 
 -- what the functions ask: a table and a square; a cell of it; a marked cell
 pub record Setting (s t : List ℕ) (q : Square) (w : List ℕ) : Type 0 where
@@ -96,12 +116,14 @@ pub record MarkedCell (s t : List ℕ) (q : Square) (w : List ℕ) (x y : ℕ) :
 pub record Over (s t : List ℕ) (q : Square) (w : List ℕ) (b y : ℕ) : Type 0 where
   pub setting : Setting s t q w
   pub name : b < q .names
+  pub itself : Marked q w b b
   pub is-restriction : restricts (kindAt t b) ≡ true
   pub marked : Marked q w (fillerAt t b) y
 
 pub record Served (s t : List ℕ) (q : Square) (w : List ℕ) (b z : ℕ) : Type 0 where
   pub setting : Setting s t q w
   pub left : b < q .names
+  pub itself : Marked q w b b
   pub is-restriction : restricts (kindAt t b) ≡ true
   pub right : z < q .names
   pub fills : Fills t q b z w

@@ -1,124 +1,81 @@
-// What a new mark gives: marks put at the cells that depend on it, each as a rule allows. Where to look is read from lists that
+// What a new mark gives: marks put at the cells that depend on it, each as a rule allows. Where to look is read from chains that
 // are only hints, so each rule is tested at its cell.
-ghost use mathlib.Core.Path.{_≡_};
-ghost use mathlib.Core.Bool.{true};
-ghost use Rattle.release.specs.Files.{joins, restricts};
-ghost use Rattle.release.specs.Tables.{kindAt};
 ghost use Rattle.marks.specs.Passes.{Grows};
-ghost use Rattle.classification.specs.Steps.{Step, InRow, Source, MarkedCell, Over, Served};
-use crate::lists;
-use crate::lists::Lists;
-use crate::rules::fills;
+ghost use Rattle.classification.specs.Steps.{Step, InRow, MarkedCell, Over, Served};
+use crate::chains;
+use crate::chains::Chains;
 use crate::rules::gathers;
 use marks::Square;
 use marks::is_marked;
 use marks::pending::Pending;
 use marks::pending::put;
+use marks::rows::next_marked;
 use release::table;
 
-// The conjuncts of b, which is marked in row x.
-fn put_parts(
+// Hands what is above z on to row x, in which z is marked.
+fn put_row(
     file: &[u8],
     table: &[u16],
     work: &mut [u8],
     pending: &mut [u16; Pending::LENGTH],
     square: Square,
     x: usize,
-    b: usize,
+    z: usize,
 )
-    requires { ⌜ Source (now file) (now table) square (now work) x b ⌝ }
-    requires { ⌜ joins (kindAt (now table) b) ≡ true ⌝ }
+    requires { ⌜ MarkedCell (now file) (now table) square (now work) x z ⌝ }
     ensures { λ _. ⌜ Grows (Step (now (file .entry)) (now (table .entry)) square) square (now (work .entry)) (now (work .exit)) ⌝ }
 {
-    let count = table::count(file, table, b);
-    let mut i = 0;
-    while i < count {
-        let part = table::part(file, table, b, i);
-        i += 1;
-        put(work, pending, square, x, part);
+    let mut y = next_marked(work, square, z, 0);
+    while y <= square.names {
+        put(work, pending, square, x, y);
+        y = next_marked(work, square, z, y + 1);
     }
 }
 
-// The defined restrictions that b serves for, which is marked in row x: those found so far.
-fn put_filled(
-    file: &[u8],
-    table: &[u16],
-    work: &mut [u8],
-    lists: &[u8; Lists::LENGTH],
-    pending: &mut [u16; Pending::LENGTH],
-    square: Square,
-    x: usize,
-    b: usize,
-)
-    requires { ⌜ Source (now file) (now table) square (now work) x b ⌝ }
-    requires { ⌜ restricts (kindAt (now table) b) ≡ true ⌝ }
-    ensures { λ _. ⌜ Grows (Step (now (file .entry)) (now (table .entry)) square) square (now (work .entry)) (now (work .exit)) ⌝ }
-{
-    let mut i = 0;
-    while i < Lists::NAMES {
-        let y = lists::at(lists, Lists::FILLED, b, i);
-        i += 1;
-        if square.names <= y {
-            return;
-        }
-        if fills(table, work, square, x, b, y) {
-            put(work, pending, square, x, y);
-        }
-    }
-}
-
-// The defined conjunctions with the conjunct y of which all conjuncts are marked in row x.
-fn put_gathered(
-    file: &[u8],
-    table: &[u16],
-    work: &mut [u8],
-    lists: &[u8; Lists::LENGTH],
-    pending: &mut [u16; Pending::LENGTH],
-    square: Square,
-    x: usize,
-    y: usize,
-)
-    requires { ⌜ InRow (now file) (now table) square (now work) x y ⌝ }
-    ensures { λ _. ⌜ Grows (Step (now (file .entry)) (now (table .entry)) square) square (now (work .entry)) (now (work .exit)) ⌝ }
-{
-    let mut i = 0;
-    while i < Lists::NAMES {
-        let z = lists::at(lists, Lists::GATHERING, y, i);
-        i += 1;
-        if square.names <= z {
-            return;
-        }
-        if gathers(file, table, work, square, x, z) {
-            put(work, pending, square, x, z);
-        }
-    }
-}
-
-// What the axiom of b gives, which is marked in row x.
-fn put_by_axiom(
-    file: &[u8],
-    table: &[u16],
-    work: &mut [u8],
-    lists: &[u8; Lists::LENGTH],
-    pending: &mut [u16; Pending::LENGTH],
-    square: Square,
-    x: usize,
-    b: usize,
-)
-    requires { ⌜ Source (now file) (now table) square (now work) x b ⌝ }
-    ensures { λ _. ⌜ Grows (Step (now (file .entry)) (now (table .entry)) square) square (now (work .entry)) (now (work .exit)) ⌝ }
-{
-    if table::is_conjunction(table, b) {
-        put_parts(file, table, work, pending, square, x, b);
-        return;
-    }
-    if table::is_restriction(table, b) {
-        put_filled(file, table, work, lists, pending, square, x, b);
-    }
-}
-
-// The defined restriction z, for which b serves, in each row in which b is marked.
+// Hands z, which is marked in row b, on to each row in which b is marked and z is not.
 fn put_in_rows(
+    file: &[u8],
+    table: &[u16],
+    work: &mut [u8],
+    pending: &mut [u16; Pending::LENGTH],
+    square: Square,
+    b: usize,
+    z: usize,
+)
+    requires { ⌜ MarkedCell (now file) (now table) square (now work) b z ⌝ }
+    ensures { λ _. ⌜ Grows (Step (now (file .entry)) (now (table .entry)) square) square (now (work .entry)) (now (work .exit)) ⌝ }
+{
+    let mut next = 0;
+    while next <= square.names {
+        let x = next;
+        next += 1;
+        if is_marked(work, square, x, b) {
+            if put(work, pending, square, x, z) {
+                put_row(file, table, work, pending, square, x, z);
+            }
+        }
+    }
+}
+
+// Hands the new mark z of row b on: what is above z to row b, and both to the rows below b.
+fn hand_on(
+    file: &[u8],
+    table: &[u16],
+    work: &mut [u8],
+    pending: &mut [u16; Pending::LENGTH],
+    square: Square,
+    b: usize,
+    z: usize,
+)
+    requires { ⌜ MarkedCell (now file) (now table) square (now work) b z ⌝ }
+    ensures { λ _. ⌜ Grows (Step (now (file .entry)) (now (table .entry)) square) square (now (work .entry)) (now (work .exit)) ⌝ }
+{
+    put_row(file, table, work, pending, square, b, z);
+    put_in_rows(file, table, work, pending, square, b, z);
+}
+
+// The defined restriction z, for which b serves.
+fn put_served(
     file: &[u8],
     table: &[u16],
     work: &mut [u8],
@@ -130,12 +87,38 @@ fn put_in_rows(
     requires { ⌜ Served (now file) (now table) square (now work) b z ⌝ }
     ensures { λ _. ⌜ Grows (Step (now (file .entry)) (now (table .entry)) square) square (now (work .entry)) (now (work .exit)) ⌝ }
 {
-    let mut next = 0;
-    while next <= square.names {
-        let x = next;
-        next += 1;
-        if is_marked(work, square, x, b) {
-            put(work, pending, square, x, z);
+    if put(work, pending, square, b, z) {
+        hand_on(file, table, work, pending, square, b, z);
+    }
+}
+
+// The defined conjunctions with the conjunct y of which all conjuncts are marked in row x.
+fn put_gathered(
+    file: &[u8],
+    table: &[u16],
+    work: &mut [u8],
+    chains: &[u16; Chains::LENGTH],
+    pending: &mut [u16; Pending::LENGTH],
+    square: Square,
+    x: usize,
+    y: usize,
+)
+    requires { ⌜ InRow (now file) (now table) square (now work) x y ⌝ }
+    ensures { λ _. ⌜ Grows (Step (now (file .entry)) (now (table .entry)) square) square (now (work .entry)) (now (work .exit)) ⌝ }
+{
+    let mut entry = chains::entry(chains, Chains::CONJUNCTS, y);
+    let mut left = Chains::ENTRIES;
+    while 0 < left {
+        left -= 1;
+        let z = entry / 16;
+        if square.names <= z {
+            return;
+        }
+        entry = chains::entry(chains, Chains::LINKS, entry);
+        if gathers(file, table, work, square, x, z) {
+            if put(work, pending, square, x, z) {
+                hand_on(file, table, work, pending, square, x, z);
+            }
         }
     }
 }
@@ -145,7 +128,7 @@ fn put_over(
     file: &[u8],
     table: &[u16],
     work: &mut [u8],
-    lists: &mut [u8; Lists::LENGTH],
+    chains: &[u16; Chains::LENGTH],
     pending: &mut [u16; Pending::LENGTH],
     square: Square,
     b: usize,
@@ -155,18 +138,19 @@ fn put_over(
     ensures { λ _. ⌜ Grows (Step (now (file .entry)) (now (table .entry)) square) square (now (work .entry)) (now (work .exit)) ⌝ }
 {
     let role = table::role(table, b);
-    let mut i = 0;
-    while i < Lists::NAMES {
-        let z = lists::at(lists, Lists::FILLING, y, i);
-        i += 1;
+    let mut entry = chains::entry(chains, Chains::FILLERS, y);
+    let mut left = Chains::ENTRIES;
+    while 0 < left {
+        left -= 1;
+        let z = entry;
         if square.names <= z {
             return;
         }
+        entry = chains::entry(chains, Chains::NEXT, z);
         if table::kind(table, z) == 4 {
             if table::filler(table, z) == y {
                 if role == table::role(table, z) {
-                    lists::add(lists, Lists::FILLED, b, z);
-                    put_in_rows(file, table, work, pending, square, b, z);
+                    put_served(file, table, work, pending, square, b, z);
                 }
             }
         }
@@ -178,7 +162,7 @@ fn put_by_fillers(
     file: &[u8],
     table: &[u16],
     work: &mut [u8],
-    lists: &mut [u8; Lists::LENGTH],
+    chains: &[u16; Chains::LENGTH],
     pending: &mut [u16; Pending::LENGTH],
     square: Square,
     x: usize,
@@ -187,16 +171,20 @@ fn put_by_fillers(
     requires { ⌜ MarkedCell (now file) (now table) square (now work) x y ⌝ }
     ensures { λ _. ⌜ Grows (Step (now (file .entry)) (now (table .entry)) square) square (now (work .entry)) (now (work .exit)) ⌝ }
 {
-    let mut i = 0;
-    while i < Lists::NAMES {
-        let b = lists::at(lists, Lists::FILLING, x, i);
-        i += 1;
+    let mut entry = chains::entry(chains, Chains::FILLERS, x);
+    let mut left = Chains::ENTRIES;
+    while 0 < left {
+        left -= 1;
+        let b = entry;
         if square.names <= b {
             return;
         }
-        if table::filler(table, b) == x {
-            if table::is_restriction(table, b) {
-                put_over(file, table, work, lists, pending, square, b, y);
+        entry = chains::entry(chains, Chains::NEXT, b);
+        if table::is_restriction(table, b) {
+            if table::filler(table, b) == x {
+                if is_marked(work, square, b, b) {
+                    put_over(file, table, work, chains, pending, square, b, y);
+                }
             }
         }
     }
@@ -207,7 +195,7 @@ pub fn deal(
     file: &[u8],
     table: &[u16],
     work: &mut [u8],
-    lists: &mut [u8; Lists::LENGTH],
+    chains: &[u16; Chains::LENGTH],
     pending: &mut [u16; Pending::LENGTH],
     square: Square,
     x: usize,
@@ -216,10 +204,9 @@ pub fn deal(
     requires { ⌜ MarkedCell (now file) (now table) square (now work) x y ⌝ }
     ensures { λ _. ⌜ Grows (Step (now (file .entry)) (now (table .entry)) square) square (now (work .entry)) (now (work .exit)) ⌝ }
 {
-    put_by_fillers(file, table, work, lists, pending, square, x, y);
+    put_by_fillers(file, table, work, chains, pending, square, x, y);
     if square.names <= y {
         return;
     }
-    put_by_axiom(file, table, work, lists, pending, square, x, y);
-    put_gathered(file, table, work, lists, pending, square, x, y);
+    put_gathered(file, table, work, chains, pending, square, x, y);
 }

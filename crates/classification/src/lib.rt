@@ -2,8 +2,8 @@
 ghost use Rattle.classification.specs.Inclusions.{Unclassified, Classified};
 use marks::Square;
 
+mod chains;
 mod consequences;
-mod lists;
 mod propagation;
 mod rules;
 mod sweep;

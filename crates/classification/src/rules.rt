@@ -6,14 +6,14 @@ ghost use Rattle.release.specs.Files.{joins, restricts};
 ghost use Rattle.release.specs.Tables.{kindAt, countAt, HasRow};
 ghost use Rattle.marks.specs.Squares.{Marked};
 ghost use Rattle.marks.specs.Passes.{Pass, Below, Due};
-ghost use Rattle.classification.specs.Steps.{Step, PartMarked, Gathers, Fills, Filled, Spread, Looked, InRow, Source, Pair};
+ghost use Rattle.classification.specs.Steps.{Step, PartMarked, Gathers, Fills, Filled, Spread, Gathered, InRow, Source, Pair};
 use marks::Square;
 use marks::is_marked;
 use marks::mark;
 use release::table;
 
 // Marks the conjuncts of b, which is marked in row x. Whether a mark is new.
-fn mark_parts(
+pub fn mark_parts(
     file: &[u8],
     table: &[u16],
     work: &mut [u8],
@@ -40,7 +40,7 @@ fn mark_parts(
 
 // Whether y is not marked in row x yet, and is a defined ∃r.B that b serves for. The cell is looked at first, since most are
 // marked or not asked for.
-pub fn fills(table: &[u16], work: &[u8], square: Square, x: usize, b: usize, y: usize) -> bool
+fn fills(table: &[u16], work: &[u8], square: Square, x: usize, b: usize, y: usize) -> bool
     requires { ⌜ Pair (now table) square (now work) x b y ⌝ }
     ensures { λ r. ⌜ Due r (Fills (now (table .entry)) square b y (now (work .entry))) (Marked square (now (work .entry)) x y) ⌝ }
 {
@@ -87,7 +87,14 @@ fn mark_filled(
 }
 
 // Marks what the axiom of b gives, which is marked in row x. Whether a mark is new.
-fn spread(file: &[u8], table: &[u16], work: &mut [u8], square: Square, x: usize, b: usize) -> bool
+pub fn spread(
+    file: &[u8],
+    table: &[u16],
+    work: &mut [u8],
+    square: Square,
+    x: usize,
+    b: usize,
+) -> bool
     requires { ⌜ Source (now file) (now table) square (now work) x b ⌝ }
     ensures { λ r. ⌜ Pass (Step (now (file .entry)) (now (table .entry)) square) square (Spread (now (file .entry)) (now (table .entry)) square x b) (now (work .entry)) (now (work .exit)) r ⌝ }
 {
@@ -121,16 +128,26 @@ pub fn gathers(file: &[u8], table: &[u16], work: &[u8], square: Square, x: usize
     true
 }
 
-// Marks what b gives in row x: if b is marked there, by its axiom; else b itself, by its conjuncts. Whether a mark is new.
-pub fn look(file: &[u8], table: &[u16], work: &mut [u8], square: Square, x: usize, b: usize) -> bool
-    requires { ⌜ InRow (now file) (now table) square (now work) x b ⌝ }
-    ensures { λ r. ⌜ Pass (Step (now (file .entry)) (now (table .entry)) square) square (Looked (now (file .entry)) (now (table .entry)) square x b) (now (work .entry)) (now (work .exit)) r ⌝ }
+// Marks a defined conjunction y in row x if all its conjuncts are marked there. Whether the mark is new.
+pub fn gather(
+    file: &[u8],
+    table: &[u16],
+    work: &mut [u8],
+    square: Square,
+    x: usize,
+    y: usize,
+) -> bool
+    requires { ⌜ InRow (now file) (now table) square (now work) x y ⌝ }
+    ensures { λ r. ⌜ Pass (Step (now (file .entry)) (now (table .entry)) square) square (Gathered (now (file .entry)) (now (table .entry)) square x y) (now (work .entry)) (now (work .exit)) r ⌝ }
 {
-    if is_marked(work, square, x, b) {
-        return spread(file, table, work, square, x, b);
+    if table::kind(table, y) != 2 {
+        return false;
     }
-    if gathers(file, table, work, square, x, b) {
-        return mark(work, square, x, b);
+    if is_marked(work, square, x, y) {
+        return false;
+    }
+    if gathers(file, table, work, square, x, y) {
+        return mark(work, square, x, y);
     }
     false
 }

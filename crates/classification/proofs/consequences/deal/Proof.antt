@@ -5,7 +5,6 @@ use Rattle.classification.proofs.consequences.deal.Statement.{statement
 use Rattle.classification.proofs.consequences.deal.Tie as tie
 use Rattle.classification.proofs.consequences.deal.Reads as reads
 use Rattle.classification.proofs.consequences.deal.Lts as lts
-use Rattle.classification.proofs.consequences.put_by_axiom.Reads as put-by-axiom-reads
 use Rattle.classification.proofs.consequences.put_by_fillers.Reads as put-by-fillers-reads
 use Rattle.classification.proofs.consequences.put_gathered.Reads as put-gathered-reads
 
@@ -16,19 +15,16 @@ same-length : tie.Need-same-length
 same-length c = search needs
 
 returns : tie.Need-returns
-returns c = search needs
-
-put-by-axiom-requires : tie.Need-put-by-axiom-requires
-put-by-axiom-requires c κs = source-of (cell-stays (c .before .before .before .before .before .before .before .put-by-fillers .ensures) (c .before .before .before .before .before .before .before .before .before .before .before .before .before .before .pre)) (c .before .before .before .if1 .left)
+returns c = c .before .before .before .before .put-by-fillers .ensures
 
 put-gathered-requires : tie.Need-put-gathered-requires
-put-gathered-requires c κs = source-of (cell-stays (grows-further (c .before .before .before .before .before .before .before .before .before .before .before .before .before .put-by-fillers .ensures) (c .before .before .before .before .before .put-by-axiom .ensures)) (c .before .before .before .before .before .before .before .before .before .before .before .before .before .before .before .before .before .before .before .before .pre)) (c .before .before .before .before .before .before .before .before .before .if1 .left) .in-row
+put-gathered-requires c κs = source-of (cell-stays (c .before .before .before .before .before .before .put-by-fillers .ensures) (c .before .before .before .before .before .before .before .before .before .before .before .before .pre)) (c .before .before .if1 .left) .in-row
 
 same-length-2 : tie.Need-same-length-2
 same-length-2 c = search needs
 
 returns-2 : tie.Need-returns-2
-returns-2 c = grows-further (c .before .before .before .before .before .before .before .before .before .before .before .before .before .before .before .before .put-by-fillers .ensures) (grows-further (c .before .before .before .before .before .before .before .before .put-by-axiom .ensures) (c .before .before .put-gathered .ensures))
+returns-2 c = grows-further (c .before .before .before .before .before .before .before .before .before .put-by-fillers .ensures) (c .before .before .put-gathered .ensures)
 
 pub deal-spec : {M : Type 1} → statement M
 deal-spec =
@@ -37,7 +33,6 @@ deal-spec =
     put-by-fillers-requires
     same-length
     returns
-    put-by-axiom-requires
     put-gathered-requires
     same-length-2
     returns-2)

@@ -1,4 +1,3 @@
-use Prim.Native.Nat.{_≤_, _-_}
 use mathlib.Core.Path.{_≡_, refl}
 use native.Mathlib.Omega.{arith}
 use borrow.Author.Needs.{needs}
@@ -6,60 +5,73 @@ use lib.ListN.{length}
 use Rattle.marks.specs.Passes.{Grows, none}
 use Rattle.marks.proofs.Passes.{grows-further}
 use Rattle.classification.specs.Steps.{Step}
-use Rattle.classification.proofs.Marking.{in-row-at, in-row-stays, gather-grows}
+use Rattle.classification.proofs.Marking.{in-row-at, in-row-stays, gather-grows, cell-put}
 use Rattle.classification.proofs.consequences.put_gathered.Statement.{statement}
 use Rattle.classification.proofs.consequences.put_gathered.Tie as tie
 use Rattle.classification.proofs.consequences.put_gathered.Reads as reads
 use Rattle.classification.proofs.consequences.put_gathered.Lts as lts
-use Rattle.classification.proofs.lists.at.Reads as at-reads
+use Rattle.classification.proofs.chains.entry.Reads as entry-reads
+use Rattle.classification.proofs.consequences.hand_on.Reads as hand-on-reads
 use Rattle.classification.proofs.rules.gathers.Reads as gathers-reads
 use Rattle.marks.proofs.pending.put.Reads as put-reads
 
 -- marks put by the rules
 abbrev Inv-loop : tie.InvT-loop
-Inv-loop file table work₀ lists pending₀ square x y i₀ work pending i = (i ≤ 127) × (length work ≡ length work₀) × Grows (Step file table square) square work₀ work
+Inv-loop file table work₀ chains pending₀ square x y entry₀ left₀ work pending entry left = (length work ≡ length work₀) × Grows (Step file table square) square work₀ work
 
 abbrev μ-loop : tie.MeasureT-loop
-μ-loop file table work₀ lists pending₀ square x y i₀ work pending i = 127 - i
+μ-loop file table work₀ chains pending₀ square x y entry₀ left₀ work pending entry left = left
+
+entry-requires : tie.Need-entry-requires Inv-loop μ-loop
+entry-requires c κs = search needs
 
 loop-holds : tie.Need-loop-holds Inv-loop μ-loop
-loop-holds c = (search needs, refl, none)
+loop-holds c = (refl, none)
 
-at-requires : tie.Need-at-requires Inv-loop μ-loop
-at-requires c κs = search needs
-
-add-i : tie.Need-add-i Inv-loop μ-loop
-add-i c = search needs
+sub-left : tie.Need-sub-left Inv-loop μ-loop
+sub-left c = search needs
 
 same-length : tie.Need-same-length Inv-loop μ-loop
 same-length c = search needs
 
 returns : tie.Need-returns Inv-loop μ-loop
-returns c = c .before .before .before .before .loop .inv .2
+returns c = c .before .before .before .loop .inv .1
+
+entry-requires-2 : tie.Need-entry-requires-2 Inv-loop μ-loop
+entry-requires-2 c κs = search needs
 
 gathers-requires : tie.Need-gathers-requires Inv-loop μ-loop
-gathers-requires c κs = in-row-at (in-row-stays (c .before .before .before .before .before .loop .inv .2) (c .before .before .before .before .before .before .before .before .before .pre)) (c .before .if1 .left)
+gathers-requires c κs = in-row-at (in-row-stays (c .before .before .before .before .before .loop .inv .1) (c .before .before .before .before .before .before .before .before .before .before .pre)) (c .before .before .if1 .left)
 
 put-requires : tie.Need-put-requires Inv-loop μ-loop
-put-requires c κs = let h = in-row-at (in-row-stays (c .before .before .before .before .before .before .before .before .before .loop .inv .2) (c .before .before .before .before .before .before .before .before .before .before .before .before .before .pre)) (c .before .before .before .before .before .if1 .left) in (h .setting .room, (h .row, omega (arith, h .name)))
+put-requires c κs = let h = in-row-at (in-row-stays (c .before .before .before .before .before .before .before .before .before .loop .inv .1) (c .before .before .before .before .before .before .before .before .before .before .before .before .before .before .pre)) (c .before .before .before .before .before .before .if1 .left) in (h .setting .room, (h .row, omega (arith, h .name)))
+
+hand-on-requires : tie.Need-hand-on-requires Inv-loop μ-loop
+hand-on-requires c κs = let h = in-row-at (in-row-stays (c .before .before .before .before .before .before .before .before .before .before .before .before .before .before .before .loop .inv .1) (c .before .before .before .before .before .before .before .before .before .before .before .before .before .before .before .before .before .before .before .before .pre)) (c .before .before .before .before .before .before .before .before .before .before .before .before .if1 .left) in cell-put (h .setting) (h .row) (omega (arith, h .name)) (gather-grows h (c .before .before .before .before .before .before .before .before .before .gathers .ensures .sound (c .before .before .before .before .before .before .before .before .if2 .taken)) (c .before .before .before .before .before .put .ensures)) (c .before .before .before .before .before .put .ensures)
 
 loop-less : tie.Need-loop-less Inv-loop μ-loop
 loop-less c = search needs
 
 loop-again : tie.Need-loop-again Inv-loop μ-loop
-loop-again c = let g = c .before .before .before .before .before .before .before .before .before .before .before .before .loop .inv .2 in (search needs, search needs, grows-further g (gather-grows (in-row-at (in-row-stays g (c .before .before .before .before .before .before .before .before .before .before .before .before .before .before .before .before .pre)) (c .before .before .before .before .before .before .before .before .if1 .left)) (c .before .before .before .before .before .before .gathers .ensures .sound (c .before .before .before .before .before .if2 .taken)) (c .before .before .put .ensures)))
+loop-again c = let g = c .before .before .before .before .before .before .before .before .before .before .before .before .before .before .before .before .before .before .loop .inv .1 in (search needs, grows-further g (grows-further (gather-grows (in-row-at (in-row-stays g (c .before .before .before .before .before .before .before .before .before .before .before .before .before .before .before .before .before .before .before .before .before .before .before .pre)) (c .before .before .before .before .before .before .before .before .before .before .before .before .before .before .before .if1 .left)) (c .before .before .before .before .before .before .before .before .before .before .before .before .gathers .ensures .sound (c .before .before .before .before .before .before .before .before .before .before .before .if2 .taken)) (c .before .before .before .before .before .before .before .before .put .ensures)) (c .before .before .hand-on .ensures)))
 
 loop-less-2 : tie.Need-loop-less-2 Inv-loop μ-loop
 loop-less-2 c = search needs
 
 loop-again-2 : tie.Need-loop-again-2 Inv-loop μ-loop
-loop-again-2 c = (search needs, search needs, c .before .before .before .before .before .before .before .loop .inv .2)
+loop-again-2 c = let g = c .before .before .before .before .before .before .before .before .before .before .before .before .before .loop .inv .1 in (search needs, grows-further g (gather-grows (in-row-at (in-row-stays g (c .before .before .before .before .before .before .before .before .before .before .before .before .before .before .before .before .before .before .pre)) (c .before .before .before .before .before .before .before .before .before .before .if1 .left)) (c .before .before .before .before .before .before .before .gathers .ensures .sound (c .before .before .before .before .before .before .if2 .taken)) (c .before .before .before .put .ensures)))
+
+loop-less-3 : tie.Need-loop-less-3 Inv-loop μ-loop
+loop-less-3 c = search needs
+
+loop-again-3 : tie.Need-loop-again-3 Inv-loop μ-loop
+loop-again-3 c = (search needs, c .before .before .before .before .before .before .before .loop .inv .1)
 
 same-length-2 : tie.Need-same-length-2 Inv-loop μ-loop
 same-length-2 c = search needs
 
 returns-2 : tie.Need-returns-2 Inv-loop μ-loop
-returns-2 c = c .before .loop .inv .2
+returns-2 c = c .before .loop .inv .1
 
 pub put-gathered-spec : {M : Type 1} → statement M
 put-gathered-spec =
@@ -67,16 +79,20 @@ put-gathered-spec =
     (tie.spec
     Inv-loop
     μ-loop
+    entry-requires
     loop-holds
-    at-requires
-    add-i
+    sub-left
     same-length
     returns
+    entry-requires-2
     gathers-requires
     put-requires
+    hand-on-requires
     loop-less
     loop-again
     loop-less-2
     loop-again-2
+    loop-less-3
+    loop-again-3
     same-length-2
     returns-2)

@@ -1,5 +1,5 @@
-use Prim.Native.Nat.{_≤_, _-_}
 use mathlib.Core.Path.{_≡_, refl}
+use native.Mathlib.Omega.{arith}
 use borrow.Author.Needs.{needs}
 use lib.ListN.{length}
 use Rattle.marks.specs.Passes.{Grows, none}
@@ -10,82 +10,81 @@ use Rattle.classification.proofs.consequences.put_over.Statement.{state
 use Rattle.classification.proofs.consequences.put_over.Tie as tie
 use Rattle.classification.proofs.consequences.put_over.Reads as reads
 use Rattle.classification.proofs.consequences.put_over.Lts as lts
-use Rattle.classification.proofs.consequences.put_in_rows.Reads as put-in-rows-reads
-use Rattle.classification.proofs.lists.add.Reads as add-reads
-use Rattle.classification.proofs.lists.at.Reads as at-reads
+use Rattle.classification.proofs.chains.entry.Reads as entry-reads
+use Rattle.classification.proofs.consequences.put_served.Reads as put-served-reads
 use Rattle.release.proofs.table.filler.Reads as filler-reads
 use Rattle.release.proofs.table.kind.Reads as kind-reads
 use Rattle.release.proofs.table.role.Reads as role-reads
 
 -- marks put by the rules
 abbrev Inv-loop : tie.InvT-loop
-Inv-loop file table work₀ lists₀ pending₀ square b y role i₀ work lists pending i = (i ≤ 127) × (length work ≡ length work₀) × Grows (Step file table square) square work₀ work
+Inv-loop file table work₀ chains pending₀ square b y role entry₀ left₀ work pending entry left = (length work ≡ length work₀) × Grows (Step file table square) square work₀ work
 
 abbrev μ-loop : tie.MeasureT-loop
-μ-loop file table work₀ lists₀ pending₀ square b y role i₀ work lists pending i = 127 - i
+μ-loop file table work₀ chains pending₀ square b y role entry₀ left₀ work pending entry left = left
 
 role-requires : tie.Need-role-requires Inv-loop μ-loop
 role-requires c κs = shaped-row (c .before .before .before .pre .setting .shaped) (c .before .before .before .pre .name)
 
+entry-requires : tie.Need-entry-requires Inv-loop μ-loop
+entry-requires c κs = search needs
+
 loop-holds : tie.Need-loop-holds Inv-loop μ-loop
-loop-holds c = (search needs, refl, none)
+loop-holds c = (refl, none)
 
-at-requires : tie.Need-at-requires Inv-loop μ-loop
-at-requires c κs = search needs
-
-add-i : tie.Need-add-i Inv-loop μ-loop
-add-i c = search needs
+sub-left : tie.Need-sub-left Inv-loop μ-loop
+sub-left c = search needs
 
 same-length : tie.Need-same-length Inv-loop μ-loop
 same-length c = search needs
 
 returns : tie.Need-returns Inv-loop μ-loop
-returns c = c .before .before .before .before .before .loop .inv .2
+returns c = c .before .before .before .loop .inv .1
+
+entry-requires-2 : tie.Need-entry-requires-2 Inv-loop μ-loop
+entry-requires-2 c κs = search needs
 
 kind-requires : tie.Need-kind-requires Inv-loop μ-loop
-kind-requires c κs = shaped-row (c .before .before .before .before .before .before .before .before .before .before .pre .setting .shaped) (c .if1 .left)
+kind-requires c κs = shaped-row (c .before .before .before .before .before .before .before .before .before .before .pre .setting .shaped) (c .before .if1 .left)
 
 filler-requires : tie.Need-filler-requires Inv-loop μ-loop
-filler-requires c κs = shaped-row (c .before .before .before .before .before .before .before .before .before .before .before .before .pre .setting .shaped) (c .before .before .if1 .left)
+filler-requires c κs = shaped-row (c .before .before .before .before .before .before .before .before .before .before .before .before .pre .setting .shaped) (c .before .before .before .if1 .left)
 
 role-requires-2 : tie.Need-role-requires-2 Inv-loop μ-loop
-role-requires-2 c κs = shaped-row (c .before .before .before .before .before .before .before .before .before .before .before .before .before .before .pre .setting .shaped) (c .before .before .before .before .if1 .left)
+role-requires-2 c κs = shaped-row (c .before .before .before .before .before .before .before .before .before .before .before .before .before .before .pre .setting .shaped) (c .before .before .before .before .before .if1 .left)
 
-add-requires : tie.Need-add-requires Inv-loop μ-loop
-add-requires c κs = search needs
-
-put-in-rows-requires : tie.Need-put-in-rows-requires Inv-loop μ-loop
-put-in-rows-requires c κs = served-over (over-stays (c .before .before .before .before .before .before .before .before .before .before .before .before .before .before .before .loop .inv .2) (c .before .before .before .before .before .before .before .before .before .before .before .before .before .before .before .before .before .before .before .before .pre)) (c .before .before .before .before .before .before .before .before .before .before .if1 .left) (c .before .before .before .before .before .before .before .before .before .kind .ensures) (c .before .before .before .before .before .before .before .before .if2 .taken) (c .before .before .before .before .before .before .before .filler .ensures) (c .before .before .before .before .before .before .if3 .taken) (c .before .before .before .before .before .before .before .before .before .before .before .before .before .before .before .before .role .ensures) (c .before .before .before .before .before .role2 .ensures) (c .before .before .before .before .if4 .taken)
+put-served-requires : tie.Need-put-served-requires Inv-loop μ-loop
+put-served-requires c κs = served-over (over-stays (c .before .before .before .before .before .before .before .before .before .before .before .before .loop .inv .1) (c .before .before .before .before .before .before .before .before .before .before .before .before .before .before .before .before .before .before .pre)) (c .before .before .before .before .before .before .before .before .before .if1 .left) (c .before .before .before .before .before .before .before .kind .ensures) (c .before .before .before .before .before .before .if2 .taken) (c .before .before .before .before .before .filler .ensures) (c .before .before .before .before .if3 .taken) (c .before .before .before .before .before .before .before .before .before .before .before .before .before .before .role .ensures) (c .before .before .before .role2 .ensures) (c .before .before .if4 .taken)
 
 loop-less : tie.Need-loop-less Inv-loop μ-loop
 loop-less c = search needs
 
 loop-again : tie.Need-loop-again Inv-loop μ-loop
-loop-again c = (search needs, search needs, grows-further (c .before .before .before .before .before .before .before .before .before .before .before .before .before .before .before .before .before .before .loop .inv .2) (c .before .before .put-in-rows .ensures))
+loop-again c = (search needs, grows-further (c .before .before .before .before .before .before .before .before .before .before .before .before .before .before .before .loop .inv .1) (c .before .before .put-served .ensures))
 
 loop-less-2 : tie.Need-loop-less-2 Inv-loop μ-loop
 loop-less-2 c = search needs
 
 loop-again-2 : tie.Need-loop-again-2 Inv-loop μ-loop
-loop-again-2 c = (search needs, search needs, c .before .before .before .before .before .before .before .before .before .before .before .loop .inv .2)
+loop-again-2 c = (search needs, c .before .before .before .before .before .before .before .before .before .before .loop .inv .1)
 
 loop-less-3 : tie.Need-loop-less-3 Inv-loop μ-loop
 loop-less-3 c = search needs
 
 loop-again-3 : tie.Need-loop-again-3 Inv-loop μ-loop
-loop-again-3 c = (search needs, search needs, c .before .before .before .before .before .before .before .before .before .loop .inv .2)
+loop-again-3 c = (search needs, c .before .before .before .before .before .before .before .before .loop .inv .1)
 
 loop-less-4 : tie.Need-loop-less-4 Inv-loop μ-loop
 loop-less-4 c = search needs
 
 loop-again-4 : tie.Need-loop-again-4 Inv-loop μ-loop
-loop-again-4 c = (search needs, search needs, c .before .before .before .before .before .before .before .loop .inv .2)
+loop-again-4 c = (search needs, c .before .before .before .before .before .before .loop .inv .1)
 
 same-length-2 : tie.Need-same-length-2 Inv-loop μ-loop
 same-length-2 c = search needs
 
 returns-2 : tie.Need-returns-2 Inv-loop μ-loop
-returns-2 c = c .before .loop .inv .2
+returns-2 c = c .before .loop .inv .1
 
 pub put-over-spec : {M : Type 1} → statement M
 put-over-spec =
@@ -94,16 +93,16 @@ put-over-spec =
     Inv-loop
     μ-loop
     role-requires
+    entry-requires
     loop-holds
-    at-requires
-    add-i
+    sub-left
     same-length
     returns
+    entry-requires-2
     kind-requires
     filler-requires
     role-requires-2
-    add-requires
-    put-in-rows-requires
+    put-served-requires
     loop-less
     loop-again
     loop-less-2

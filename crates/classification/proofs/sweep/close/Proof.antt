@@ -1,7 +1,8 @@
 use mathlib.Core.Path.{_≡_, refl}
 use borrow.Author.Needs.{needs}
 use lib.ListN.{length}
-use Rattle.marks.specs.Passes.{Grows, none, unset}
+use Rattle.marks.specs.Passes.{Grows, none}
+use Rattle.marks.specs.Squares.{unset}
 use Rattle.marks.proofs.Passes.{grows-further, pass-closed}
 use Rattle.classification.specs.Steps.{Step}
 use Rattle.classification.proofs.Marking.{setting-stays}

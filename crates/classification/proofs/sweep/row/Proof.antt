@@ -1,7 +1,8 @@
 use mathlib.Core.Path.{_≡_, refl}
 use borrow.Author.Needs.{needs}
 use lib.ListN.{length}
-use Rattle.marks.specs.Passes.{Pass, Anything, anything, unset}
+use Rattle.marks.specs.Passes.{Pass, Anything, anything}
+use Rattle.marks.specs.Squares.{unset}
 use Rattle.marks.proofs.Passes.{pass-none, pass-changed, pass-unchanged}
 use Rattle.classification.specs.Steps.{Step}
 use Rattle.classification.proofs.Marking.{setting-stays}

@@ -5,7 +5,7 @@ use borrow.Author.Needs.{needs}
 use lib.ListN.{length}
 use Rattle.marks.specs.Passes.{Pass, Below}
 use Rattle.marks.proofs.Passes.{turns-none, turn-changed, turn-unchanged, turns-end}
-use Rattle.classification.specs.Steps.{Step, Row}
+use Rattle.classification.specs.Steps.{Step, Settled}
 use Rattle.classification.proofs.Marking.{setting-stays}
 use Rattle.classification.proofs.sweep.rows.Statement.{statement}
 use Rattle.classification.proofs.sweep.rows.Tie as tie
@@ -15,7 +15,7 @@ use Rattle.classification.proofs.sweep.row.Reads as row-reads
 
 -- a pass that has finished the rows before next
 abbrev Inv-loop : tie.InvT-loop
-Inv-loop file table work₀ square changed₀ next₀ work changed next = (next ≤ suc (square .names)) × (length work ≡ length work₀) × Pass (Step file table square) square (Below (Row file table square) next) work₀ work changed
+Inv-loop file table work₀ square changed₀ next₀ work changed next = (next ≤ suc (square .names)) × (length work ≡ length work₀) × Pass (Step file table square) square (Below (Settled file table square) next) work₀ work changed
 
 abbrev μ-loop : tie.MeasureT-loop
 μ-loop file table work₀ square changed₀ next₀ work changed next = suc (square .names) - next

@@ -1,25 +1,26 @@
 use Prim.Native.Nat.{_≤_, _-_}
 use mathlib.Core.Path.{_≡_, refl}
+use native.Mathlib.Omega.{arith}
 use borrow.Author.Needs.{needs}
 use lib.ListN.{length}
 use Rattle.marks.specs.Passes.{Grows, none}
 use Rattle.marks.proofs.Passes.{grows-further}
 use Rattle.classification.specs.Steps.{Step}
 use Rattle.classification.proofs.Marking.{setting-stays}
-use Rattle.classification.proofs.propagation.deal_with_all.Statement.{statement}
-use Rattle.classification.proofs.propagation.deal_with_all.Tie as tie
-use Rattle.classification.proofs.propagation.deal_with_all.Reads as reads
-use Rattle.classification.proofs.propagation.deal_with_all.Lts as lts
+use Rattle.classification.proofs.propagation.deal_with_pending.Statement.{statement}
+use Rattle.classification.proofs.propagation.deal_with_pending.Tie as tie
+use Rattle.classification.proofs.propagation.deal_with_pending.Reads as reads
+use Rattle.classification.proofs.propagation.deal_with_pending.Lts as lts
 use Rattle.classification.proofs.consequences.deal.Reads as deal-reads
 use Rattle.marks.proofs.is_marked.Reads as is-marked-reads
 use Rattle.marks.proofs.pending.take.Reads as take-reads
 
 -- marks put by the rules
 abbrev Inv-loop : tie.InvT-loop
-Inv-loop file table work₀ lists₀ pending₀ square dealt₀ work lists pending dealt = (dealt ≤ 16384) × (length work ≡ length work₀) × Grows (Step file table square) square work₀ work
+Inv-loop file table work₀ chains pending₀ square dealt₀ work pending dealt = (dealt ≤ 16384) × (length work ≡ length work₀) × Grows (Step file table square) square work₀ work
 
 abbrev μ-loop : tie.MeasureT-loop
-μ-loop file table work₀ lists₀ pending₀ square dealt₀ work lists pending dealt = 16384 - dealt
+μ-loop file table work₀ chains pending₀ square dealt₀ work pending dealt = 16384 - dealt
 
 loop-holds : tie.Need-loop-holds Inv-loop μ-loop
 loop-holds c = (search needs, refl, none)
@@ -40,13 +41,13 @@ is-marked-requires : tie.Need-is-marked-requires Inv-loop μ-loop
 is-marked-requires c κs = (setting-stays (c .before .before .before .before .before .before .before .before .before .before .loop .inv .2) (c .before .before .before .before .before .before .before .before .before .before .before .before .before .before .pre) .room, (c .before .before .before .before .if1 .left, c .before .if2 .taken))
 
 deal-requires : tie.Need-deal-requires Inv-loop μ-loop
-deal-requires c κs = record { setting = setting-stays (c .before .before .before .before .before .before .before .before .before .before .before .before .before .before .before .loop .inv .2) (c .before .before .before .before .before .before .before .before .before .before .before .before .before .before .before .before .before .before .before .pre); row = c .before .before .before .before .before .before .before .before .before .if1 .left; column = c .before .before .before .before .before .before .if2 .taken; marked = c .before .before .before .before .is-marked .ensures .sound (c .before .before .before .if3 .taken) }
+deal-requires c κs = record { setting = setting-stays (c .before .before .before .before .before .before .before .before .before .before .before .before .before .before .loop .inv .2) (c .before .before .before .before .before .before .before .before .before .before .before .before .before .before .before .before .before .before .pre); row = c .before .before .before .before .before .before .before .before .if1 .left; column = c .before .before .before .before .before .if2 .taken; marked = c .before .before .before .is-marked .ensures .sound (c .before .before .if3 .taken) }
 
 loop-less : tie.Need-loop-less Inv-loop μ-loop
 loop-less c = search needs
 
 loop-again : tie.Need-loop-again Inv-loop μ-loop
-loop-again c = (search needs, search needs, grows-further (c .before .before .before .before .before .before .before .before .before .before .before .before .before .before .before .before .before .before .loop .inv .2) (c .before .before .deal .ensures))
+loop-again c = (search needs, search needs, grows-further (c .before .before .before .before .before .before .before .before .before .before .before .before .before .before .before .before .before .loop .inv .2) (c .before .before .deal .ensures))
 
 loop-less-2 : tie.Need-loop-less-2 Inv-loop μ-loop
 loop-less-2 c = search needs
@@ -66,8 +67,8 @@ same-length-2 c = search needs
 returns-2 : tie.Need-returns-2 Inv-loop μ-loop
 returns-2 c = c .before .loop .inv .2
 
-pub deal-with-all-spec : {M : Type 1} → statement M
-deal-with-all-spec =
+pub deal-with-pending-spec : {M : Type 1} → statement M
+deal-with-pending-spec =
     tie.close
     (tie.spec
     Inv-loop
