@@ -1,11 +1,11 @@
 -- The rules over the tables are the rule Forward over the axioms.
---   step-forward      a step is the rule, by the squares as tests on nodes
+--   own-forward       what a node loses by itself is lost by the rule, by the squares as tests on nodes
 --   rows-closed       where no row has anything left to mark, the test is closed under the rule
 use mathlib.Core.Path.{_≡_, refl, sym, _∙_}
 use mathlib.Core.Bool.{true, false}
 use mathlib.Core.List.{List}
 use mathlib.Core.Logic.{inl, inr}
-use Prim.Native.Nat.{ℕ, suc, _≤_}
+use Prim.Native.Nat.{ℕ, suc, _≤_, _<_}
 use native.Mathlib.Omega.{arith}
 use Rattle.el.specs.Lists.{In}
 use Rattle.el.specs.Concepts.{Node, named}
@@ -28,7 +28,7 @@ use Rattle.layout.specs.Layouts.{firstSquare, secondSquare, markSquare, chosen}
 use Rattle.layout.specs.Searches.{SomeBelow}
 use Rattle.layout.specs.Comparing.{Comparing}
 use Rattle.layout.proofs.Comparing.{chosen-below}
-use Rattle.forward.specs.Rules.{Partner, Step, by-name, by-edge, Row}
+use Rattle.forward.specs.Rules.{Partner, Own, by-name, by-edge, Row}
 
 module _ {g s t a b : List ℕ} {l : Layout} {w : List ℕ} (c : Comparing g s t a b l w) (v : List ℕ) where
   abbrev n : ℕ
@@ -40,7 +40,7 @@ module _ {g s t a b : List ℕ} {l : Layout} {w : List ℕ} (c : Comparing g s t
   not-said : {x y : ℕ} (p q : Node) → nodeNumber n p ≡ x → nodeNumber n q ≡ y → (Marked (secondSquare l) v x y → ⊥) → says (secondSquare l) v p q ≡ false
   not-said p q e f k = elim (which (says (secondSquare l) v p q)) [ inl z ↦ absurd (k (marked p q e f z)) | inr z ↦ z ]
 
-  -- a step is the rule
+  -- what is lost by itself is lost by the rule
   module _ {x y : ℕ} (x-in : x ≤ n) (y-in : y ≤ n) where
     all-marked : {e : ℕ} (f : Found s a n e) → isConjunction (f .it) ≡ false → (SomeBelow (Partner b l v (fillerAt a e) y (roleAt a e)) n → ⊥) → (o : Axiom) → In (axiomsOf t) o → Link (says (secondSquare l) v) (nodeAt n y) (roleOf (f .it)) o → says (markSquare l) v (fillerOf (f .it)) (fillerOf o) ≡ true
     all-marked {e} f i none o o-in link =
@@ -58,19 +58,21 @@ module _ {g s t a b : List ℕ} {l : Layout} {w : List ℕ} (c : Comparing g s t
           }))
         ]
 
-    pub step-forward : Step g a b l v x y → Rule (nodeAt n x) (nodeAt n y)
-    step-forward (by-name p) = el.by-name (p .holds .chosen-name) (said (nodeAt n x) (named (p .it)) (number-at n x x-in) refl (p .holds .first)) (not-said (nodeAt n y) (named (p .it)) (number-at n y y-in) refl (p .holds .not-second))
-    step-forward (by-edge p) =
-        let e = p .holds in
-        let f = restricted (c .first-release) (c .first-names) (p .it) (p .below) (e .is-restriction) in
-        let i = is-restriction f (e .is-restriction) in
-        let link : Link (says (firstSquare l) v) (nodeAt n x) (roleOf (f .it)) (f .it) = record { above = said (nodeAt n x) (named (f .it .left)) (number-at n x x-in) (f .left) (e .first); is-restriction = i; role = refl } in
-        el.by-role (f .member) link (rw (← role-is f i) (e .chosen-role)) (record { at = all-marked f i (e .no-partner) })
+    -- x lies above itself
+    pub own-forward : Marked (firstSquare l) v x x → Own g a b l v x y → Rule (nodeAt n x) (nodeAt n y)
+    own-forward itself (by-name p) = el.by-name (p .chosen-name) (said (nodeAt n x) (named x) (number-at n x x-in) refl itself) (not-said (nodeAt n y) (named x) (number-at n y y-in) refl (p .not-second))
+    own-forward itself (by-edge e) =
+        let f = restricted (c .first-release) (c .first-names) x (e .edge .is-name) (e .edge .is-restriction) in
+        let i = is-restriction f (e .edge .is-restriction) in
+        let link : Link (says (firstSquare l) v) (nodeAt n x) (roleOf (f .it)) (f .it) = record { above = said (nodeAt n x) (named (f .it .left)) (number-at n x x-in) (f .left) itself; is-restriction = i; role = refl } in
+        el.by-role (f .member) link (rw (← role-is f i) (e .edge .chosen-role)) (record { at = all-marked f i (e .no-partner) })
 
   -- and rows with nothing left to mark are closed
   module _ (rows : Below (Row g a b l) (suc n) v) (x y : Node) (x-in : IsNode n x) (y-in : IsNode n y) where
-    marked-by : Step g a b l v (nodeNumber n x) (nodeNumber n y) → says (markSquare l) v x y ≡ true
-    marked-by step = said x y refl refl (rows .at (nodeNumber n x) (omega (arith, number-small n x x-in)) .cells .at (nodeNumber n y) (omega (arith, number-small n y y-in)) .marked step)
+    marked-by : {d : ℕ} → d < n → says (firstSquare l) v x (named d) ≡ true → Own g a b l v d (nodeNumber n y) → says (markSquare l) v x y ≡ true
+    marked-by {d} d-in above own =
+        let lost = rows .at d (omega arith) .cells .at (nodeNumber n y) (omega (arith, number-small n y y-in)) .marked own in
+        said x y refl refl (rows .at (nodeNumber n x) (omega (arith, number-small n x x-in)) .above .at d (omega arith) .within (marked x (named d) refl refl above) .marked (nodeNumber n y) (number-small n y y-in) lost)
 
     no-partner : {e r : ℕ} (f : Found s a n e) → isConjunction (f .it) ≡ false → roleOf (f .it) ≡ r → ((d : Axiom) → In (axiomsOf t) d → Link (says (secondSquare l) v) y r d → says (markSquare l) v (fillerOf (f .it)) (fillerOf d) ≡ true) → SomeBelow (Partner b l v (fillerAt a e) (nodeNumber n y) (roleAt a e)) n → ⊥
     no-partner {e} {r} f k role every p =
@@ -81,17 +83,12 @@ module _ {g s t a b : List ℕ} {l : Layout} {w : List ℕ} (c : Comparing g s t
         q .free (marked (fillerOf (f .it)) (fillerOf (d .it)) (filler-is f k) (filler-is d i) (every (d .it) (d .member) link))
 
     pub rows-closed : Rule x y → says (markSquare l) v x y ≡ true
-    rows-closed (el.by-name {b = d} over above not-above) = marked-by (by-name (record { it = d; below = chosen-below l g d over; holds = record { chosen-name = over; first = marked x (named d) refl refl above; not-second = λ m. not-both (said y (named d) refl refl m) not-above } }))
+    rows-closed (el.by-name {b = d} over above not-above) = marked-by (chosen-below l g d over) above (by-name (record { is-name = chosen-below l g d over; chosen-name = over; not-second = λ m. not-both (said y (named d) refl refl m) not-above }))
     rows-closed (el.by-role {a = o} {r = r} o-in link over every) =
         let f = own (c .first-release) (c .first-names) o-in in
         let k = link .is-restriction in
-        marked-by (by-edge (record {
-          it = o .left;
-          below = formed (c .first-release) (c .first-names) .left-in o-in;
-          holds = record {
-            is-restriction = restriction-restricts f k;
-            first = marked x (named (o .left)) refl refl (link .above);
-            chosen-role = rw (role-is f k ∙ link .role) over;
-            no-partner = no-partner f k (link .role) (every .at);
-          };
+        let o-name = formed (c .first-release) (c .first-names) .left-in o-in in
+        marked-by o-name (link .above) (by-edge (record {
+          edge = record { is-name = o-name; is-restriction = restriction-restricts f k; chosen-role = rw (role-is f k ∙ link .role) over };
+          no-partner = no-partner f k (link .role) (every .at);
         }))

@@ -4,6 +4,7 @@
 --   Passed n t y P v                               on the way along the chain of y, at v: of the names passed, none has P
 --   NoneWith n t P y                               no name with the filler y has P
 --   passed-start, passed-next, passed-end          the way along a chain
+--   OnChain n t y v                                v is a name on the chain of y, or the chain has ended; chain-begins, chain-goes-on
 use mathlib.Core.Path.{_≡_, sym, _∙_}
 use mathlib.Core.Bool.{true, false}
 use mathlib.Core.List.{List}
@@ -15,7 +16,7 @@ use lib.Seq.{getD-set-same, getD-set-other}
 use Rattle.release.specs.Files.{restricts}
 use Rattle.release.specs.Tables.{kindAt, fillerAt}
 use Rattle.el.proofs.Tests.{not-both}
-use Rattle.forward.specs.Fillers.{firstAt, nextAt, HasFiller, FirstFrom, Indexed}
+use Rattle.forward.specs.Fillers.{firstAt, nextAt, HasFirst, HasNext, HasFiller, FirstFrom, Indexed}
 
 pub record Passed (n : ℕ) (t : List ℕ) (y : ℕ) (P : ℕ → Type 0) (v : ℕ) : Type 0 where
   pub here : v < n → HasFiller t y v
@@ -23,6 +24,9 @@ pub record Passed (n : ℕ) (t : List ℕ) (y : ℕ) (P : ℕ → Type 0) (v : �
 
 pub record NoneWith (n : ℕ) (t : List ℕ) (P : ℕ → Type 0) (y : ℕ) : Type 0 where
   pub none : (b : ℕ) → b < n → HasFiller t y b → P b → ⊥
+
+pub record OnChain (n : ℕ) (t : List ℕ) (y v : ℕ) : Type 0 where
+  pub here : v < n → HasFiller t y v
 
 module _ {n : ℕ} {t : List ℕ} where
   pub indexed-none : {f : List ℕ} → n + 1 + n ≤ length f → ((y : ℕ) → y ≤ n → n ≤ firstAt f y) → Indexed n t n f
@@ -106,3 +110,20 @@ module _ {n : ℕ} {t : List ℕ} where
 
     pub passed-end : {v : ℕ} → n ≤ v → Passed n t y P v → NoneWith n t P y
     passed-end h p = record { none = λ b l. p .none b (omega arith) l }
+
+  -- a name on the chain of y, or its end
+  pub chain-begins : {y u : ℕ} {f : List ℕ} → Indexed n t 0 f → y ≤ n → u ≡ firstAt f y → OnChain n t y u
+  chain-begins {y} i h e = rw e (record { here = i .first y h .holds })
+
+  module _ {y b u : ℕ} {f : List ℕ} (i : Indexed n t 0 f) (p : OnChain n t y b) (l : b < n) (e : u ≡ nextAt n f b) where
+    pub chain-goes-on : OnChain n t y u
+    chain-goes-on = rw e (record { here = i .next b y (omega arith) l (p .here l) .holds })
+
+    pub chain-rises : b < u
+    chain-rises = omega (arith, e, i .next b y (omega arith) l (p .here l) .from)
+
+  pub has-first : {k y : ℕ} {f : List ℕ} → Indexed n t k f → y ≤ n → HasFirst f y
+  has-first i h = record { inside = omega (arith, i .long) }
+
+  pub has-next : {k b : ℕ} {f : List ℕ} → Indexed n t k f → b < n → HasNext n f b
+  has-next i h = record { inside = omega (arith, i .long) }

@@ -6,19 +6,15 @@ use Rattle.forward.proofs.fillers.first.Reads as reads
 use Rattle.forward.proofs.fillers.first.Lts as lts
 use Rattle.forward.proofs.fillers.wide.Reads as wide-reads
 
--- src/fillers.rt:28:10
 mul-wide : tie.Need-mul-wide
 mul-wide c = search needs
 
--- src/fillers.rt:28:10
 shared-slice-read-wide : tie.Need-shared-slice-read-wide
 shared-slice-read-wide c = search needs
 
--- src/fillers.rt:28:5
 wide-requires : tie.Need-wide-requires
 wide-requires c κs = search needs
 
--- src/fillers.rt:24:1
 returns : tie.Need-returns
 unfolding firstAt
 returns c = c .wide .ensures

@@ -18,31 +18,24 @@ Inv-loop table fillers₀ names left₀ fillers left = (left ≤ names) × (leng
 abbrev μ-loop : tie.MeasureT-loop
 μ-loop table fillers₀ names left₀ fillers left = left
 
--- src/fillers.rt:62:5
 loop-holds : tie.Need-loop-holds Inv-loop μ-loop
 loop-holds c = (search needs, refl, c .before .before .pre .1 .1)
 
--- src/fillers.rt:63:9
 sub-left : tie.Need-sub-left Inv-loop μ-loop
 sub-left c = search needs
 
--- src/fillers.rt:64:9
 link-requires : tie.Need-link-requires Inv-loop μ-loop
 link-requires c κs = let p = c .before .before .before .before .before .pre in (p .0, ((p .1 .0, search needs), indexed-at (omega arith) (c .before .before .loop .inv .2)))
 
--- src/fillers.rt:62:5
 loop-less : tie.Need-loop-less Inv-loop μ-loop
 loop-less c = search needs
 
--- src/fillers.rt:62:5
 loop-again : tie.Need-loop-again Inv-loop μ-loop
 loop-again c = (search needs, search needs, c .before .before .link .ensures)
 
--- src/fillers.rt:55:1
 same-length : tie.Need-same-length Inv-loop μ-loop
 same-length c = search needs
 
--- src/fillers.rt:55:1
 returns : tie.Need-returns Inv-loop μ-loop
 returns c = indexed-at (omega arith) (c .before .loop .inv .2)
 

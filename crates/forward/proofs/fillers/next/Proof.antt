@@ -6,27 +6,21 @@ use Rattle.forward.proofs.fillers.next.Reads as reads
 use Rattle.forward.proofs.fillers.next.Lts as lts
 use Rattle.forward.proofs.fillers.wide.Reads as wide-reads
 
--- src/fillers.rt:36:18
 add-wide : tie.Need-add-wide
 add-wide c = search needs
 
--- src/fillers.rt:36:18
 add-wide-2 : tie.Need-add-wide-2
 add-wide-2 c = search needs
 
--- src/fillers.rt:36:10
 mul-wide : tie.Need-mul-wide
 mul-wide c = search needs
 
--- src/fillers.rt:36:10
 shared-slice-read-wide : tie.Need-shared-slice-read-wide
 shared-slice-read-wide c = search needs
 
--- src/fillers.rt:36:5
 wide-requires : tie.Need-wide-requires
 wide-requires c κs = search needs
 
--- src/fillers.rt:32:1
 returns : tie.Need-returns
 unfolding nextAt
 returns c = c .wide .ensures

@@ -8,19 +8,15 @@ use Rattle.forward.proofs.partner.reaches.Lts as lts
 use Rattle.layout.proofs.second_includes.Reads as second-includes-reads
 use Rattle.release.proofs.table.role.Reads as role-reads
 
--- src/partner.rt:23:9
 role-requires : tie.Need-role-requires
 role-requires c κs = search needs
 
--- src/partner.rt:25:9
 returns : tie.Need-returns
 returns c = never (λ p. c .if1 .taken (c .before .role .ensures ∙ p .role))
 
--- src/partner.rt:27:5
 second-includes-requires : tie.Need-second-includes-requires
 second-includes-requires c κs = search needs
 
--- src/partner.rt:17:1
 returns-2 : tie.Need-returns-2
 returns-2 c = tells-as (λ m. record { role = sym (c .before .before .role .ensures) ∙ c .before .if1 .left; second = m }) (λ p. p .second) (c .second-includes .ensures)
 

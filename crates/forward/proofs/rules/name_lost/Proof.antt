@@ -6,46 +6,24 @@ use Rattle.forward.proofs.rules.name_lost.Statement.{statement}
 use Rattle.forward.proofs.rules.name_lost.Tie as tie
 use Rattle.forward.proofs.rules.name_lost.Reads as reads
 use Rattle.forward.proofs.rules.name_lost.Lts as lts
-use Rattle.layout.proofs.first_includes.Reads as first-includes-reads
 use Rattle.layout.proofs.has_name.Reads as has-name-reads
 use Rattle.layout.proofs.second_includes.Reads as second-includes-reads
 
--- src/rules.rt:26:8
 has-name-requires : tie.Need-has-name-requires
 has-name-requires c κs = search needs
 
--- src/rules.rt:27:12
-first-includes-requires : tie.Need-first-includes-requires
-first-includes-requires c κs = search needs
-
--- src/rules.rt:28:16
 second-includes-requires : tie.Need-second-includes-requires
 second-includes-requires c κs = search needs
 
--- src/rules.rt:29:17
 returns : tie.Need-returns
-returns c = never (λ p. p .not-second (c .before .second-includes .ensures .sound (c .if3 .taken)))
+returns c = never (λ p. p .not-second (c .before .second-includes .ensures .sound (c .if2 .taken)))
 
--- src/rules.rt:31:13
 returns-2 : tie.Need-returns-2
-returns-2 c = always (record { chosen-name = sym (c .before .before .before .before .before .has-name .ensures) ∙ c .before .before .before .before .if1 .taken; first = c .before .before .before .first-includes .ensures .sound (c .before .before .if2 .taken); not-second = refuted (c .before .second-includes .ensures) (c .if3 .left) })
+returns-2 c = always (record { is-name = c .before .before .before .before .before .before .pre .1 .1 .0; chosen-name = sym (c .before .before .before .has-name .ensures) ∙ c .before .before .if1 .taken; not-second = refuted (c .before .second-includes .ensures) (c .if2 .left) })
 
--- src/rules.rt:33:9
 returns-3 : tie.Need-returns-3
-returns-3 c = never (λ p. refuted (c .before .first-includes .ensures) (c .if2 .left) (p .first))
-
--- src/rules.rt:20:1
-returns-4 : tie.Need-returns-4
-returns-4 c = never (λ p. not-both (p .chosen-name) (sym (c .before .has-name .ensures) ∙ c .if1 .left))
+returns-3 c = never (λ p. not-both (p .chosen-name) (sym (c .before .has-name .ensures) ∙ c .if1 .left))
 
 pub name-lost-spec : {M : Type 1} → statement M
 name-lost-spec =
-    tie.close
-    (tie.spec
-    has-name-requires
-    first-includes-requires
-    second-includes-requires
-    returns
-    returns-2
-    returns-3
-    returns-4)
+    tie.close (tie.spec has-name-requires second-includes-requires returns returns-2 returns-3)

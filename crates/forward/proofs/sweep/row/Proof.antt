@@ -1,72 +1,50 @@
-use Prim.Native.Nat.{_≤_, _-_, _+_}
-use mathlib.Core.Path.{_≡_, refl}
+use Rattle.marks.proofs.Passes.{pass-changed, pass-unchanged}
+use Rattle.forward.proofs.Tested.{above-pass, top-row}
 use borrow.Author.Needs.{needs}
-use lib.ListN.{length}
-use Rattle.marks.specs.Passes.{Pass, Below}
-use Rattle.marks.proofs.Passes.{turns-none, turn-changed, turn-unchanged, pass-as, below-end}
-use Rattle.layout.specs.Layouts.{markSquare}
-use Rattle.forward.specs.Rules.{Step, Cell}
-use Rattle.forward.proofs.Tested.{setting-stays}
 use Rattle.forward.proofs.sweep.row.Statement.{statement}
 use Rattle.forward.proofs.sweep.row.Tie as tie
 use Rattle.forward.proofs.sweep.row.Reads as reads
 use Rattle.forward.proofs.sweep.row.Lts as lts
-use Rattle.forward.proofs.sweep.look.Reads as look-reads
+use Rattle.forward.proofs.sweep.look_at_cells.Reads as look-at-cells-reads
+use Rattle.forward.proofs.sweep.take_from_above.Reads as take-from-above-reads
 
-abbrev Inv-loop : tie.InvT-loop
-Inv-loop signature first second fillers work₀ layout x changed₀ next₀ work changed next = (next ≤ layout .names + 1) × (length work ≡ length work₀) × Pass (Step signature first second layout) (markSquare layout) (Below (Cell signature first second layout x) next) work₀ work changed
+take-from-above-requires : tie.Need-take-from-above-requires
+take-from-above-requires c κs = search needs
 
-abbrev μ-loop : tie.MeasureT-loop
-μ-loop signature first second fillers work₀ layout x changed₀ next₀ work changed next = layout .names + 1 - next
-
--- src/sweep.rt:38:5
-loop-holds : tie.Need-loop-holds Inv-loop μ-loop
-loop-holds c = (search needs, refl, turns-none)
-
--- src/sweep.rt:40:9
-add-next : tie.Need-add-next Inv-loop μ-loop
-add-next c = search needs
-
--- src/sweep.rt:41:12
-look-requires : tie.Need-look-requires Inv-loop μ-loop
-look-requires c κs = (setting-stays (c .before .before .before .loop .inv .2 .grows) (c .before .before .before .before .before .before .before .before .before .pre .0), (c .before .before .before .before .before .before .before .before .before .pre .1, c .before .if1 .taken))
-
--- src/sweep.rt:38:5
-loop-less : tie.Need-loop-less Inv-loop μ-loop
-loop-less c = search needs
-
--- src/sweep.rt:38:5
-loop-again : tie.Need-loop-again Inv-loop μ-loop
-loop-again c = (search needs, search needs, turn-changed (c .before .before .before .before .before .before .before .loop .inv .2) (c .before .before .before .look .ensures) (c .if2 .taken))
-
--- src/sweep.rt:38:5
-loop-less-2 : tie.Need-loop-less-2 Inv-loop μ-loop
-loop-less-2 c = search needs
-
--- src/sweep.rt:38:5
-loop-again-2 : tie.Need-loop-again-2 Inv-loop μ-loop
-loop-again-2 c = (search needs, search needs, turn-unchanged (c .before .before .before .before .before .before .before .loop .inv .2) (c .before .before .before .look .ensures) (c .if2 .left))
-
--- src/sweep.rt:31:1
-same-length : tie.Need-same-length Inv-loop μ-loop
+same-length : tie.Need-same-length
 same-length c = search needs
 
--- src/sweep.rt:31:1
-returns : tie.Need-returns Inv-loop μ-loop
-returns c = pass-as (λ b. record { cells = below-end (c .if1 .left) b }) (c .before .before .loop .inv .2)
+returns : tie.Need-returns
+returns c = top-row (c .before .before .before .before .if1 .taken) (c .before .before .take-from-above .ensures)
+
+look-at-cells-requires : tie.Need-look-at-cells-requires
+look-at-cells-requires c κs = search needs
+
+take-from-above-requires-2 : tie.Need-take-from-above-requires-2
+take-from-above-requires-2 c κs = search needs
+
+same-length-2 : tie.Need-same-length-2
+same-length-2 c = search needs
+
+returns-2 : tie.Need-returns-2
+returns-2 c = pass-changed (c .before .before .before .before .before .before .before .look-at-cells .ensures) (above-pass (c .before .before .before .take-from-above2 .ensures)) (c .if2 .taken)
+
+same-length-3 : tie.Need-same-length-3
+same-length-3 c = search needs
+
+returns-3 : tie.Need-returns-3
+returns-3 c = pass-unchanged (λ d e. record { cells = d; above = e }) (c .before .before .before .before .before .before .before .look-at-cells .ensures) (above-pass (c .before .before .before .take-from-above2 .ensures)) (c .if2 .left)
 
 pub row-spec : {M : Type 1} → statement M
 row-spec =
     tie.close
     (tie.spec
-    Inv-loop
-    μ-loop
-    loop-holds
-    add-next
-    look-requires
-    loop-less
-    loop-again
-    loop-less-2
-    loop-again-2
+    take-from-above-requires
     same-length
-    returns)
+    returns
+    look-at-cells-requires
+    take-from-above-requires-2
+    same-length-2
+    returns-2
+    same-length-3
+    returns-3)

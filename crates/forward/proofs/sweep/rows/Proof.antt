@@ -13,45 +13,37 @@ use Rattle.forward.proofs.sweep.rows.Reads as reads
 use Rattle.forward.proofs.sweep.rows.Lts as lts
 use Rattle.forward.proofs.sweep.row.Reads as row-reads
 
+-- nothing is left to mark in the rows passed
 abbrev Inv-loop : tie.InvT-loop
-Inv-loop signature first second fillers work₀ layout changed₀ next₀ work changed next = (next ≤ layout .names + 1) × (length work ≡ length work₀) × Pass (Step signature first second layout) (markSquare layout) (Below (Row signature first second layout) next) work₀ work changed
+Inv-loop signature first second fillers work₀ hints₀ layout changed₀ next₀ work hints changed next = (next ≤ layout .names + 1) × (length work ≡ length work₀) × Pass (Step signature first second layout) (markSquare layout) (Below (Row signature first second layout) next) work₀ work changed
 
 abbrev μ-loop : tie.MeasureT-loop
-μ-loop signature first second fillers work₀ layout changed₀ next₀ work changed next = layout .names + 1 - next
+μ-loop signature first second fillers work₀ hints₀ layout changed₀ next₀ work hints changed next = layout .names + 1 - next
 
--- src/sweep.rt:55:5
 loop-holds : tie.Need-loop-holds Inv-loop μ-loop
 loop-holds c = (search needs, refl, turns-none)
 
--- src/sweep.rt:57:9
 add-next : tie.Need-add-next Inv-loop μ-loop
 add-next c = search needs
 
--- src/sweep.rt:58:12
 row-requires : tie.Need-row-requires Inv-loop μ-loop
-row-requires c κs = (setting-stays (c .before .before .before .loop .inv .2 .grows) (c .before .before .before .before .before .before .before .before .before .pre), c .before .if1 .taken)
+row-requires c κs = (setting-stays (c .before .before .before .before .loop .inv .2 .grows) (c .before .before .before .before .before .before .before .before .before .before .pre), c .before .before .if1 .taken)
 
--- src/sweep.rt:55:5
 loop-less : tie.Need-loop-less Inv-loop μ-loop
 loop-less c = search needs
 
--- src/sweep.rt:55:5
 loop-again : tie.Need-loop-again Inv-loop μ-loop
-loop-again c = (search needs, search needs, turn-changed (c .before .before .before .before .before .before .before .loop .inv .2) (c .before .before .before .row .ensures) (c .if2 .taken))
+loop-again c = (search needs, search needs, turn-changed (c .before .before .before .before .before .before .before .before .loop .inv .2) (c .before .before .before .row .ensures) (c .if2 .taken))
 
--- src/sweep.rt:55:5
 loop-less-2 : tie.Need-loop-less-2 Inv-loop μ-loop
 loop-less-2 c = search needs
 
--- src/sweep.rt:55:5
 loop-again-2 : tie.Need-loop-again-2 Inv-loop μ-loop
-loop-again-2 c = (search needs, search needs, turn-unchanged (c .before .before .before .before .before .before .before .loop .inv .2) (c .before .before .before .row .ensures) (c .if2 .left))
+loop-again-2 c = (search needs, search needs, turn-unchanged (c .before .before .before .before .before .before .before .before .loop .inv .2) (c .before .before .before .row .ensures) (c .if2 .left))
 
--- src/sweep.rt:49:1
 same-length : tie.Need-same-length Inv-loop μ-loop
 same-length c = search needs
 
--- src/sweep.rt:49:1
 returns : tie.Need-returns Inv-loop μ-loop
 returns c = turns-end (c .if1 .left) (c .before .before .loop .inv .2)
 

@@ -1,0 +1,75 @@
+use Prim.Native.Nat.{suc, _≤_, _-_}
+use mathlib.Core.Path.{_≡_, refl}
+use native.Mathlib.Omega.{arith}
+use borrow.Author.Needs.{needs}
+use lib.ListN.{length}
+use Rattle.layout.specs.Layouts.{markSquare}
+use Rattle.marks.specs.Passes.{Pass, Below}
+use Rattle.marks.proofs.Passes.{room-stays, turns-none, turn-both, turns-to, turns-end}
+use Rattle.forward.specs.Rules.{Step, Cell}
+use Rattle.forward.proofs.Tested.{setting-stays, marked-cells}
+use Rattle.forward.proofs.sweep.look_at_cells.Statement.{statement}
+use Rattle.forward.proofs.sweep.look_at_cells.Tie as tie
+use Rattle.forward.proofs.sweep.look_at_cells.Reads as reads
+use Rattle.forward.proofs.sweep.look_at_cells.Lts as lts
+use Rattle.forward.proofs.sweep.look.Reads as look-reads
+use Rattle.marks.proofs.rows.next_unmarked.Reads as next-unmarked-reads
+
+-- the cells before y are looked at, or marked
+abbrev Inv-loop : tie.InvT-loop
+Inv-loop signature first second fillers work₀ hints₀ layout x marks changed₀ y₀ work hints changed y = (y ≤ suc (layout .names)) × (length work ≡ length work₀) × Pass (Step signature first second layout) (markSquare layout) (Below (Cell signature first second layout x) y) work₀ work changed
+
+abbrev μ-loop : tie.MeasureT-loop
+μ-loop signature first second fillers work₀ hints₀ layout x marks changed₀ y₀ work hints changed y = suc (layout .names) - y
+
+-- src/sweep.rt:68:9
+next-unmarked-requires : tie.Need-next-unmarked-requires Inv-loop μ-loop
+next-unmarked-requires c κs = (c .before .before .before .before .before .before .pre .0 .places .marks, (omega (arith, c .before .before .before .before .before .before .pre .1), omega arith))
+
+-- src/sweep.rt:69:5
+loop-holds : tie.Need-loop-holds Inv-loop μ-loop
+loop-holds c = (c .next-unmarked .ensures .inside, refl, turns-to turns-none (marked-cells (c .next-unmarked .ensures)))
+
+-- src/sweep.rt:70:13
+look-requires : tie.Need-look-requires Inv-loop μ-loop
+look-requires c κs = (setting-stays (c .before .before .before .before .loop .inv .2 .grows) (c .before .before .before .before .before .before .before .before .before .before .before .before .pre .0), (c .before .before .before .before .before .before .before .before .before .before .before .before .pre .1, c .before .before .if1 .taken))
+
+-- src/sweep.rt:72:43
+add-next-unmarked : tie.Need-add-next-unmarked Inv-loop μ-loop
+add-next-unmarked c = omega (arith, c .before .before .before .before .before .before .if1 .taken, c .before .before .before .before .before .before .before .before .before .before .before .before .before .before .before .before .pre .0 .places .marks .small .few)
+
+-- src/sweep.rt:72:9
+next-unmarked-requires-2 : tie.Need-next-unmarked-requires-2 Inv-loop μ-loop
+next-unmarked-requires-2 c κs = (room-stays (c .before .before .before .look .ensures .grows) (setting-stays (c .before .before .before .before .before .before .before .before .loop .inv .2 .grows) (c .before .before .before .before .before .before .before .before .before .before .before .before .before .before .before .before .pre .0) .places .marks), (omega (arith, c .before .before .before .before .before .before .before .before .before .before .before .before .before .before .before .before .pre .1), omega (arith, c .before .before .before .before .before .before .if1 .taken)))
+
+-- src/sweep.rt:69:5
+loop-less : tie.Need-loop-less Inv-loop μ-loop
+loop-less c = omega (arith, c .next-unmarked2 .ensures .after, c .next-unmarked2 .ensures .inside, c .before .before .before .before .before .before .before .if1 .taken)
+
+-- src/sweep.rt:69:5
+loop-again : tie.Need-loop-again Inv-loop μ-loop
+loop-again c = (c .next-unmarked2 .ensures .inside, search needs, turns-to (turn-both (c .before .before .before .before .before .before .before .before .before .loop .inv .2) (c .before .before .before .before .look .ensures)) (marked-cells (c .next-unmarked2 .ensures)))
+
+-- src/sweep.rt:49:1
+same-length : tie.Need-same-length Inv-loop μ-loop
+same-length c = search needs
+
+-- src/sweep.rt:49:1
+returns : tie.Need-returns Inv-loop μ-loop
+returns c = turns-end (c .if1 .left) (c .before .before .loop .inv .2)
+
+pub look-at-cells-spec : {M : Type 1} → statement M
+look-at-cells-spec =
+    tie.close
+    (tie.spec
+    Inv-loop
+    μ-loop
+    next-unmarked-requires
+    loop-holds
+    look-requires
+    add-next-unmarked
+    next-unmarked-requires-2
+    loop-less
+    loop-again
+    same-length
+    returns)
