@@ -1,17 +1,18 @@
--- The rules over the tables are the rule Backward over the axioms.
---   step-backward     a step is the rule, by the squares as tests on nodes and columns
---   rows-closed       where no row has anything left to mark, the test is closed under the rule
+-- The rules over the tables and the rule Backward over the axioms.
+--   step-backward     a mark that definitions allow is allowed by the rule, by the squares as tests on nodes and columns
+--   rows-closed       where nothing is left to mark, the test is closed under the rule
+-- Not here: marks by names and by what lies below, which the rule does not have in this form (Meaning).
 use mathlib.Core.Path.{_≡_, refl, sym, ap, _∙_}
 use mathlib.Core.Bool.{true, false, false≢true}
 use mathlib.Core.List.{List}
 use mathlib.Core.Logic.{_⊎_, inl, inr}
-use Prim.Native.Nat.{ℕ, suc, _≤_, _<_}
+use Prim.Native.Nat.{ℕ, _≤_, _<_}
 use native.Mathlib.Omega.{arith}
 use Rattle.el.specs.Lists.{In}
 use Rattle.el.specs.Concepts.{Node, everything, named}
 use Rattle.el.specs.Axioms.{Axiom, isConjunction, roleOf, fillerOf}
 use Rattle.el.specs.Answers.{Column, node, nameUnder, partner}
-use Rattle.el.proofs.Tests.{which, not-both}
+use Rattle.el.proofs.Tests.{not-both}
 use Rattle.el.proofs.Nodes.{IsNode, name-node, IsColumn}
 use Rattle.el.proofs.PlainNodes.{plain-name}
 use Rattle.el.proofs.BackwardMarks.{Backward, of-part, of-everything, of-parts, of-name, of-role, Partner, filler, none, partner-is}
@@ -20,7 +21,6 @@ use Rattle.release.specs.Files.{axiomsOf}
 use Rattle.release.specs.Readings.{nodeNumber}
 use Rattle.release.specs.Tables.{kindAt, roleAt, fillerAt, countAt, partAt}
 use Rattle.marks.specs.Squares.{Marked}
-use Rattle.marks.specs.Passes.{Below}
 use Rattle.classification.specs.Inclusions.{nodeAt, says}
 use Rattle.classification.proofs.Nodes.{at-top, number-at, number-small, said, marked}
 use Rattle.classification.proofs.AxiomRows.{Found, defined-conjunction, defined-restriction, role-is, name-is, filler-is, part-in, part-at, formed, own}
@@ -29,10 +29,10 @@ use Rattle.layout.specs.Layouts.{firstSquare, secondSquare, markSquare, chosen}
 use Rattle.layout.specs.Searches.{SomeBelow, EachBelow}
 use Rattle.layout.specs.Comparing.{Comparing}
 use Rattle.layout.proofs.Comparing.{chosen-below}
-use Rattle.backward.specs.Rules.{PlainColumn, ColumnPart, RowPart, Filled, PartnerLost, of-filler, of-nothing, RoleLost, Step, by-part, by-top, by-parts, by-name, by-role, Row}
+use Rattle.backward.specs.Rules.{PlainColumn, ColumnPart, RowPart, Filled, PartnerLost, of-filler, of-nothing, RoleLost, Defined, by-part, by-top, by-parts, by-role, Own, by-definition, by-name, Quiet}
 use Rattle.backward.specs.Backward.{columnAt}
 use Rattle.backward.proofs.Columns.{column-last, column-name, last-or-name, named-column, by-column, saysColumn, said-column, column-marked}
-use Rattle.backward.proofs.Defined.{joins-2, found-2, found-4, not-joined, not-2, plain-node-at, fills-filled, filled-by, plain-is-name}
+use Rattle.backward.proofs.Defined.{joins-2, found-2, found-4, not-joined, not-2, plain-node-at, fills-filled, filled-by}
 
 no-plain-top : {al : List Axiom} → el.PlainColumn al (node everything) → ⊥
 no-plain-top (el.plain-node p) = elim p [ ]
@@ -58,15 +58,6 @@ module _ {g s t a b : List ℕ} {l : Layout} {w : List ℕ} (c : Comparing g s t
       by-form h e (el.plain-node (plain-name k)) = not-2 (c .second-release) (c .second-names) h k e
 
   -- names below a column
-  not-under : {d y : ℕ} → y ≤ n → (y ≡ n) ⊎ (Marked (secondSquare l) v d y → ⊥) → nameUnder (says (secondSquare l) v) d (columnAt n y) ≡ false
-  not-under {d} {y} y-in k = elim (last-or-name n y y-in) [
-    | inl e ↦ rw (column-last n y e)
-    | inr h ↦ rw (column-name n y h) (elim (which (says (secondSquare l) v (named d) (named y))) [
-      | inl z ↦ absurd (elim k [ inl e ↦ omega arith | inr f ↦ f (marked (named d) (named y) refl refl z) ])
-      | inr z ↦ z
-    ])
-  ]
-
   under-not : {d y : ℕ} → y ≤ n → nameUnder (says (secondSquare l) v) d (columnAt n y) ≡ false → (y ≡ n) ⊎ (Marked (secondSquare l) v d y → ⊥)
   under-not {d} {y} y-in k = elim (last-or-name n y y-in) [
     | inl e ↦ inl e
@@ -94,9 +85,9 @@ module _ {g s t a b : List ℕ} {l : Layout} {w : List ℕ} (c : Comparing g s t
       absurd (not-filled (rw (p .1) at h))
   partner-there {x} {y} f k y-in (of-nothing not-filled m) (none d q) = rw q (said (fillerOf (f .it)) everything (filler-is f k) refl m)
 
-  -- a step is the rule
+  -- definitions are the rule
   module _ {x y : ℕ} (x-in : x ≤ n) (y-in : y ≤ n) where
-    pub step-backward : Step g s t a b l v x y → Rule (nodeAt n x) (columnAt n y)
+    pub step-backward : Defined g s t a b l v x y → Rule (nodeAt n x) (columnAt n y)
     step-backward (by-part h e p) =
         let f = found-2 (c .second-release) (c .second-names) y h e in
         let d = defined-conjunction f e in
@@ -106,7 +97,6 @@ module _ {g s t a b : List ℕ} {l : Layout} {w : List ℕ} (c : Comparing g s t
         let f = found-2 (c .first-release) (c .first-names) x h e in
         let d = defined-conjunction f e in
         of-parts (plain-there y-in plain) (f .member) (name-is f h) (record { is-defined = d .1; is-conjunction = d .0 }) (record { at = λ z z-in. let q = part-at f (d .0) z-in in said-column (named z) refl y-in (rw (q .is) at (p .at (q .at) (q .inside) .marked)) })
-    step-backward (by-name plain h k p) = of-name (plain-there y-in plain) (plain-node-at (c .first-release) (c .first-names) h k) (p .holds .chosen-name) (said (named (p .it)) (nodeAt n x) refl (number-at n x x-in) (p .holds .first)) (not-under y-in (p .holds .not-second))
     step-backward (by-role plain h e p) =
         let f = found-4 (c .first-release) (c .first-names) x h e in
         let d = defined-restriction f e in
@@ -134,10 +124,16 @@ module _ {g s t a b : List ℕ} {l : Layout} {w : List ℕ} (c : Comparing g s t
           let f = found-4 (c .second-release) (c .second-names) y (h .is-name) (h .kind) in
           d (f .it) (f .member) (ap (λ z. node (named z)) (f .left) ∙ sym (column-name n y (h .is-name))) (filled-by (c .second-release) (c .second-names) h f)
 
-  module _ (rows : Below (Row g s t a b l) (suc n) v) (x : Node) (x-in : IsNode n x) where
+  module _ (quiet : Quiet g s t a b l v) (x : Node) (x-in : IsNode n x) where
     module _ {y : ℕ} (y-in : y ≤ n) where
-      marked-by : Step g s t a b l v (nodeNumber n x) y → saysColumn (markSquare l) v x (columnAt n y) ≡ true
-      marked-by step = said-column x refl y-in (rows .at (nodeNumber n x) (omega (arith, number-small n x x-in)) .cells .at y (omega arith) .marked step)
+      at-cell : {z : ℕ} → z ≤ n → Own g s t a b l v z y → Marked (markSquare l) v z y
+      at-cell {z} z-in own-step = quiet .rows .at z (omega arith) .cells .at y (omega arith) .marked own-step
+
+      marked-by : Defined g s t a b l v (nodeNumber n x) y → saysColumn (markSquare l) v x (columnAt n y) ≡ true
+      marked-by step = said-column x refl y-in (at-cell (number-small n x x-in) (by-definition step))
+
+      marked-above : {d : ℕ} → d < n → Own g s t a b l v d y → Marked (firstSquare l) v d (nodeNumber n x) → saysColumn (markSquare l) v x (columnAt n y) ≡ true
+      marked-above {d} d-in own-step below-x = said-column x refl y-in (quiet .handed .at d (omega arith) .rows .at (nodeNumber n x) (omega (arith, number-small n x x-in)) .within below-x .marked y y-in (at-cell (omega arith) own-step))
 
       cell-closed : Rule x (columnAt n y) → saysColumn (markSquare l) v x (columnAt n y) ≡ true
       cell-closed (of-part {b = d} {z = z} d-in e joins z-in m) =
@@ -151,9 +147,7 @@ module _ {g s t a b : List ℕ} {l : Layout} {w : List ℕ} (c : Comparing g s t
           let f = own (c .first-release) (c .first-names) o-in in
           let each : EachBelow (RowPart s a l v (o .left) y) (countAt s a (o .left)) = record { at = λ i h. record { marked = column-marked (named (partAt s a (o .left) i)) refl y-in (every .at (partAt s a (o .left) i) (part-in f (joins .is-conjunction) i h)) } } in
           marked-by (rw (← e) (by-parts (plain-back plain) (formed (c .first-release) (c .first-names) .left-in o-in) (joins-2 (c .first-release) (c .first-names) o-in joins) each))
-      cell-closed (of-name {b = d} plain x-plain over below-x not-below) =
-          let p = plain-is-name (c .first-release) (c .first-names) x x-in x-plain in
-          marked-by (by-name (plain-back plain) (p .small) (p .not-conjunction) (record { it = d; below = chosen-below l g d over; holds = record { chosen-name = over; first = marked (named d) x refl refl below-x; not-second = under-not y-in not-below } }))
+      cell-closed (of-name {b = d} plain x-plain over below-x not-below) = marked-above (chosen-below l g d over) (by-name (record { chosen-name = over; not-second = under-not y-in not-below })) (marked (named d) x refl refl below-x)
       cell-closed (of-role {a = o} {r = r} plain x-plain o-in e fills over m) =
           let f = own (c .first-release) (c .first-names) o-in in
           let h = fills-filled (c .first-release) (c .first-names) o-in fills in

@@ -6,14 +6,11 @@ use mathlib.Core.List.{List}
 use Prim.Native.Nat.{ℕ, _<_}
 use native.Mathlib.Omega.{arith}
 use Rattle.el.specs.Lists.{In}
-use Rattle.el.specs.Concepts.{Node, everything, named}
 use Rattle.el.specs.Axioms.{Axiom}
 use Rattle.el.proofs.Derivations.{Joins, Fills}
-use Rattle.el.proofs.Nodes.{IsNode, name-node}
 use Rattle.el.proofs.Terminologies.{NotJoined}
 use Rattle.el.proofs.PlainNodes.{Plain, plain-name}
 use Rattle.release.specs.Files.{namesOf, axiomsOf}
-use Rattle.release.specs.Readings.{nodeNumber}
 use Rattle.release.specs.Tables.{kindAt, Release}
 use Rattle.classification.specs.Inclusions.{nodeAt}
 use Rattle.classification.proofs.Nodes.{at-name}
@@ -44,12 +41,3 @@ module _ {s t : List ℕ} {n : ℕ} (r : Release s t) (names : n ≡ namesOf s) 
 
   pub filled-by : {x q : ℕ} → Filled t n x q → (f : Found s t n x) → Fills q (f .it)
   filled-by h f = let d = defined-restriction f (h .kind) in record { is-defined = d .1; is-restriction = d .0; role = sym (h .role) ∙ role-is f (d .0) }
-
--- a plain node is a name
-pub record PlainName (s t : List ℕ) (n : ℕ) (x : Node) : Type 0 where
-  pub small : nodeNumber n x < n
-  pub not-conjunction : kindAt t (nodeNumber n x) ≡ 2 → ⊥
-
-pub plain-is-name : {s t : List ℕ} {n : ℕ} → Release s t → n ≡ namesOf s → (x : Node) → IsNode n x → Plain (axiomsOf s) x → PlainName s t n x
-plain-is-name r names everything i p = elim p [ ]
-plain-is-name r names (named x) (name-node l) (plain-name k) = record { small = l; not-conjunction = not-2 r names l k }

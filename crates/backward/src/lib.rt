@@ -4,6 +4,9 @@ ghost use Rattle.layout.specs.Comparing.{Comparing};
 ghost use Rattle.backward.specs.Backward.{Backwarded};
 use layout::Layout;
 
+mod chains;
+mod consequences;
+mod propagation;
 mod rules;
 mod sweep;
 
@@ -20,6 +23,15 @@ pub fn mark_lost_below(
     requires { ⌜ Comparing (now signature) (now first) (now second) (now «first_table») (now «second_table») layout (now work) ⌝ }
     ensures { λ _. ⌜ Backwarded (now (signature .entry)) (now (first .entry)) (now (second .entry)) layout (now (work .entry)) (now (work .exit)) ⌝ }
 {
+    propagation::propagate(
+        signature,
+        first,
+        second,
+        first_table,
+        second_table,
+        work,
+        layout,
+    );
     sweep::close(
         signature,
         first,

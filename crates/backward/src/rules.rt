@@ -1,15 +1,15 @@
 // The rules by which a pair x, y is marked. What they ask is said in specs/Rules.
 ghost use mathlib.Core.Path.{_≡_};
+ghost use mathlib.Core.Bool.{true};
 ghost use Prim.Native.Nat.{_+_, _≤_, _<_};
 ghost use lib.ListN.{length};
 ghost use Rattle.el.proofs.Tests.{Tells};
 ghost use Rattle.release.specs.Tables.{kindAt, countAt, Shaped};
 ghost use Rattle.marks.specs.Squares.{Room};
 ghost use Rattle.layout.specs.Searches.{SomeBelow, EachBelow};
-ghost use Rattle.layout.specs.Layouts.{firstSquare, secondSquare, markSquare, Rowed};
-ghost use Rattle.backward.specs.Rules.{Setting, PlainColumn, ColumnPart, RowPart, NameLost, Filled, RoleLost, Step};
+ghost use Rattle.layout.specs.Layouts.{secondSquare, markSquare, Rowed};
+ghost use Rattle.backward.specs.Rules.{Setting, Squares, NoneAbove, PlainColumn, ColumnPart, RowPart, NameLost, Filled, RoleLost, Defined, Own};
 use layout::Layout;
-use layout::first_includes;
 use layout::has_name;
 use layout::has_role;
 use layout::is_marked;
@@ -69,41 +69,21 @@ fn all_parts_lost(
     true
 }
 
-// Whether b is a name of the signature below x by the first release, and not below y by the second.
-fn name_lost(signature: &[u8], work: &[u8], layout: Layout, x: usize, y: usize, b: usize) -> bool
+// Whether x is a name of the signature that is not below y by the second release.
+pub fn name_lost(signature: &[u8], work: &[u8], layout: Layout, x: usize, y: usize) -> bool
     requires { ⌜ layout .names + layout .roles ≤ length (now signature) ⌝ }
-    requires { ⌜ Room (firstSquare layout) (now work) × Room (secondSquare layout) (now work) ⌝ }
-    requires { ⌜ (x ≤ layout .names) × (y ≤ layout .names) × (b < layout .names) ⌝ }
-    ensures { λ r. ⌜ Tells r (NameLost (now (signature .entry)) layout (now (work .entry)) x y b) ⌝ }
-{
-    if has_name(signature, layout, b) {
-        if first_includes(work, layout, b, x) {
-            if y == layout.names {
-                return true;
-            }
-            if second_includes(work, layout, b, y) {
-                return false;
-            }
-            return true;
-        }
-        return false;
-    }
-    false
-}
-
-// Whether there is such a name.
-fn some_name_lost(signature: &[u8], work: &[u8], layout: Layout, x: usize, y: usize) -> bool
-    requires { ⌜ layout .names + layout .roles ≤ length (now signature) ⌝ }
-    requires { ⌜ Room (firstSquare layout) (now work) × Room (secondSquare layout) (now work) ⌝ }
+    requires { ⌜ Room (secondSquare layout) (now work) ⌝ }
     requires { ⌜ (x ≤ layout .names) × (y ≤ layout .names) ⌝ }
-    ensures { λ r. ⌜ Tells r (SomeBelow (NameLost (now (signature .entry)) layout (now (work .entry)) x y) (layout .names)) ⌝ }
+    ensures { λ r. ⌜ Tells r (NameLost (now (signature .entry)) layout (now (work .entry)) x y) ⌝ }
 {
-    let mut b = 0;
-    while b < layout.names {
-        if name_lost(signature, work, layout, x, y, b) {
+    if has_name(signature, layout, x) {
+        if y == layout.names {
             return true;
         }
-        b += 1;
+        if second_includes(work, layout, x, y) {
+            return false;
+        }
+        return true;
     }
     false
 }
@@ -159,34 +139,7 @@ fn role_lost(
     false
 }
 
-// Whether a rule allows the mark x, y, where neither is defined by a conjunction, and x is a name.
-fn plain_lost(
-    signature: &[u8],
-    first: &[u8],
-    second: &[u8],
-    first_table: &[u16],
-    second_table: &[u16],
-    work: &[u8],
-    layout: Layout,
-    x: usize,
-    y: usize,
-) -> bool
-    requires { ⌜ Setting (now signature) (now first) (now second) (now «first_table») (now «second_table») layout (now work) ⌝ }
-    requires { ⌜ PlainColumn (now «second_table») (layout .names) y ⌝ }
-    requires { ⌜ (x < layout .names) × (y ≤ layout .names) × (kindAt (now «first_table») x ≡ 2 → ⊥) ⌝ }
-    ensures { λ r. ⌜ Tells r (Step (now (signature .entry)) (now (first .entry)) (now (second .entry)) (now («first_table» .entry)) (now («second_table» .entry)) layout (now (work .entry)) x y) ⌝ }
-{
-    if some_name_lost(signature, work, layout, x, y) {
-        return true;
-    }
-    let kind = table::kind(first_table, x);
-    if kind == 4 {
-        return role_lost(signature, first_table, second_table, work, layout, x, y);
-    }
-    false
-}
-
-// Whether a rule allows the mark x, y, where y is not defined by a conjunction.
+// Whether the definition of x allows the mark x, y, where y is not defined by a conjunction.
 fn column_lost(
     signature: &[u8],
     first: &[u8],
@@ -201,7 +154,7 @@ fn column_lost(
     requires { ⌜ Setting (now signature) (now first) (now second) (now «first_table») (now «second_table») layout (now work) ⌝ }
     requires { ⌜ PlainColumn (now «second_table») (layout .names) y ⌝ }
     requires { ⌜ (x ≤ layout .names) × (y ≤ layout .names) ⌝ }
-    ensures { λ r. ⌜ Tells r (Step (now (signature .entry)) (now (first .entry)) (now (second .entry)) (now («first_table» .entry)) (now («second_table» .entry)) layout (now (work .entry)) x y) ⌝ }
+    ensures { λ r. ⌜ Tells r (Defined (now (signature .entry)) (now (first .entry)) (now (second .entry)) (now («first_table» .entry)) (now («second_table» .entry)) layout (now (work .entry)) x y) ⌝ }
 {
     if layout.names <= x {
         return true;
@@ -210,21 +163,14 @@ fn column_lost(
     if kind == 2 {
         return all_parts_lost(first, first_table, work, layout, x, y);
     }
-    plain_lost(
-        signature,
-        first,
-        second,
-        first_table,
-        second_table,
-        work,
-        layout,
-        x,
-        y,
-    )
+    if kind == 4 {
+        return role_lost(signature, first_table, second_table, work, layout, x, y);
+    }
+    false
 }
 
-// Whether a rule allows the mark x, y.
-pub fn is_lost(
+// Whether the definitions of x and y allow the mark x, y.
+fn defined_lost(
     signature: &[u8],
     first: &[u8],
     second: &[u8],
@@ -237,7 +183,7 @@ pub fn is_lost(
 ) -> bool
     requires { ⌜ Setting (now signature) (now first) (now second) (now «first_table») (now «second_table») layout (now work) ⌝ }
     requires { ⌜ (x ≤ layout .names) × (y ≤ layout .names) ⌝ }
-    ensures { λ r. ⌜ Tells r (Step (now (signature .entry)) (now (first .entry)) (now (second .entry)) (now («first_table» .entry)) (now («second_table» .entry)) layout (now (work .entry)) x y) ⌝ }
+    ensures { λ r. ⌜ Tells r (Defined (now (signature .entry)) (now (first .entry)) (now (second .entry)) (now («first_table» .entry)) (now («second_table» .entry)) layout (now (work .entry)) x y) ⌝ }
 {
     if layout.names <= y {
         return column_lost(
@@ -267,4 +213,52 @@ pub fn is_lost(
         x,
         y,
     )
+}
+
+// Whether a rule allows the mark x, y that does not ask what lies below x.
+pub fn is_lost(
+    signature: &[u8],
+    first: &[u8],
+    second: &[u8],
+    first_table: &[u16],
+    second_table: &[u16],
+    work: &[u8],
+    layout: Layout,
+    x: usize,
+    y: usize,
+) -> bool
+    requires { ⌜ Setting (now signature) (now first) (now second) (now «first_table») (now «second_table») layout (now work) ⌝ }
+    requires { ⌜ (x ≤ layout .names) × (y ≤ layout .names) ⌝ }
+    ensures { λ r. ⌜ Tells r (Own (now (signature .entry)) (now (first .entry)) (now (second .entry)) (now («first_table» .entry)) (now («second_table» .entry)) layout (now (work .entry)) x y) ⌝ }
+{
+    if name_lost(signature, work, layout, x, y) {
+        return true;
+    }
+    defined_lost(
+        signature,
+        first,
+        second,
+        first_table,
+        second_table,
+        work,
+        layout,
+        x,
+        y,
+    )
+}
+
+// Whether it shows at a glance at one byte that none of the eight rows from this one on lies above row x by the first release.
+pub fn none_above(work: &[u8], layout: Layout, x: usize, row: usize) -> bool
+    requires { ⌜ Squares layout (now work) ⌝ }
+    requires { ⌜ (x ≤ layout .names) × (row ≤ layout .names) ⌝ }
+    ensures { λ r. ⌜ (r ≡ true → NoneAbove layout (now (work .entry)) x row) ⌝ }
+{
+    if row % 8 == 0 {
+        let width = layout.names / 8 + 1;
+        let place = layout.first + (x * width + row / 8);
+        if work[place] == 0 {
+            return true;
+        }
+    }
+    false
 }

@@ -15,45 +15,37 @@ use Rattle.layout.proofs.is_marked.Reads as is-marked-reads
 use Rattle.release.proofs.table.count.Reads as count-reads
 use Rattle.release.proofs.table.part.Reads as part-reads
 
+-- all marked so far
 abbrev Inv-loop : tie.InvT-loop
 Inv-loop first table work layout x y count i₀ i = (i ≤ count) × EachBelow (RowPart first table layout work x y) i
 
 abbrev μ-loop : tie.MeasureT-loop
 μ-loop first table work layout x y count i₀ i = count - i
 
--- src/rules.rt:45:9
 count-requires : tie.Need-count-requires Inv-loop μ-loop
 count-requires c κs = let p = c .before .before .before .pre in has-count (p .0) (p .1 .1 .0) (p .1 .1 .2)
 
--- src/rules.rt:47:5
 loop-holds : tie.Need-loop-holds Inv-loop μ-loop
 loop-holds c = (search needs, each-start)
 
--- src/rules.rt:48:13
 part-requires : tie.Need-part-requires Inv-loop μ-loop
 part-requires c κs = let p = c .before .before .before .before .before .before .pre in has-part (p .0) (p .1 .1 .0) (p .1 .1 .2) (c .before .before .count .ensures) (c .loop-test .taken)
 
--- src/rules.rt:49:12
 is-marked-requires : tie.Need-is-marked-requires Inv-loop μ-loop
 is-marked-requires c κs = let p = c .before .before .before .before .before .before .before .pre in (p .1 .0, (part-small (p .0) (p .1 .1 .0) (p .1 .1 .2) (c .before .before .before .count .ensures) (c .before .loop-test .taken) (c .part .ensures), p .1 .1 .1))
 
--- src/rules.rt:50:13
 add-i : tie.Need-add-i Inv-loop μ-loop
 add-i c = search needs
 
--- src/rules.rt:47:5
 loop-less : tie.Need-loop-less Inv-loop μ-loop
 loop-less c = search needs
 
--- src/rules.rt:47:5
 loop-again : tie.Need-loop-again Inv-loop μ-loop
 loop-again c = (search needs, each-more (c .before .before .before .before .loop .inv .1) (row-part (c .before .before .part .ensures) (c .before .is-marked .ensures .sound (c .if1 .taken))))
 
--- src/rules.rt:52:13
 returns : tie.Need-returns Inv-loop μ-loop
 returns c = never (no-row-part (c .before .before .before .before .before .count .ensures) (c .before .before .before .loop-test .taken) (c .before .before .part .ensures) (refuted (c .before .is-marked .ensures) (c .if1 .left)))
 
--- src/rules.rt:39:1
 returns-2 : tie.Need-returns-2 Inv-loop μ-loop
 returns-2 c = always (each-end (omega (arith, c .before .before .count .ensures, c .loop-test .left)) (c .before .loop .inv .1))
 

@@ -9,27 +9,21 @@ use Rattle.backward.proofs.rules.is_filled.Lts as lts
 use Rattle.release.proofs.table.kind.Reads as kind-reads
 use Rattle.release.proofs.table.role.Reads as role-reads
 
--- src/rules.rt:103:9
 returns : tie.Need-returns
 returns c = never (λ p. omega (arith, p .is-name, c .if1 .taken))
 
--- src/rules.rt:105:9
 kind-requires : tie.Need-kind-requires
 kind-requires c κs = search needs
 
--- src/rules.rt:107:9
 returns-2 : tie.Need-returns-2
 returns-2 c = never (λ p. c .if2 .taken (c .before .kind .ensures ∙ p .kind))
 
--- src/rules.rt:109:9
 role-requires : tie.Need-role-requires
 role-requires c κs = search needs
 
--- src/rules.rt:111:9
 returns-3 : tie.Need-returns-3
 returns-3 c = never (λ p. c .if3 .taken (c .before .role .ensures ∙ p .role))
 
--- src/rules.rt:98:1
 returns-4 : tie.Need-returns-4
 returns-4 c = always (record { is-name = c .before .before .before .before .if1 .left; kind = sym (c .before .before .before .kind .ensures) ∙ c .before .before .if2 .left; role = sym (c .before .role .ensures) ∙ c .if3 .left })
 

@@ -1,51 +1,26 @@
-use mathlib.Core.Path.{sym, _∙_}
-use native.Mathlib.Omega.{arith}
-use Rattle.backward.proofs.Tested.{part-step}
 use borrow.Author.Needs.{needs}
+use Rattle.el.proofs.Tests.{always}
+use Rattle.marks.proofs.Squares.{refuted}
+use Rattle.backward.specs.Rules.{by-name}
+use Rattle.backward.proofs.Tested.{own-step}
 use Rattle.backward.proofs.rules.is_lost.Statement.{statement}
 use Rattle.backward.proofs.rules.is_lost.Tie as tie
 use Rattle.backward.proofs.rules.is_lost.Reads as reads
 use Rattle.backward.proofs.rules.is_lost.Lts as lts
-use Rattle.backward.proofs.rules.column_lost.Reads as column-lost-reads
-use Rattle.backward.proofs.rules.some_part_lost.Reads as some-part-lost-reads
-use Rattle.release.proofs.table.kind.Reads as kind-reads
+use Rattle.backward.proofs.rules.defined_lost.Reads as defined-lost-reads
+use Rattle.backward.proofs.rules.name_lost.Reads as name-lost-reads
 
--- src/rules.rt:181:9
-column-lost-requires : tie.Need-column-lost-requires
-column-lost-requires c κs = let p = c .before .before .before .before .before .before .before .before .pre in (p .0, (record { not-joined = λ h. absurd (omega (arith, c .if1 .taken)) }, p .1))
+name-lost-requires : tie.Need-name-lost-requires
+name-lost-requires c κs = search needs
 
--- src/rules.rt:181:9
 returns : tie.Need-returns
-returns c = c .column-lost .ensures
+returns c = always (by-name (c .before .name-lost .ensures .sound (c .if1 .taken)))
 
--- src/rules.rt:183:9
-kind-requires : tie.Need-kind-requires
-kind-requires c κs = search needs
+defined-lost-requires : tie.Need-defined-lost-requires
+defined-lost-requires c κs = search needs
 
--- src/rules.rt:185:9
-some-part-lost-requires : tie.Need-some-part-lost-requires
-some-part-lost-requires c κs = let p = c .before .before .before .before .before .before .before .before .before .before .pre in (p .0 .second-shaped, (p .0 .places .marks, (p .1 .0, c .before .before .if1 .left, sym (c .before .kind .ensures) ∙ c .if2 .taken)))
-
--- src/rules.rt:185:9
 returns-2 : tie.Need-returns-2
-returns-2 c = part-step (c .before .before .before .if1 .left) (sym (c .before .before .kind .ensures) ∙ c .before .if2 .taken) (c .some-part-lost .ensures)
-
--- src/rules.rt:187:5
-column-lost-requires-2 : tie.Need-column-lost-requires-2
-column-lost-requires-2 c κs = let p = c .before .before .before .before .before .before .before .before .before .before .pre in (p .0, (record { not-joined = λ h e. c .if2 .left (c .before .kind .ensures ∙ e) }, p .1))
-
--- src/rules.rt:175:1
-returns-3 : tie.Need-returns-3
-returns-3 c = c .column-lost2 .ensures
+returns-2 c = own-step (refuted (c .before .before .name-lost .ensures) (c .before .if1 .left)) (c .defined-lost .ensures)
 
 pub is-lost-spec : {M : Type 1} → statement M
-is-lost-spec =
-    tie.close
-    (tie.spec
-    column-lost-requires
-    returns
-    kind-requires
-    some-part-lost-requires
-    returns-2
-    column-lost-requires-2
-    returns-3)
+is-lost-spec = tie.close (tie.spec name-lost-requires returns defined-lost-requires returns-2)

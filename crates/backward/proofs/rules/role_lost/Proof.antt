@@ -14,47 +14,36 @@ use Rattle.layout.proofs.is_marked.Reads as is-marked-reads
 use Rattle.release.proofs.table.filler.Reads as filler-reads
 use Rattle.release.proofs.table.role.Reads as role-reads
 
--- src/rules.rt:125:9
 role-requires : tie.Need-role-requires
 role-requires c κs = search needs
 
--- src/rules.rt:126:9
 filler-requires : tie.Need-filler-requires
 filler-requires c κs = search needs
 
--- src/rules.rt:127:8
 has-role-requires : tie.Need-has-role-requires
 has-role-requires c κs = search needs
 
--- src/rules.rt:128:12
 is-filled-requires : tie.Need-is-filled-requires
 is-filled-requires c κs = search needs
 
--- src/rules.rt:129:17
 filler-requires-2 : tie.Need-filler-requires-2
 filler-requires-2 c κs = record { row = omega (arith, c .before .is-filled .ensures .sound (c .if2 .taken) .is-name, c .before .before .before .before .before .before .before .before .before .before .pre .1 .0 .1 .rows) }
 
--- src/rules.rt:131:17
 returns : tie.Need-returns
 returns c = never (role-top (c .before .before .before .before .before .before .before .before .role .ensures) (c .before .before .before .before .before .before .before .filler .ensures) (c .before .before .before .before .is-filled .ensures .sound (c .before .before .before .if2 .taken)) (c .before .before .filler2 .ensures) (c .if3 .taken))
 
--- src/rules.rt:133:13
 is-marked-requires : tie.Need-is-marked-requires
 is-marked-requires c κs = let p = c .before .before .before .before .before .before .before .before .before .before .before .before .before .pre in (p .1 .1 .0, (omega (arith, c .before .before .before .before .before .before .before .filler .ensures, p .1 .0 .0 .filler (c .before .before .before .before .before .before .before .before .before .before .before .before .before .args .x) (p .1 .1 .1 .0) (restricted _ _ (p .1 .1 .1 .1))), omega (arith, c .if3 .left)))
 
--- src/rules.rt:133:13
 returns-2 : tie.Need-returns-2
 returns-2 c = role-filler (c .before .before .before .before .before .before .before .before .before .role .ensures) (c .before .before .before .before .before .before .before .before .filler .ensures) (sym (c .before .before .before .before .before .before .before .has-role .ensures) ∙ c .before .before .before .before .before .before .if1 .taken) (c .before .before .before .before .before .is-filled .ensures .sound (c .before .before .before .before .if2 .taken)) (c .before .before .before .filler2 .ensures) (c .before .if3 .left) (c .is-marked .ensures)
 
--- src/rules.rt:135:9
 is-marked-requires-2 : tie.Need-is-marked-requires-2
 is-marked-requires-2 c κs = let p = c .before .before .before .before .before .before .before .before .before .before .pre in (p .1 .1 .0, (omega (arith, c .before .before .before .before .filler .ensures, p .1 .0 .0 .filler (c .before .before .before .before .before .before .before .before .before .before .args .x) (p .1 .1 .1 .0) (restricted _ _ (p .1 .1 .1 .1))), omega arith))
 
--- src/rules.rt:135:9
 returns-3 : tie.Need-returns-3
 returns-3 c = role-nothing (c .before .before .before .before .before .before .role .ensures) (c .before .before .before .before .before .filler .ensures) (sym (c .before .before .before .before .has-role .ensures) ∙ c .before .before .before .if1 .taken) (refuted (c .before .before .is-filled .ensures) (c .before .if2 .left)) (c .is-marked2 .ensures)
 
--- src/rules.rt:118:1
 returns-4 : tie.Need-returns-4
 returns-4 c = never (role-not-chosen (c .before .before .before .role .ensures) (sym (c .before .has-role .ensures) ∙ c .if1 .left))
 

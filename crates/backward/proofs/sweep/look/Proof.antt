@@ -9,39 +9,30 @@ use Rattle.backward.proofs.rules.is_lost.Reads as is-lost-reads
 use Rattle.layout.proofs.is_marked.Reads as is-marked-reads
 use Rattle.layout.proofs.mark.Reads as mark-reads
 
--- src/sweep.rt:17:8
 is-marked-requires : tie.Need-is-marked-requires
 is-marked-requires c κs = search needs
 
--- src/sweep.rt:18:9
 same-length : tie.Need-same-length
 same-length c = search needs
 
--- src/sweep.rt:18:9
 returns : tie.Need-returns
 returns c = cell-marked (c .before .is-marked .ensures .sound (c .if1 .taken))
 
--- src/sweep.rt:20:8
 is-lost-requires : tie.Need-is-lost-requires
 is-lost-requires c κs = search needs
 
--- src/sweep.rt:21:9
 mark-requires : tie.Need-mark-requires
 mark-requires c κs = search needs
 
--- src/sweep.rt:21:9
 same-length-2 : tie.Need-same-length-2
 same-length-2 c = search needs
 
--- src/sweep.rt:21:9
 returns-2 : tie.Need-returns-2
-returns-2 c = let p = c .before .before .before .before .before .before .before .before .before .before .before .before .before .before .before .before .pre in cell-put (p .0 .places .marks) (p .1 .0) (p .1 .1) (c .before .before .before .before .before .is-lost .ensures .sound (c .before .before .before .before .if2 .taken)) (c .before .before .mark .ensures)
+returns-2 c = cell-put (c .before .before .before .before .before .is-lost .ensures .sound (c .before .before .before .before .if2 .taken)) (c .before .before .mark .ensures)
 
--- src/sweep.rt:12:1
 same-length-3 : tie.Need-same-length-3
 same-length-3 c = search needs
 
--- src/sweep.rt:12:1
 returns-3 : tie.Need-returns-3
 returns-3 c = cell-none (refuted (c .before .is-lost .ensures) (c .if2 .left))
 

@@ -13,45 +13,37 @@ use Rattle.backward.proofs.sweep.rows.Reads as reads
 use Rattle.backward.proofs.sweep.rows.Lts as lts
 use Rattle.backward.proofs.sweep.row.Reads as row-reads
 
+-- a pass over what was looked at so far
 abbrev Inv-loop : tie.InvT-loop
 Inv-loop signature first second first-table second-table work₀ layout changed₀ next₀ work changed next = (next ≤ layout .names + 1) × (length work ≡ length work₀) × Pass (Step signature first second first-table second-table layout) (markSquare layout) (Below (Row signature first second first-table second-table layout) next) work₀ work changed
 
 abbrev μ-loop : tie.MeasureT-loop
 μ-loop signature first second first-table second-table work₀ layout changed₀ next₀ work changed next = layout .names + 1 - next
 
--- src/sweep.rt:51:5
 loop-holds : tie.Need-loop-holds Inv-loop μ-loop
 loop-holds c = (search needs, refl, turns-none)
 
--- src/sweep.rt:53:9
 add-next : tie.Need-add-next Inv-loop μ-loop
 add-next c = search needs
 
--- src/sweep.rt:54:12
 row-requires : tie.Need-row-requires Inv-loop μ-loop
 row-requires c κs = (setting-stays (c .before .before .before .loop .inv .2 .grows) (c .before .before .before .before .before .before .before .before .before .before .pre), c .before .if1 .taken)
 
--- src/sweep.rt:51:5
 loop-less : tie.Need-loop-less Inv-loop μ-loop
 loop-less c = search needs
 
--- src/sweep.rt:51:5
 loop-again : tie.Need-loop-again Inv-loop μ-loop
 loop-again c = (search needs, search needs, turn-changed (c .before .before .before .before .before .before .before .loop .inv .2) (c .before .before .before .row .ensures) (c .if2 .taken))
 
--- src/sweep.rt:51:5
 loop-less-2 : tie.Need-loop-less-2 Inv-loop μ-loop
 loop-less-2 c = search needs
 
--- src/sweep.rt:51:5
 loop-again-2 : tie.Need-loop-again-2 Inv-loop μ-loop
 loop-again-2 c = (search needs, search needs, turn-unchanged (c .before .before .before .before .before .before .before .loop .inv .2) (c .before .before .before .row .ensures) (c .if2 .left))
 
--- src/sweep.rt:45:1
 same-length : tie.Need-same-length Inv-loop μ-loop
 same-length c = search needs
 
--- src/sweep.rt:45:1
 returns : tie.Need-returns Inv-loop μ-loop
 returns c = turns-end (c .if1 .left) (c .before .before .loop .inv .2)
 

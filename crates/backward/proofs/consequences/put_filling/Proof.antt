@@ -1,0 +1,80 @@
+use Prim.Native.Nat.{_≤_, _-_}
+use mathlib.Core.Path.{_≡_, refl}
+use borrow.Author.Needs.{needs}
+use lib.ListN.{length}
+use Rattle.marks.specs.Passes.{Grows, none}
+use Rattle.layout.specs.Layouts.{markSquare}
+use native.Mathlib.Omega.{arith}
+use Rattle.marks.proofs.Passes.{grows-further}
+use Rattle.backward.specs.Rules.{Step}
+use Rattle.backward.proofs.Tested.{setting-stays}
+use Rattle.backward.proofs.consequences.put_filling.Statement.{statement}
+use Rattle.backward.proofs.consequences.put_filling.Tie as tie
+use Rattle.backward.proofs.consequences.put_filling.Reads as reads
+use Rattle.backward.proofs.consequences.put_filling.Lts as lts
+use Rattle.backward.proofs.chains.head.Reads as head-reads
+use Rattle.backward.proofs.chains.name.Reads as name-reads
+use Rattle.backward.proofs.chains.next.Reads as next-reads
+use Rattle.backward.proofs.consequences.put_filled.Reads as put-filled-reads
+
+-- marks put by the rules
+abbrev Inv-loop : tie.InvT-loop
+Inv-loop signature first second first-table second-table work₀ first-chains second-chains pending₀ layout filler y entry₀ seen₀ work pending entry seen = (seen ≤ 2048) × (length work ≡ length work₀) × Grows (Step signature first second first-table second-table layout) (markSquare layout) work₀ work
+
+abbrev μ-loop : tie.MeasureT-loop
+μ-loop signature first second first-table second-table work₀ first-chains second-chains pending₀ layout filler y entry₀ seen₀ work pending entry seen = 2048 - seen
+
+head-requires : tie.Need-head-requires Inv-loop μ-loop
+head-requires c κs = search needs
+
+loop-holds : tie.Need-loop-holds Inv-loop μ-loop
+loop-holds c = (search needs, refl, none)
+
+name-requires : tie.Need-name-requires Inv-loop μ-loop
+name-requires c κs = search needs
+
+add-seen : tie.Need-add-seen Inv-loop μ-loop
+add-seen c = search needs
+
+same-length : tie.Need-same-length Inv-loop μ-loop
+same-length c = search needs
+
+returns : tie.Need-returns Inv-loop μ-loop
+returns c = c .before .before .before .before .loop .inv .2
+
+next-requires : tie.Need-next-requires Inv-loop μ-loop
+next-requires c κs = search needs
+
+put-filled-requires : tie.Need-put-filled-requires Inv-loop μ-loop
+put-filled-requires c κs = (setting-stays (c .before .before .before .before .before .before .before .loop .inv .2) (c .before .before .before .before .before .before .before .before .before .before .before .before .before .before .before .pre), omega (arith, c .before .before .before .if1 .left))
+
+loop-less : tie.Need-loop-less Inv-loop μ-loop
+loop-less c = search needs
+
+loop-again : tie.Need-loop-again Inv-loop μ-loop
+loop-again c = (search needs, search needs, grows-further (c .before .before .before .before .before .before .before .before .before .before .loop .inv .2) (c .before .before .put-filled .ensures))
+
+same-length-2 : tie.Need-same-length-2 Inv-loop μ-loop
+same-length-2 c = search needs
+
+returns-2 : tie.Need-returns-2 Inv-loop μ-loop
+returns-2 c = c .before .loop .inv .2
+
+pub put-filling-spec : {M : Type 1} → statement M
+put-filling-spec =
+    tie.close
+    (tie.spec
+    Inv-loop
+    μ-loop
+    head-requires
+    loop-holds
+    name-requires
+    add-seen
+    same-length
+    returns
+    next-requires
+    put-filled-requires
+    loop-less
+    loop-again
+    same-length-2
+    returns-2)
