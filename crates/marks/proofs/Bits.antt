@@ -11,7 +11,7 @@ use Prim.Native.Nat.{ℕ, zero, suc, _+_, _-_, _*_, _/_, _%_, _^_, _≤_, _<_, m
 use native.Mathlib.Nat.{mod-lt, div-eq-of-lt, zero-lt-suc, one-mul, not-suc-le-zero, le-of-suc-le-suc}
 use native.Mathlib.Omega.{arith}
 use native.Mathlib.Decide.{ℕ-discrete, decLt}
-use lib.Bits.{bitOr, bitAnd, bitXor, or-shr, or-step, or-add-and, xor-add-and, and-le-l, and-le-r}
+use lib.Bits.{bitOr, bitAnd, bitXor, differ, or-shr, or-step, xor-shr, xor-step, or-add-and, xor-add-and, and-le-l, and-le-r}
 use lib.Pow.{pow-pos, pow-lt, pow-add, shl-shr, shl-exact, shr-shr}
 use lib.ListN.{length, getD, set}
 use lib.Seq.{getD-set-same, getD-set-other}
@@ -158,3 +158,57 @@ unfolding unset
 or-less [] i m k l h f e = absurd (not-suc-le-zero l)
 or-less (b ∷ bs) zero m k l h f e = omega (arith, unset-less 8 b m k h f e)
 or-less (b ∷ bs) (suc i) m k l h f e = omega (arith, or-less bs i m k (le-of-suc-le-suc l) h f e)
+
+-- bits of a ^ b
+differ-small : (a b : ℕ) → a < 2 → b < 2 → differ a b < 2
+differ-small zero b h l = l
+differ-small (suc a) zero h l = h
+differ-small (suc zero) (suc zero) h l = omega arith
+differ-small (suc zero) (suc (suc b)) h l = absurd (omega arith)
+differ-small (suc (suc a)) (suc b) h l = absurd (omega arith)
+
+pub bit-xor : (a b k : ℕ) → bit (bitXor a b) k ≡ differ (bit a k) (bit b k)
+unfolding bit
+bit-xor a b k = rw (xor-shr a b k) (last (bitXor (a / 2 ^ k / 2) (b / 2 ^ k / 2)) (differ-small _ _ (bit-small a k) (bit-small b k)) (xor-step (a / 2 ^ k) (b / 2 ^ k)))
+  where
+    last : {d p : ℕ} (c : ℕ) → p < 2 → d ≡ c * 2 + p → d % 2 ≡ p
+    last c h e = omega arith
+
+-- (a | b) ^ b has the bits of a that b has not; 255 ^ b those that b has not
+pub outside-bit : (a b k : ℕ) → bit (bitXor (bitOr a b) b) k ≡ 1 → bit a k ≡ 1
+outside-bit a b k e = by-bits (bit a k) (bit b k) (bit-small a k) (bit-small b k) (sym (bit-xor (bitOr a b) b k ∙ ap (λ (z : ℕ). differ z (bit b k)) (bit-or a b k)) ∙ e)
+  where
+    by-bits : (p q : ℕ) → p < 2 → q < 2 → differ (max p q) q ≡ 1 → p ≡ 1
+    by-bits zero zero h l f = f
+    by-bits zero (suc zero) h l f = f
+    by-bits (suc zero) q h l f = refl
+    by-bits zero (suc (suc q)) h l f = absurd (omega arith)
+    by-bits (suc (suc p)) q h l f = absurd (omega arith)
+
+pub not-outside : (a b k : ℕ) → (bit (bitXor (bitOr a b) b) k ≡ 1 → ⊥) → bit a k ≡ 1 → bit b k ≡ 1
+not-outside a b k f e = by-bits (bit a k) (bit b k) e (bit-small b k) (λ g. f (bit-xor (bitOr a b) b k ∙ ap (λ (z : ℕ). differ z (bit b k)) (bit-or a b k) ∙ g))
+  where
+    by-bits : (p q : ℕ) → p ≡ 1 → q < 2 → (differ (max p q) q ≡ 1 → ⊥) → q ≡ 1
+    by-bits (suc zero) zero h l g = absurd (g refl)
+    by-bits (suc zero) (suc zero) h l g = refl
+    by-bits zero q h l g = absurd (omega arith)
+    by-bits (suc (suc p)) q h l g = absurd (omega arith)
+    by-bits (suc zero) (suc (suc q)) h l g = absurd (omega arith)
+
+pub not-bit : (b k : ℕ) → k < 8 → bit (bitXor 255 b) k ≡ 1 → bit b k ≡ 1 → ⊥
+unfolding bit
+not-bit b k h e f =
+    let g : differ (255 / 2 ^ k % 2) (b / 2 ^ k % 2) ≡ 1 = sym (bit-xor 255 b k) ∙ e in
+    let i : differ 1 1 ≡ 1 = sym (ap (λ (z : ℕ). differ z (b / 2 ^ k % 2)) (all-bits k h) ∙ ap (λ (z : ℕ). differ 1 z) f) ∙ g in
+    omega arith
+
+pub bit-of-not : (b k : ℕ) → k < 8 → bitXor 255 b ≡ 0 → bit b k ≡ 1
+unfolding bit
+bit-of-not b k h e =
+    let g : differ (255 / 2 ^ k % 2) (b / 2 ^ k % 2) ≡ 0 = sym (bit-xor 255 b k) ∙ ap (λ (z : ℕ). z / 2 ^ k % 2) e ∙ bit-of-zero k in
+    by-bit (b / 2 ^ k % 2) (sym (ap (λ (z : ℕ). differ z (b / 2 ^ k % 2)) (all-bits k h)) ∙ g)
+  where
+    by-bit : (q : ℕ) → differ 1 q ≡ 0 → q ≡ 1
+    by-bit zero i = absurd (omega arith)
+    by-bit (suc zero) i = refl
+    by-bit (suc (suc q)) i = absurd (omega arith)

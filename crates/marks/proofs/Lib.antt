@@ -2,3 +2,6 @@
 pub mod Bits
 pub mod Squares
 pub mod Passes
+pub mod Lines
+pub mod Turning
+pub mod Handing

@@ -4,7 +4,8 @@
 --   put-pass, put-grows                                    a mark that the rule allows is a pass;  grows-as, pass-by: by another rule
 --   pass-as, pass-with                                     what is done said otherwise; the latter knows that nothing changed
 --   due-there, due-not, due-as                             a mark that is there, that is not allowed, that a test tells of
---   pass-changed, pass-unchanged, changed-before           two passes, by whether the second, or the first, changed anything
+--   pass-found, pass-next                                  a pass that ends with its first part that changed something
+--   pass-changed, pass-unchanged                           two passes, by whether the second changed anything
 --   turn-changed, turn-unchanged, turn-both, turn-skipped  the same for a turn of a loop; turns-none, turns-to, turns-end: no turn
 --   pass-closed                                            a pass that changed nothing ends the passes
 -- Not here: laws of single cells (Squares).
@@ -18,7 +19,7 @@ use native.Mathlib.Omega.{arith}
 use native.Mathlib.Decide.{ℕ-discrete, decLt}
 use Rattle.el.proofs.Tests.{Tells}
 use Rattle.marks.specs.declared.Square.{Square}
-use Rattle.marks.specs.Squares.{place, Room, Marked, Unmarked, Frame, Put, Within, unset}
+use Rattle.marks.specs.Squares.{place, Room, Marked, Unmarked, Frame, Put, Within, NextMarked, unset}
 use Rattle.marks.specs.Passes.{Grows, none, more, Pass, Closed, Below, Due, AllGood, FromRow}
 use Rattle.marks.proofs.Squares.{not-true, not-false, refuted, frame-same, frame-further, frame-room, hand-byte}
 use Rattle.marks.proofs.Bits.{orAt}
@@ -83,6 +84,9 @@ module _ {Rule : List ℕ → ℕ → ℕ → Type 0} {q : Square} where
   pub pass-none : {Done : List ℕ → Type 0} {w : List ℕ} → Done w → Pass Rule q Done w w false
   pass-none d = record { grows = none; fewer = λ e. not-false e; same = λ e. refl; done = λ e. d }
 
+  pub pass-still : {Done : List ℕ → Type 0} {w v : List ℕ} → v ≡ w → Done v → Pass Rule q Done w v false
+  pass-still e d = record { grows = rw e none; fewer = λ k. not-false k; same = λ k. e; done = λ k. d }
+
   pub pass-with : {D E : List ℕ → Type 0} {w v : List ℕ} {r : Bool} → (v ≡ w → D v → E v) → Pass Rule q D w v r → Pass Rule q E w v r
   pass-with f p = record { grows = p .grows; fewer = p .fewer; same = p .same; done = λ e. f (p .same e) (p .done e) }
 
@@ -95,7 +99,7 @@ module _ {Rule : List ℕ → ℕ → ℕ → Type 0} {q : Square} where
   pub put-pass : {x y : ℕ} {w v : List ℕ} {r : Bool} → Put q x y w v r → Rule w x y → Pass Rule q (λ u. Marked q u x y) w v r
   put-pass p e = record { grows = put-grows p e; fewer = p .less; same = p .same; done = λ k. p .there }
 
-  -- two passes: the second changed something, or nothing; the first did
+  -- two passes: the second changed something, or nothing
   pub pass-changed : {D E F : List ℕ → Type 0} {u w v : List ℕ} {r t : Bool} → Pass Rule q D u w r → Pass Rule q E w v t → t ≡ true → Pass Rule q F u v true
   pass-changed p s e = record {
     grows = grows-further (p .grows) (s .grows);
@@ -112,20 +116,20 @@ module _ {Rule : List ℕ → ℕ → ℕ → Type 0} {q : Square} where
     done = λ k. f (rw (s .same e) (p .done k)) (s .done e);
   }
 
-  pub changed-before : {D E F : List ℕ → Type 0} {u w v : List ℕ} {r t : Bool} → Pass Rule q D u w r → Pass Rule q E w v t → r ≡ true → Pass Rule q F u v true
-  changed-before p s e = record {
-    grows = grows-further (p .grows) (s .grows);
-    fewer = λ k. omega (arith, p .fewer e, unset-falls (s .grows));
-    same = λ k. not-true k;
-    done = λ k. not-true k;
-  }
-
   -- whatever the two changed
   pub pass-both : {D E F : List ℕ → Type 0} {u w v : List ℕ} {r t : Bool} → (D v → E v → F v) → Pass Rule q D u w r → Pass Rule q E w v t → Pass Rule q F u v (r || t)
   pass-both {r = true} {t = true} f p s = pass-changed p s refl
   pass-both {r = true} {t = false} f p s = pass-unchanged f p s refl
   pass-both {r = false} {t = true} f p s = pass-changed p s refl
   pass-both {r = false} {t = false} f p s = pass-unchanged f p s refl
+
+  -- a pass that ends with its first part that changed something: such a part, and what comes after one that did not
+  pub pass-found : {D E : List ℕ → Type 0} {w v : List ℕ} {r : Bool} → Pass Rule q D w v r → r ≡ true → Pass Rule q E w v true
+  pass-found p e = record { grows = p .grows; fewer = λ k. p .fewer e; same = λ k. not-true k; done = λ k. not-true k }
+
+  pub pass-next : {D E F : List ℕ → Type 0} {u w v : List ℕ} {r t : Bool} → (D v → E v → F v) → Pass Rule q D u w r → r ≡ false → Pass Rule q E w v t → Pass Rule q F u v t
+  pass-next {r = true} f p e s = not-true e
+  pass-next {r = false} f p e s = pass-both f p s
 
   -- turns of a loop
   pub turns-none : {D : ℕ → List ℕ → Type 0} {w : List ℕ} → Pass Rule q (Below D 0) w w false
@@ -176,12 +180,21 @@ hand-further {q} {w = w} {from = from} {to = to} {source = source} {target = tar
 pub record HasMark (q : Square) (a x y : ℕ) (w : List ℕ) : Type 0 where
   pub marked : Marked q w a y → Marked q w x y
 
-module _ {q : Square} {a z y : ℕ} where
-  pub column-pass : {w v : List ℕ} {r : Bool} → Marked q w a y → Put q z y w v r → Pass (FromRow q a z) q (HasMark q a z y) w v r
-  column-pass m p = pass-as (λ k. record { marked = λ j. k }) (put-pass p (record { row = refl; marked = m }))
+-- columns of a row that are looked at one after the other, those that are marked
+pub marks-to : {q : Square} {a z k r : ℕ} {w : List ℕ} → NextMarked q w a k r → Below (HasMark q a z) k w → Below (HasMark q a z) r w
+marks-to {k = k} n b = record { at = λ i l. elim (decLt i k) [ yes h ↦ b .at i h | no h ↦ record { marked = λ m. absurd (n .none i (omega arith) l m) } ] }
 
-  pub column-none : {w : List ℕ} {r : Bool} → Tells r (Marked q w a y) → r ≡ false → HasMark q a z y w
-  column-none t e = record { marked = λ m. absurd (refuted t e m) }
+pub marks-more : {q : Square} {a z y : ℕ} {w v : List ℕ} {r : Bool} → Put q z y w v r → r ≡ false → Below (HasMark q a z) y w → Below (HasMark q a z) (y + 1) v
+marks-more p e b = below-more (rw (p .same e) b) (record { marked = λ m. p .there })
 
-pub columns-end : {q : Square} {a z k : ℕ} {w v : List ℕ} {r : Bool} → q .names < k → Pass (FromRow q a z) q (Below (HasMark q a z) k) w v r → Pass (FromRow q a z) q (Within q a z) w v r
-columns-end l p = pass-as (λ b. record { marked = λ y h m. b .at y (omega arith) .marked m }) p
+pub marks-end : {q : Square} {a z k : ℕ} {w : List ℕ} → q .names < k → Below (HasMark q a z) k w → Within q a z w
+marks-end l b = record { marked = λ y h m. b .at y (omega arith) .marked m }
+
+-- one mark that is new, and then the whole row
+pub absorb-pass : {q : Square} {D : List ℕ → Type 0} {a z y : ℕ} {t u w v : List ℕ} {r : Bool} → u ≡ t → Marked q u a y → Put q z y u w r → r ≡ true → Grows (FromRow q a z) q w v → Pass (FromRow q a z) q D t v true
+absorb-pass {q} {D} {a} {z} {y} {w = w} {v = v} e m p f g = rw (← e) (record {
+  grows = grows-further (put-grows p (record { row = refl; marked = m })) g;
+  fewer = λ h. omega (arith, p .less f, unset-falls g);
+  same = λ h. not-true h;
+  done = λ h. not-true h;
+})

@@ -135,7 +135,7 @@ module _ (q : Square) where
   unfolding place span width
   row-byte x i h l = omega (arith, mul-le-mul-right (width n) h, suc-mul n (width n))
 
-  row-place : (x y a i : ℕ) → y ≤ n → i ≤ n / 8 → place q x y ≡ place q a 0 + i → (x ≡ a) × (y / 8 ≡ i)
+  pub row-place : (x y a i : ℕ) → y ≤ n → i ≤ n / 8 → place q x y ≡ place q a 0 + i → (x ≡ a) × (y / 8 ≡ i)
   row-place x y a i h l e =
       let b : place q a 0 + i ≡ place q a (8 * i) = ap (λ (k : ℕ). place q a 0 + k) (omega arith) ∙ place-column a (8 * i) in
       let r = same-row x y a (8 * i) h (omega arith) (e ∙ b) in
@@ -144,9 +144,9 @@ module _ (q : Square) where
       by-row : x ≡ a → y / 8 ≡ i
       by-row r = add-left (place q a 0) (y / 8) i (ap (λ (z : ℕ). place q z 0 + y / 8) (sym r) ∙ place-column x y ∙ e)
 
-  -- a byte of row `from` handed on to row `to`
-  pub hand-byte : (w : List ℕ) (from to i source target : ℕ) → Room q w → from ≤ n → to ≤ n → i ≤ n / 8 → source ≡ place q from 0 → target ≡ place q to 0 → Extends q w (orAt w (target + i) (getD w (source + i) 0)) × ((x y : ℕ) → x ≤ n → y ≤ n → Marked q (orAt w (target + i) (getD w (source + i) 0)) x y → Marked q w x y ⊎ ((x ≡ to) × Marked q w from y))
-  hand-byte w from to i source target room f t l s g = (or-extends w (target + i) (getD w (source + i) 0) lower upper inside, new)
+  -- a byte of row `to` with more bits: those of m
+  pub or-row : (w : List ℕ) (to i target m : ℕ) → Room q w → to ≤ n → i ≤ n / 8 → target ≡ place q to 0 → Extends q w (orAt w (target + i) m) × ((x y : ℕ) → x ≤ n → y ≤ n → Marked q (orAt w (target + i) m) x y → Marked q w x y ⊎ ((x ≡ to) × (y / 8 ≡ i) × (bit m (y % 8) ≡ 1)))
+  or-row w to i target m room t l g = (or-extends w (target + i) m lower upper inside, new)
     where
       lower : q .base ≤ target + i
       lower = omega (arith, g, place-from to 0)
@@ -157,14 +157,20 @@ module _ (q : Square) where
       inside : target + i < length w
       inside = omega (arith, upper, room .fits)
 
+      new : (x y : ℕ) → x ≤ n → y ≤ n → Marked q (orAt w (target + i) m) x y → Marked q w x y ⊎ ((x ≡ to) × (y / 8 ≡ i) × (bit m (y % 8) ≡ 1))
+      new x y xb yb b = elim (or-only w (target + i) m _ _ inside (b .is)) [
+        | inl z ↦ inl (record { is = z })
+        | inr z ↦ let p = row-place x y to i yb l (z .0 ∙ ap (λ (k : ℕ). k + i) g) in inr (p .0, p .1, z .1)
+      ]
+
+  -- a byte of row `from` handed on to row `to`
+  pub hand-byte : (w : List ℕ) (from to i source target : ℕ) → Room q w → from ≤ n → to ≤ n → i ≤ n / 8 → source ≡ place q from 0 → target ≡ place q to 0 → Extends q w (orAt w (target + i) (getD w (source + i) 0)) × ((x y : ℕ) → x ≤ n → y ≤ n → Marked q (orAt w (target + i) (getD w (source + i) 0)) x y → Marked q w x y ⊎ ((x ≡ to) × Marked q w from y))
+  hand-byte w from to i source target room f t l s g =
+      let b = or-row w to i target (getD w (source + i) 0) room t l g in
+      (b .0, λ x y h k m. elim (b .1 x y h k m) [ inl z ↦ inl z | inr z ↦ inr (z .0, record { is = rw (← source-place y (z .1)) (z .2) }) ])
+    where
       source-place : (y : ℕ) → y / 8 ≡ i → source + i ≡ place q from y
       source-place y e = ap (λ (z : ℕ). z + i) s ∙ ap (λ (z : ℕ). place q from 0 + z) (sym e) ∙ place-column from y
-
-      new : (x y : ℕ) → x ≤ n → y ≤ n → Marked q (orAt w (target + i) (getD w (source + i) 0)) x y → Marked q w x y ⊎ ((x ≡ to) × Marked q w from y)
-      new x y xb yb m = elim (or-only w (target + i) (getD w (source + i) 0) _ _ inside (m .is)) [
-        | inl z ↦ inl (record { is = z })
-        | inr z ↦ let p = row-place x y to i yb l (z .0 ∙ ap (λ (k : ℕ). k + i) g) in inr (p .0, record { is = rw (← source-place y (p .1)) (z .1) })
-      ]
 
 span-small : (n : ℕ) → n ≤ mostNames → span n ≤ mostCells
 unfolding size
@@ -274,7 +280,7 @@ module _ {q : Square} {w : List ℕ} {x from : ℕ} where
   unmarked-none f n l = record { after = omega arith; inside = omega arith; all = λ z h k. n .all z h (omega arith) (omega arith); found = λ h. absurd (omega arith) }
 
 -- one cell
-column-bit : (y : ℕ) → y % 8 < 8
+pub column-bit : (y : ℕ) → y % 8 < 8
 column-bit y = mod-lt y (zero-lt-suc 7)
 
 -- 1 << k
@@ -320,9 +326,6 @@ module _ {q : Square} {x y i : ℕ} (w : List ℕ) (p : Place q x y i) where
       by-bit : (a b : ℕ) → b ≤ q .names → place q a b ≡ place q x y → bit (mask y) (b % 8) ≡ 1 → Dec (b % 8 ≡ y % 8) → (a ≡ x) × (b ≡ y)
       by-bit a b l e m (yes z) = place-same q a b x y l yb e z
       by-bit a b l e m (no z) = absurd (omega (arith, bit-other (y % 8) (b % 8) (column-bit y) z))
-
-pub put-told : {q : Square} {x y : ℕ} {w v : List ℕ} {r t : Bool} → r ≡ t → Put q x y w v r → Put q x y w v t
-put-told e p = rw (← e) p
 
 -- a square p apart from the one that changed
 module _ {p q : Square} {w v : List ℕ} (f : Frame q w v) (apart : Apart p q) {x y : ℕ} (h : x ≤ p .names) (l : y ≤ p .names) where

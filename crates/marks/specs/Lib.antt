@@ -1,3 +1,5 @@
--- Squares of marks, and passes over them. To be read in this order.
+-- Squares of marks, passes over them, and lines. To be read in this order.
 pub mod Squares
 pub mod Passes
+pub mod Lines
+pub mod Inclusions

@@ -6,8 +6,12 @@ ghost use lib.ListN.{length};
 ghost use Rattle.el.proofs.Tests.{Tells};
 ghost use Rattle.marks.specs.Squares.{size, width, mostNames, mostCells, Small, Place, Room, Marked, Put, Zeroed};
 
-pub mod pending;
+pub mod inclusions;
+pub mod line;
+pub mod order;
 pub mod rows;
+pub mod turned;
+pub mod waiting;
 
 // The place of a square: names + 1 rows and as many columns, row after row from `base` on. A row begins with a byte of its own.
 pub struct Square {

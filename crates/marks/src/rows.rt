@@ -5,13 +5,12 @@ ghost use Prim.Native.Nat.{suc, _≤_};
 ghost use Rattle.marks.specs.Squares.{Room, Within, NextMarked, NextUnmarked};
 ghost use Rattle.marks.specs.Passes.{Grows, Pass, FromRow};
 use crate::Square;
-use crate::is_marked;
 use crate::mark;
 use crate::place;
 
 // Whether row `to` has the marks of row `from`. Where it says no, nothing is said. No byte is skipped, so that the machine can
 // look at many at a time.
-fn seems_within(work: &[u8], square: Square, from: usize, to: usize) -> bool
+pub fn seems_within(work: &[u8], square: Square, from: usize, to: usize) -> bool
     requires { ⌜ Room square (now work) ⌝ }
     requires { ⌜ (from ≤ square .names) × (to ≤ square .names) ⌝ }
     ensures { λ r. ⌜ (r ≡ true → Within square from to (now (work .entry))) ⌝ }
@@ -99,16 +98,13 @@ pub fn absorb(work: &mut [u8], square: Square, from: usize, to: usize) -> bool
     if seems_within(work, square, from, to) {
         return false;
     }
-    let mut changed = false;
-    let mut next = 0;
-    while next <= square.names {
-        let y = next;
-        next += 1;
-        if is_marked(work, square, from, y) {
-            if mark(work, square, to, y) {
-                changed = true;
-            }
+    let mut y = next_marked(work, square, from, 0);
+    while y <= square.names {
+        if mark(work, square, to, y) {
+            hand_on(work, square, from, to);
+            return true;
         }
+        y = next_marked(work, square, from, y + 1);
     }
-    changed
+    false
 }

@@ -1,23 +1,25 @@
-use Prim.Native.Nat.{suc, _≤_, _-_}
-use mathlib.Core.Path.{_≡_, refl}
+use Rattle.marks.proofs.Passes.{HasMark, pass-none, pass-still, below-none, marks-to, marks-more, marks-end, absorb-pass}
 use native.Mathlib.Omega.{arith}
 use borrow.Author.Needs.{needs}
-use lib.ListN.{length}
-use Rattle.marks.specs.Passes.{Pass, Below, FromRow}
-use Rattle.marks.proofs.Passes.{HasMark, room-stays, pass-none, turns-none, turn-changed, turn-unchanged, turn-skipped, column-pass, column-none, columns-end}
+use Prim.Native.Nat.{suc, _≤_, _-_}
+use mathlib.Core.Path.{_≡_, refl, sym, _∙_}
+use Rattle.marks.specs.Squares.{Marked}
+use Rattle.marks.specs.Passes.{Below}
+use Rattle.marks.proofs.Squares.{frame-room}
 use Rattle.marks.proofs.rows.absorb.Statement.{statement}
 use Rattle.marks.proofs.rows.absorb.Tie as tie
 use Rattle.marks.proofs.rows.absorb.Reads as reads
 use Rattle.marks.proofs.rows.absorb.Lts as lts
-use Rattle.marks.proofs.is_marked.Reads as is-marked-reads
 use Rattle.marks.proofs.mark.Reads as mark-reads
+use Rattle.marks.proofs.rows.hand_on.Reads as hand-on-reads
+use Rattle.marks.proofs.rows.next_marked.Reads as next-marked-reads
 use Rattle.marks.proofs.rows.seems_within.Reads as seems-within-reads
 
 abbrev Inv-loop : tie.InvT-loop
-Inv-loop work₀ square from to changed₀ next₀ work changed next = (next ≤ suc (square .names)) × (length work ≡ length work₀) × Pass (FromRow square from to) square (Below (HasMark square from to) next) work₀ work changed
+Inv-loop work₀ square from to y₀ work y = (y ≤ suc (square .names)) × (work ≡ work₀) × Below (HasMark square from to) y work × (y ≤ square .names → Marked square work from y)
 
 abbrev μ-loop : tie.MeasureT-loop
-μ-loop work₀ square from to changed₀ next₀ work changed next = suc (square .names) - next
+μ-loop work₀ square from to y₀ work y = suc (square .names) - y
 
 seems-within-requires : tie.Need-seems-within-requires Inv-loop μ-loop
 seems-within-requires c κs = search needs
@@ -28,41 +30,41 @@ same-length c = search needs
 returns : tie.Need-returns Inv-loop μ-loop
 returns c = pass-none (c .before .seems-within .ensures (c .if1 .taken))
 
+next-marked-requires : tie.Need-next-marked-requires Inv-loop μ-loop
+next-marked-requires c κs = (c .before .before .before .before .before .pre .0, (c .before .before .before .before .before .pre .1 .0, omega arith))
+
 loop-holds : tie.Need-loop-holds Inv-loop μ-loop
-loop-holds c = (search needs, refl, turns-none)
-
-add-next : tie.Need-add-next Inv-loop μ-loop
-add-next c = omega (arith, c .if2 .taken, c .before .before .before .before .before .before .before .pre .0 .small .few)
-
-is-marked-requires : tie.Need-is-marked-requires Inv-loop μ-loop
-is-marked-requires c κs = (room-stays (c .before .before .before .loop .inv .2 .grows) (c .before .before .before .before .before .before .before .before .pre .0), (c .before .before .before .before .before .before .before .before .pre .1 .0, c .before .if2 .taken))
+loop-holds c = (c .next-marked .ensures .inside, refl, marks-to (c .next-marked .ensures) below-none, c .next-marked .ensures .found)
 
 mark-requires : tie.Need-mark-requires Inv-loop μ-loop
-mark-requires c κs = (room-stays (c .before .before .before .before .before .before .loop .inv .2 .grows) (c .before .before .before .before .before .before .before .before .before .before .before .pre .0), (c .before .before .before .before .before .before .before .before .before .before .before .pre .1 .1, c .before .before .before .before .if2 .taken))
+mark-requires c κs = (rw (c .before .before .before .loop .inv .1) (c .before .before .before .before .before .before .before .before .before .before .pre .0), (c .before .before .before .before .before .before .before .before .before .before .pre .1 .1, c .before .if2 .taken))
 
-loop-less : tie.Need-loop-less Inv-loop μ-loop
-loop-less c = omega (arith, c .before .before .before .before .before .before .before .before .if2 .taken)
-
-loop-again : tie.Need-loop-again Inv-loop μ-loop
-loop-again c = (omega (arith, c .before .before .before .before .before .before .before .before .if2 .taken), search needs, turn-changed (c .before .before .before .before .before .before .before .before .before .before .loop .inv .2) (column-pass (c .before .before .before .before .before .before .is-marked .ensures .sound (c .before .before .before .before .before .if3 .taken)) (c .before .before .before .mark .ensures)) (c .if4 .taken))
-
-loop-less-2 : tie.Need-loop-less-2 Inv-loop μ-loop
-loop-less-2 c = omega (arith, c .before .before .before .before .before .before .before .before .if2 .taken)
-
-loop-again-2 : tie.Need-loop-again-2 Inv-loop μ-loop
-loop-again-2 c = (omega (arith, c .before .before .before .before .before .before .before .before .if2 .taken), search needs, turn-unchanged (c .before .before .before .before .before .before .before .before .before .before .loop .inv .2) (column-pass (c .before .before .before .before .before .before .is-marked .ensures .sound (c .before .before .before .before .before .if3 .taken)) (c .before .before .before .mark .ensures)) (c .if4 .left))
-
-loop-less-3 : tie.Need-loop-less-3 Inv-loop μ-loop
-loop-less-3 c = omega (arith, c .before .before .before .if2 .taken)
-
-loop-again-3 : tie.Need-loop-again-3 Inv-loop μ-loop
-loop-again-3 c = (omega (arith, c .before .before .before .if2 .taken), search needs, turn-skipped (c .before .before .before .before .before .loop .inv .2) (column-none (c .before .is-marked .ensures) (c .if3 .left)))
+hand-on-requires : tie.Need-hand-on-requires Inv-loop μ-loop
+hand-on-requires c κs = (frame-room (c .before .before .before .before .mark .ensures .extends .frame) (rw (c .before .before .before .before .before .before .before .before .loop .inv .1) (c .before .before .before .before .before .before .before .before .before .before .before .before .before .before .before .pre .0)), c .before .before .before .before .before .before .before .before .before .before .before .before .before .before .before .pre .1)
 
 same-length-2 : tie.Need-same-length-2 Inv-loop μ-loop
 same-length-2 c = search needs
 
 returns-2 : tie.Need-returns-2 Inv-loop μ-loop
-returns-2 c = columns-end (c .if2 .left) (c .before .before .loop .inv .2)
+returns-2 c = absorb-pass (c .before .before .before .before .before .before .before .before .before .before .before .loop .inv .1) (c .before .before .before .before .before .before .before .before .before .before .before .loop .inv .3 (c .before .before .before .before .before .before .before .before .before .if2 .taken)) (c .before .before .before .before .before .before .before .mark .ensures) (c .before .before .before .before .if3 .taken) (c .before .before .hand-on .ensures)
+
+add-next-marked : tie.Need-add-next-marked Inv-loop μ-loop
+add-next-marked c = omega (arith, c .before .before .before .before .before .before .if2 .taken, c .before .before .before .before .before .before .before .before .before .before .before .before .before .before .before .pre .0 .small .few)
+
+next-marked-requires-2 : tie.Need-next-marked-requires-2 Inv-loop μ-loop
+next-marked-requires-2 c κs = (frame-room (c .before .before .before .before .mark .ensures .extends .frame) (rw (c .before .before .before .before .before .before .before .before .loop .inv .1) (c .before .before .before .before .before .before .before .before .before .before .before .before .before .before .before .pre .0)), (c .before .before .before .before .before .before .before .before .before .before .before .before .before .before .before .pre .1 .0, omega (arith, c .before .before .before .before .before .before .if2 .taken)))
+
+loop-less : tie.Need-loop-less Inv-loop μ-loop
+loop-less c = omega (arith, c .before .before .before .before .before .before .before .if2 .taken, c .next-marked2 .ensures .after)
+
+loop-again : tie.Need-loop-again Inv-loop μ-loop
+loop-again c = (c .next-marked2 .ensures .inside, c .before .before .before .before .before .mark .ensures .same (c .before .before .if3 .left) ∙ c .before .before .before .before .before .before .before .before .before .loop .inv .1, marks-to (c .next-marked2 .ensures) (marks-more (c .before .before .before .before .before .mark .ensures) (c .before .before .if3 .left) (c .before .before .before .before .before .before .before .before .before .loop .inv .2)), c .next-marked2 .ensures .found)
+
+same-length-3 : tie.Need-same-length-3 Inv-loop μ-loop
+same-length-3 c = search needs
+
+returns-3 : tie.Need-returns-3 Inv-loop μ-loop
+returns-3 c = pass-still (c .before .before .loop .inv .1) (marks-end (c .if2 .left) (c .before .before .loop .inv .2))
 
 pub absorb-spec : {M : Type 1} → statement M
 absorb-spec =
@@ -73,15 +75,15 @@ absorb-spec =
     seems-within-requires
     same-length
     returns
+    next-marked-requires
     loop-holds
-    add-next
-    is-marked-requires
     mark-requires
+    hand-on-requires
+    same-length-2
+    returns-2
+    add-next-marked
+    next-marked-requires-2
     loop-less
     loop-again
-    loop-less-2
-    loop-again-2
-    loop-less-3
-    loop-again-3
-    same-length-2
-    returns-2)
+    same-length-3
+    returns-3)
