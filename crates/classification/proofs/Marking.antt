@@ -1,26 +1,28 @@
 -- Laws of marking by the rules: what a function is given, and what each of its turns and exits has done.
---   ..-stays, pair                        what is asked holds after marks are put, too
---   part-pass, fill-pass, ..-pass         a mark put by a rule is a pass
---   ..-grows                              the same where only the growth is asked, for a new mark that is dealt with
---   over-filler, served-over              what a new mark asks of restrictions, from the tests made on them
---   spread-.., gathered-.., absorb-..     what is left to mark by a name's axiom, by its conjuncts, by a row above;  row-done: in a row
--- Not here: laws of passes for any rule (crate marks).
+--   ..-stays, ..-at, pair                 what is asked holds after marks are put, too, and at other cells
+--   part-pass, gather-pass, fill-pass     a mark put by a rule is a pass
+--   ..-grows                              the same where only the growth is asked, for new marks that are dealt with
+--   restriction-of, over-of               what new marks ask of restrictions, from the tests made on them
+--   gathered-.., filled-.., axiom-..      what is left to mark by conjuncts, by fillers, by an axiom
+-- Not here: the other laws of passes for any rule (crate marks).
 use mathlib.Core.Path.{_≡_, refl, sym, _∙_}
-use mathlib.Core.Bool.{Bool, true, false, _||_, false≢true}
+use mathlib.Core.Bool.{Bool, true, false, false≢true}
 use mathlib.Core.List.{List}
 use Prim.Native.Nat.{ℕ, suc, _≤_, _<_}
 use native.Mathlib.Omega.{arith}
+use borrow.Author.Tests.{ne-eqb}
 use Rattle.el.proofs.Tests.{Tells, tells-as, never, always}
 use Rattle.el.proofs.Derivations.{Serves}
 use Rattle.release.specs.Files.{joins, restricts}
 use Rattle.release.specs.Tables.{kindAt, roleAt, fillerAt, countAt, partAt, HasRow, Conjunctive, Shaped}
 use Rattle.release.proofs.Faults.{restricts-not-joins}
 use Rattle.marks.specs.declared.Square.{Square}
-use Rattle.marks.specs.Squares.{Room, Marked, Put, Within, NextMarked}
+use Rattle.marks.specs.Squares.{Room, Marked, Put}
 use Rattle.marks.specs.Passes.{Grows, Pass, Below, Due, FromRow}
+use Rattle.marks.specs.Inclusions.{Taking}
 use Rattle.marks.proofs.Squares.{refuted}
-use Rattle.marks.proofs.Passes.{room-stays, marks-stay, below-end, pass-none, pass-as, pass-with, pass-changed, pass-unchanged, pass-both, pass-by, grows-as, put-pass, put-grows, due-as}
-use Rattle.classification.specs.Steps.{PartMarked, Gathers, Fills, Step, to-itself, to-top, to-part, to-gathered, to-filled, through, Filled, Spread, Gathered, Above, Own, Seeded, Settled, Seeds, Setting, InRow, Source, Pair, MarkedCell, Over, Served}
+use Rattle.marks.proofs.Passes.{room-stays, marks-stay, below-end, pass-none, pass-as, pass-changed, pass-unchanged, pass-both, pass-by, grows-as, put-pass, put-grows, due-as}
+use Rattle.classification.specs.Steps.{PartMarked, Gathers, Fills, Step, to-itself, to-top, to-part, to-gathered, to-filled, through, Gathered, Seeds, GatheredAt, FilledAt, AxiomSettled, Setting, SeededSetting, InRow, Source, Pair, Restriction, Over}
 
 not-both : {A : Type 0} (k : ℕ) → joins k ≡ true → restricts k ≡ true → A
 not-both k j r = absurd (false≢true (sym (restricts-not-joins k r) ∙ j))
@@ -28,13 +30,16 @@ not-both k j r = absurd (false≢true (sym (restricts-not-joins k r) ∙ j))
 pub joined : {kind k : ℕ} → kind ≡ k → kind ≡ 2 → joins k ≡ true
 joined e two = rw (← e, two) refl
 
+pub joined-1 : {kind k : ℕ} → kind ≡ k → kind ≡ 1 → joins k ≡ true
+joined-1 e one = rw (← e, one) refl
+
 pub shaped-row : {n : ℕ} {s t : List ℕ} {x : ℕ} → Shaped n s t → x < n → HasRow t x
 shaped-row h l = record { row = omega (arith, h .rows) }
 
 -- what is asked
 module _ {s t : List ℕ} {q : Square} where
   pub setting-stays : {w v : List ℕ} → Grows (Step s t q) q w v → Setting s t q w → Setting s t q v
-  setting-stays g h = record { shaped = h .shaped; room = room-stays g (h .room) }
+  setting-stays g h = record { shaped = h .shaped; room = room-stays g (h .room); few = h .few }
 
   pub source-stays : {w v : List ℕ} {x b : ℕ} → Grows (Step s t q) q w v → Source s t q w x b → Source s t q v x b
   source-stays g h = record { in-row = record { setting = setting-stays g (h .in-row .setting); row = h .in-row .row; name = h .in-row .name }; marked = marks-stay g (h .marked) }
@@ -57,11 +62,8 @@ module _ {s t : List ℕ} {q : Square} {w v : List ℕ} {x b : ℕ} {r : Bool} (
   pub part-pass : {i y : ℕ} → joins (kindAt t b) ≡ true → i < countAt s t b → y ≡ partAt s t b i → Put q x y w v r → Pass (Step s t q) q (PartMarked s t q x b i) w v r
   part-pass {i} j l e p = pass-as (λ m. record { is = rw (← e) m }) (put-pass p (to-part b i (h .in-row .name) j (h .marked) l e))
 
-  pub fill-pass : {y : ℕ} → restricts (kindAt t b) ≡ true → y < q .names → Fills t q b y w → Put q x y w v r → Pass (Step s t q) q (Filled t q x b y) w v r
-  fill-pass k l f p = pass-as (λ m. record { marked = λ g. m }) (put-pass p (to-filled b (h .in-row .name) k (h .marked) l f))
-
-pub filled : {t : List ℕ} {q : Square} {w : List ℕ} {x b y : ℕ} {r : Bool} → Due r (Fills t q b y w) (Marked q w x y) → r ≡ false → Filled t q x b y w
-filled d e = record { marked = d .settled e }
+  pub fill-pass : {y : ℕ} → restricts (kindAt t b) ≡ true → y < q .names → Fills t q b y w → Put q x y w v r → Pass (Step s t q) q (λ u. Marked q u x y) w v r
+  fill-pass k l f p = put-pass p (to-filled b (h .in-row .name) k (h .marked) l f)
 
 -- the fillers of two names
 module _ {t : List ℕ} {q : Square} {w : List ℕ} {x b y : ℕ} (h : Pair t q w x b y) where
@@ -82,17 +84,8 @@ module _ {s t : List ℕ} {q : Square} {w : List ℕ} {x y : ℕ} where
   pub gathers-all : {i count kind : ℕ} → kind ≡ kindAt t y → kind ≡ 2 → count ≡ countAt s t y → count ≤ i → Below (PartMarked s t q x y) i w → Tells true (Gathers s t q x y w)
   gathers-all e two f l b = always (record { kind = sym e ∙ two; parts = below-end (omega arith) b })
 
--- by a name
+-- a defined conjunction in a row
 module _ {s t : List ℕ} {q : Square} {w : List ℕ} {x b : ℕ} where
-  pub spread-parts : joins (kindAt t b) ≡ true → Below (PartMarked s t q x b) (countAt s t b) w → Spread s t q x b w
-  spread-parts j p = record { parts = λ k m. p; fillers = λ k. not-both (kindAt t b) j k }
-
-  pub spread-fillers : restricts (kindAt t b) ≡ true → Below (Filled t q x b) (q .names) w → Spread s t q x b w
-  spread-fillers r p = record { parts = λ k. not-both (kindAt t b) k r; fillers = λ k m. p }
-
-  pub spread-none : joins (kindAt t b) ≡ false → restricts (kindAt t b) ≡ false → Spread s t q x b w
-  spread-none j r = record { parts = λ k. absurd (false≢true (sym j ∙ k)); fillers = λ k. absurd (false≢true (sym r ∙ k)) }
-
   pub gathered-there : Marked q w x b → Pass (Step s t q) q (Gathered s t q x b) w w false
   gathered-there m = pass-none (record { marked = λ g. m })
 
@@ -116,19 +109,6 @@ module _ {q : Square} {w u v : List ℕ} {x : ℕ} {a b : Bool} (room : Room q w
   pub seeds-unchanged : b ≡ false → Seeds q x w v a
   seeds-unchanged e = record { pass = λ s t. pass-unchanged (λ d m. record { itself = d; top = m }) (itself s t) (top s t) e; itself = o .extends .stays x x (p .there) }
 
--- the rows of the nodes above x
-module _ {s t : List ℕ} {q : Square} {x c : ℕ} where
-  pub absorb-pass : {w v : List ℕ} {r : Bool} → Marked q w x c → c ≤ q .names → Pass (FromRow q c x) q (Within q c x) w v r → Pass (Step s t q) q (Above q x c) w v r
-  absorb-pass m h p = pass-as (λ k. record { within = λ z. k }) (pass-by (λ u y z g i j f. through c h (rw (f .row) (marks-stay g m)) (f .marked)) p)
-
--- nothing is above x before the next mark of its row
-pub above-none : {q : Square} {w : List ℕ} {x k r : ℕ} → NextMarked q w x k r → (i : ℕ) → k ≤ i → i < r → Above q x i w
-above-none n i h l = record { within = λ m. absurd (n .none i h l m) }
-
--- the four parts of a pass over a row
-pub row-done : {s t : List ℕ} {q : Square} {w u v o p : List ℕ} {x : ℕ} {a b c d : Bool} → Seeds q x w u a → Pass (Step s t q) q (Own s t q x) u v b → Pass (Step s t q) q (Below (Gathered s t q x) (q .names)) v o c → Pass (Step s t q) q (Below (Above q x) (suc (q .names))) o p d → Pass (Step s t q) q (Settled s t q x) w p (((a || b) || c) || d)
-row-done {s} {t} {q} {x = x} e f g h = pass-both {D = λ u. Seeded q x u × (Own s t q x u × Below (Gathered s t q x) (q .names) u)} (λ y z. record { seeded = y .0; own = y .1 .0; gathered = y .1 .1; above = z }) (pass-both {D = λ u. Seeded q x u × Own s t q x u} (λ y z. (y .0, (y .1, z))) (pass-both (λ y z. (y, z)) (e .pass s t) f) g) h
-
 pub in-row-at : {s t : List ℕ} {q : Square} {w : List ℕ} {x b z : ℕ} → InRow s t q w x b → z < q .names → InRow s t q w x z
 in-row-at h l = record { setting = h .setting; row = h .row; name = l }
 
@@ -137,48 +117,84 @@ module _ {s t : List ℕ} {q : Square} {w v : List ℕ} (g : Grows (Step s t q) 
   pub in-row-stays : {x b : ℕ} → InRow s t q w x b → InRow s t q v x b
   in-row-stays h = record { setting = setting-stays g (h .setting); row = h .row; name = h .name }
 
-  pub cell-stays : {x y : ℕ} → MarkedCell s t q w x y → MarkedCell s t q v x y
-  cell-stays h = record { setting = setting-stays g (h .setting); row = h .row; column = h .column; marked = marks-stay g (h .marked) }
-
   pub over-stays : {b y : ℕ} → Over s t q w b y → Over s t q v b y
   over-stays h = record { setting = setting-stays g (h .setting); name = h .name; itself = marks-stay g (h .itself); is-restriction = h .is-restriction; marked = marks-stay g (h .marked) }
 
-module _ {s t : List ℕ} {q : Square} {w v : List ℕ} {r : Bool} where
-  pub gather-grows : {x y : ℕ} → InRow s t q w x y → Gathers s t q x y w → Put q x y w v r → Grows (Step s t q) q w v
-  gather-grows h g p = put-grows p (to-gathered (h .name) g)
+  pub restriction-stays : {x b : ℕ} → Restriction s t q w x b → Restriction s t q v x b
+  restriction-stays h = record { setting = setting-stays g (h .setting); name = h .name; itself = marks-stay g (h .itself); is-restriction = h .is-restriction; filler = h .filler }
 
-  pub served-grows : {b z : ℕ} → Served s t q w b z → Put q b z w v r → Grows (Step s t q) q w v
-  served-grows {b = b} h p = put-grows p (to-filled b (h .left) (h .is-restriction) (h .itself) (h .right) (h .fills))
+  pub seeded-stays : SeededSetting s t q w → SeededSetting s t q v
+  seeded-stays h = record { setting = setting-stays g (h .setting); seeded = record { at = λ x l. let m = h .seeded .at x l in record { itself = marks-stay g (m .itself); top = marks-stay g (m .top) } } }
 
-  pub through-grows : {x c y : ℕ} → c ≤ q .names → Marked q w x c → Marked q w c y → Put q x y w v r → Grows (Step s t q) q w v
-  through-grows {c = c} h m k p = put-grows p (through c h m k)
+-- new marks dealt with
+pub gather-grows : {s t : List ℕ} {q : Square} {w v : List ℕ} {r : Bool} {x y : ℕ} → InRow s t q w x y → Gathers s t q x y w → Put q x y w v r → Grows (Step s t q) q w v
+gather-grows h g p = put-grows p (to-gathered (h .name) g)
 
-pub over-filler : {s t : List ℕ} {q : Square} {w : List ℕ} {x y b filler : ℕ} → MarkedCell s t q w x y → b < q .names → filler ≡ fillerAt t b → filler ≡ x → restricts (kindAt t b) ≡ true → Marked q w b b → Over s t q w b y
-over-filler {t = t} {x = x} {b = b} h l e f r m =
-    let p : fillerAt t b ≡ x = sym e ∙ f in
-    record { setting = h .setting; name = l; itself = m; is-restriction = r; marked = rw p (h .marked) }
+pub restriction-of : {s t : List ℕ} {q : Square} {w : List ℕ} {x b filler : ℕ} → Setting s t q w → b < q .names → filler ≡ fillerAt t b → filler ≡ x → restricts (kindAt t b) ≡ true → Marked q w b b → Restriction s t q w x b
+restriction-of h l e f r m = record { setting = h; name = l; itself = m; is-restriction = r; filler = sym e ∙ f }
 
-pub source-of : {s t : List ℕ} {q : Square} {w : List ℕ} {x y : ℕ} → MarkedCell s t q w x y → y < q .names → Source s t q w x y
-source-of h l = record { in-row = record { setting = h .setting; row = h .row; name = l }; marked = h .marked }
+pub filler-small : {s t : List ℕ} {q : Square} {w : List ℕ} {x b : ℕ} → Restriction s t q w x b → x ≤ q .names
+filler-small {b = b} h = omega (arith, h .filler, h .setting .shaped .filler b (h .name) (h .is-restriction))
 
-pub served-over : {s t : List ℕ} {q : Square} {w : List ℕ} {b y z kind filler role role-z : ℕ} → Over s t q w b y → z < q .names → kind ≡ kindAt t z → kind ≡ 4 → filler ≡ fillerAt t z → filler ≡ y → role ≡ roleAt t b → role-z ≡ roleAt t z → Serves role role-z → Served s t q w b z
-served-over {t = t} {y = y} {z = z} h l e four f g i j same =
-    let p : fillerAt t z ≡ y = sym f ∙ g in
-    record { setting = h .setting; left = h .name; itself = h .itself; is-restriction = h .is-restriction; right = l; fills = record { kind = sym e ∙ four; role = sym i ∙ same ∙ j; filler = rw p (h .marked) } }
+pub over-of : {s t : List ℕ} {q : Square} {w : List ℕ} {x b y : ℕ} → Restriction s t q w x b → Marked q w x y → Over s t q w b y
+over-of h m = record { setting = h .setting; name = h .name; itself = h .itself; is-restriction = h .is-restriction; marked = rw (h .filler) m }
+
+pub over-grows : {s t : List ℕ} {q : Square} {w v : List ℕ} {b y z kind filler role role-z : ℕ} {r : Bool} → Over s t q w b y → z < q .names → kind ≡ kindAt t z → kind ≡ 4 → filler ≡ fillerAt t z → filler ≡ y → role ≡ roleAt t b → role-z ≡ roleAt t z → Serves role role-z → Put q b z w v r → Grows (Step s t q) q w v
+over-grows {t = t} {y = y} {z = z} h l e four f g i j same p =
+    let k : fillerAt t z ≡ y = sym f ∙ g in
+    put-grows p (to-filled _ (h .name) (h .is-restriction) (h .itself) l (record { kind = sym e ∙ four; role = sym i ∙ same ∙ j; filler = rw k (h .marked) }))
 
 -- a row handed on to another one, in which its node is marked
 pub row-grows : {s t : List ℕ} {q : Square} {w v : List ℕ} {x c : ℕ} → Marked q w x c → c ≤ q .names → Grows (FromRow q c x) q w v → Grows (Step s t q) q w v
 row-grows {c = c} m h g = grows-as (λ u y z k i j f. through c h (rw (f .row) (marks-stay k m)) (f .marked)) g
 
-pub own-none : {s t : List ℕ} {q : Square} {w : List ℕ} {x : ℕ} → q .names ≤ x → Pass (Step s t q) q (Own s t q x) w w false
-own-none h = pass-none (record { spread = λ l. absurd (omega arith) })
+pub handed-down : {q : Square} {w v : List ℕ} {x c : ℕ} → Marked q w x c → c ≤ q .names → Grows (FromRow q c x) q w v → Grows (Taking q q) q w v
+handed-down {c = c} m h g = grows-as (λ u y z k i j f. record { it = c; inside = h; above = rw (f .row) (marks-stay k m); marked = f .marked }) g
 
-pub own-pass : {s t : List ℕ} {q : Square} {w v : List ℕ} {x : ℕ} {r : Bool} → Pass (Step s t q) q (Spread s t q x x) w v r → Pass (Step s t q) q (Own s t q x) w v r
-own-pass p = pass-as (λ z. record { spread = λ l. z }) p
+taking-step : {s t : List ℕ} {q : Square} {w : List ℕ} {x y : ℕ} → Taking q q w x y → Step s t q w x y
+taking-step k = through (k .it) (k .inside) (k .above) (k .marked)
 
--- what a new mark asks, once it is put
-pub cell-put : {s t : List ℕ} {q : Square} {w v : List ℕ} {x y : ℕ} {r : Bool} → Setting s t q w → x ≤ q .names → y ≤ q .names → Grows (Step s t q) q w v → Put q x y w v r → MarkedCell s t q v x y
-cell-put h i j g p = record { setting = setting-stays g h; row = i; column = j; marked = p .there }
+pub taking-grows : {s t : List ℕ} {q : Square} {w v : List ℕ} → Grows (Taking q q) q w v → Grows (Step s t q) q w v
+taking-grows g = grows-as (λ u x y k i j f. taking-step f) g
+
+pub taking-pass : {s t : List ℕ} {q : Square} {D : List ℕ → Type 0} {w v : List ℕ} {r : Bool} → Pass (Taking q q) q D w v r → Pass (Step s t q) q D w v r
+taking-pass p = pass-by (λ u x y k i j f. taking-step f) p
 
 pub conjunct-small : {n : ℕ} {s t : List ℕ} {b i y : ℕ} → Conjunctive n s t b → i < countAt s t b → y ≡ partAt s t b i → y < n
 conjunct-small {b = b} {i = i} h l e = omega (arith, e, h .shaped .part b i (h .is-name) (h .is-conjunction) l)
+
+-- columns
+pub seeded-source : {s t : List ℕ} {q : Square} {w : List ℕ} {x : ℕ} → SeededSetting s t q w → x < q .names → Source s t q w x x
+seeded-source {x = x} h l = record { in-row = record { setting = h .setting; row = omega arith; name = l }; marked = h .seeded .at x (omega arith) .itself }
+
+pub gathered-at : {s t : List ℕ} {q : Square} {w v : List ℕ} {x y : ℕ} {r : Bool} → Pass (Step s t q) q (Gathered s t q x y) w v r → Pass (Step s t q) q (GatheredAt s t q y x) w v r
+gathered-at p = pass-as (λ g. record { marked = g .marked }) p
+
+pub filled-not : {t : List ℕ} {q : Square} {w : List ℕ} {y b : ℕ} {r : Bool} → r ≡ restricts (kindAt t b) → r ≡ false → FilledAt t q y b w
+filled-not e f = record { marked = λ k. absurd (false≢true (sym f ∙ e ∙ k)) }
+
+pub filled-none : {t : List ℕ} {q : Square} {w : List ℕ} {y b : ℕ} {r : Bool} → Due r (Fills t q b y w) (Marked q w b y) → r ≡ false → FilledAt t q y b w
+filled-none d e = record { marked = λ k. d .settled e }
+
+pub filled-at : {s t : List ℕ} {q : Square} {w v : List ℕ} {y b : ℕ} {r : Bool} → Pass (Step s t q) q (λ u. Marked q u b y) w v r → Pass (Step s t q) q (FilledAt t q y b) w v r
+filled-at p = pass-as (λ m. record { marked = λ k f. m }) p
+
+-- an axiom, by its kind
+not-filled : {t : List ℕ} {q : Square} {w : List ℕ} {x kind : ℕ} → kind ≡ kindAt t x → (kind ≡ 4 → ⊥) → Below (FilledAt t q x) (q .names) w
+not-filled e n = record { at = λ b l. record { marked = λ k f. absurd (n (e ∙ f .kind)) } }
+
+module _ {s t : List ℕ} {q : Square} {w : List ℕ} {x kind : ℕ} (e : kind ≡ kindAt t x) where
+  not-gathered : (kind ≡ 2 → ⊥) → Below (GatheredAt s t q x) (suc (q .names)) w
+  not-gathered n = record { at = λ y l. record { marked = λ g. absurd (n (e ∙ g .kind)) } }
+
+  pub axiom-filled : kind ≡ 4 → Below (FilledAt t q x) (q .names) w → AxiomSettled s t q x w
+  axiom-filled four f = record { parts = λ j. not-both (kindAt t x) j (rw (← e, four) refl); gathered = not-gathered (λ k. omega arith); filled = f }
+
+  pub axiom-gathered : kind ≡ 2 → Below (GatheredAt s t q x) (suc (q .names)) w → Below (PartMarked s t q x x) (countAt s t x) w → AxiomSettled s t q x w
+  axiom-gathered two g p = record { parts = λ j. p; gathered = g; filled = not-filled e (λ k. omega arith) }
+
+  pub axiom-parts : kind ≡ 1 → Below (PartMarked s t q x x) (countAt s t x) w → AxiomSettled s t q x w
+  axiom-parts one p = record { parts = λ j. p; gathered = not-gathered (λ k. omega arith); filled = not-filled e (λ k. omega arith) }
+
+  pub axiom-none : (kind ≡ 4 → ⊥) → (kind ≡ 2 → ⊥) → (kind ≡ 1 → ⊥) → AxiomSettled s t q x w
+  axiom-none four two one = record { parts = λ j. absurd (false≢true (rw (← e, ne-eqb kind 1 one, ne-eqb kind 2 two) at j)); gathered = not-gathered two; filled = not-filled e four }

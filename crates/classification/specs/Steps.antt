@@ -6,6 +6,7 @@
 --   Fills t q b y w         y is a defined ∃r.B, and b lies below ∃r.C with (C, B) marked
 --   Looked s t q x b w      nothing is left to mark in row x by b: by its axiom if it is marked, and itself by its conjuncts
 --   Row s t q x w           nothing is left to mark in row x;  Settled s t q x w: what a pass finishes of it
+--   AxiomSettled s t q y w  nothing is left to mark by the axiom of y, in its own row and in its column
 -- Not here: what the rules mean (proofs/Bridge).
 use mathlib.Core.Path.{_≡_}
 use mathlib.Core.Bool.{Bool, true}
@@ -82,10 +83,28 @@ pub record Seeds (q : Square) (x : ℕ) (w v : List ℕ) (r : Bool) : Type 0 whe
   pub pass : (s t : List ℕ) → Pass (Step s t q) q (Seeded q x) w v r
   pub itself : Marked q v x x
 
--- what the functions ask: a table and a square; a cell of it; a marked cell
+-- what the axiom of y gives, by its column: y gathered in each row, and in the row of each restriction that serves for y; its
+-- conjuncts in its own row. Where the rows are seeded and all axioms are so, only the rows above each row are left (proofs/Settled)
+pub record GatheredAt (s t : List ℕ) (q : Square) (y x : ℕ) (w : List ℕ) : Type 0 where
+  pub marked : Gathers s t q x y w → Marked q w x y
+
+pub record FilledAt (t : List ℕ) (q : Square) (y b : ℕ) (w : List ℕ) : Type 0 where
+  pub marked : restricts (kindAt t b) ≡ true → Fills t q b y w → Marked q w b y
+
+pub record AxiomSettled (s t : List ℕ) (q : Square) (y : ℕ) (w : List ℕ) : Type 0 where
+  pub parts : joins (kindAt t y) ≡ true → Below (PartMarked s t q y y) (countAt s t y) w
+  pub gathered : Below (GatheredAt s t q y) (suc (q .names)) w
+  pub filled : Below (FilledAt t q y) (q .names) w
+
+-- what the functions ask: a table and a square, of no more names than a release has; its rows seeded; a cell of it; a marked cell
 pub record Setting (s t : List ℕ) (q : Square) (w : List ℕ) : Type 0 where
   pub shaped : Shaped (q .names) s t
   pub room : Room q w
+  pub few : q .names ≤ 127
+
+pub record SeededSetting (s t : List ℕ) (q : Square) (w : List ℕ) : Type 0 where
+  pub setting : Setting s t q w
+  pub seeded : Below (Seeded q) (suc (q .names)) w
 
 pub record InRow (s t : List ℕ) (q : Square) (w : List ℕ) (x b : ℕ) : Type 0 where
   pub setting : Setting s t q w
@@ -106,12 +125,19 @@ pub record Pair (t : List ℕ) (q : Square) (w : List ℕ) (x b y : ℕ) : Type 
   pub is-restriction : restricts (kindAt t b) ≡ true
   pub right : y < q .names
 
--- what dealing with a mark asks: a marked cell; a restriction b whose filler lies below y; a restriction b that serves for z
+-- what dealing with new marks asks: a marked cell; a restriction b with the filler x; one whose filler lies below y
 pub record MarkedCell (s t : List ℕ) (q : Square) (w : List ℕ) (x y : ℕ) : Type 0 where
   pub setting : Setting s t q w
   pub row : x ≤ q .names
   pub column : y ≤ q .names
   pub marked : Marked q w x y
+
+pub record Restriction (s t : List ℕ) (q : Square) (w : List ℕ) (x b : ℕ) : Type 0 where
+  pub setting : Setting s t q w
+  pub name : b < q .names
+  pub itself : Marked q w b b
+  pub is-restriction : restricts (kindAt t b) ≡ true
+  pub filler : fillerAt t b ≡ x
 
 pub record Over (s t : List ℕ) (q : Square) (w : List ℕ) (b y : ℕ) : Type 0 where
   pub setting : Setting s t q w
@@ -119,11 +145,3 @@ pub record Over (s t : List ℕ) (q : Square) (w : List ℕ) (b y : ℕ) : Type 
   pub itself : Marked q w b b
   pub is-restriction : restricts (kindAt t b) ≡ true
   pub marked : Marked q w (fillerAt t b) y
-
-pub record Served (s t : List ℕ) (q : Square) (w : List ℕ) (b z : ℕ) : Type 0 where
-  pub setting : Setting s t q w
-  pub left : b < q .names
-  pub itself : Marked q w b b
-  pub is-restriction : restricts (kindAt t b) ≡ true
-  pub right : z < q .names
-  pub fills : Fills t q b z w

@@ -1,8 +1,9 @@
 // Where to look: for each node the restrictions with this filler, and the defined conjunctions with this conjunct. They are only
 // hints: nothing is said of what they hold, so whoever reads a name from them tests what it asks of it.
 ghost use mathlib.Core.Path.{_≡_};
-ghost use Prim.Native.Nat.{_≤_};
-ghost use Rattle.release.specs.Tables.{Conjunctive, Shaped};
+ghost use Prim.Native.Nat.{_*_, _≤_};
+ghost use lib.ListN.{length};
+ghost use Rattle.release.specs.Tables.{HasRow, Conjunctive, Shaped};
 use release::table;
 
 // One array holds all chains. A node's chain begins at FILLERS or CONJUNCTS plus its number; what follows an entry is at NEXT or LINKS
@@ -66,6 +67,17 @@ fn put_first(chains: &mut [u16; Chains::LENGTH], head: usize, link: usize, entry
     }
 }
 
+// Puts a restriction into the chain of its filler.
+fn add_restriction(table: &[u16], chains: &mut [u16; Chains::LENGTH], b: usize)
+    requires { ⌜ HasRow (now table) b ⌝ }
+    requires { ⌜ b ≤ 4095 ⌝ }
+{
+    let filler = table::filler(table, b);
+    if filler < Chains::NEXT {
+        put_first(chains, Chains::FILLERS + filler, Chains::NEXT + b, b);
+    }
+}
+
 // Puts a defined conjunction into the chains of its conjuncts.
 fn add_conjunction(
     file: &[u8],
@@ -105,10 +117,24 @@ pub fn fill(file: &[u8], table: &[u16], chains: &mut [u16; Chains::LENGTH], name
         let b = next;
         next += 1;
         if table::is_restriction(table, b) {
-            let filler = table::filler(table, b);
-            put_first(chains, Chains::FILLERS + filler, Chains::NEXT + b, b);
+            add_restriction(table, chains, b);
         } else if table::kind(table, b) == 2 {
             add_conjunction(file, table, chains, names, b);
+        }
+    }
+}
+
+// Puts each restriction into the chain of its filler, and no conjunction into any.
+pub fn list_fillers(table: &[u16], chains: &mut [u16; Chains::LENGTH], names: usize)
+    requires { ⌜ 4 * names ≤ length (now table) ⌝ }
+    requires { ⌜ names ≤ 4095 ⌝ }
+{
+    let mut next = 0;
+    while next < names {
+        let b = next;
+        next += 1;
+        if table::is_restriction(table, b) {
+            add_restriction(table, chains, b);
         }
     }
 }

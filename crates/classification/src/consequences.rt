@@ -1,95 +1,41 @@
-// What a new mark gives: marks put at the cells that depend on it, each as a rule allows. Where to look is read from chains that
-// are only hints, so each rule is tested at its cell.
-ghost use Rattle.marks.specs.Passes.{Grows};
-ghost use Rattle.classification.specs.Steps.{Step, InRow, MarkedCell, Over, Served};
+// What the new marks of a row give: marks put at the cells that depend on them, each as a rule allows. A row that gets one waits.
+// Where to look is read from chains and lines that are only hints, so each rule is tested at its cell.
+ghost use Prim.Native.Nat.{_≤_};
+ghost use Rattle.marks.specs.Squares.{Room};
+ghost use Rattle.marks.specs.Passes.{Grows, FromRow};
+ghost use Rattle.marks.specs.Inclusions.{Taking};
+ghost use Rattle.classification.specs.Steps.{Step, Setting, InRow, MarkedCell, Restriction, Over};
 use crate::chains;
 use crate::chains::Chains;
 use crate::rules::gathers;
 use marks::Square;
 use marks::is_marked;
-use marks::pending::Pending;
-use marks::pending::put;
-use marks::rows::next_marked;
+use marks::line::Line;
+use marks::mark;
+use marks::rows::hand_on;
+use marks::rows::seems_within;
+use marks::waiting;
+use marks::waiting::Waiting;
+use marks::waiting::wait;
 use release::table;
 
-// Hands what is above z on to row x, in which z is marked.
-fn put_row(
-    file: &[u8],
-    table: &[u16],
+// Hands row c on to row x, which waits if it had not all of it.
+fn hand_over(
     work: &mut [u8],
-    pending: &mut [u16; Pending::LENGTH],
+    waiting: &mut [u8; Waiting::LENGTH],
     square: Square,
+    c: usize,
     x: usize,
-    z: usize,
 )
-    requires { ⌜ MarkedCell (now file) (now table) square (now work) x z ⌝ }
-    ensures { λ _. ⌜ Grows (Step (now (file .entry)) (now (table .entry)) square) square (now (work .entry)) (now (work .exit)) ⌝ }
+    requires { ⌜ Room square (now work) ⌝ }
+    requires { ⌜ (c ≤ square .names) × (x ≤ square .names) ⌝ }
+    ensures { λ _. ⌜ Grows (FromRow square c x) square (now (work .entry)) (now (work .exit)) ⌝ }
 {
-    let mut y = next_marked(work, square, z, 0);
-    while y <= square.names {
-        put(work, pending, square, x, y);
-        y = next_marked(work, square, z, y + 1);
+    if seems_within(work, square, c, x) {
+        return;
     }
-}
-
-// Hands z, which is marked in row b, on to each row in which b is marked and z is not.
-fn put_in_rows(
-    file: &[u8],
-    table: &[u16],
-    work: &mut [u8],
-    pending: &mut [u16; Pending::LENGTH],
-    square: Square,
-    b: usize,
-    z: usize,
-)
-    requires { ⌜ MarkedCell (now file) (now table) square (now work) b z ⌝ }
-    ensures { λ _. ⌜ Grows (Step (now (file .entry)) (now (table .entry)) square) square (now (work .entry)) (now (work .exit)) ⌝ }
-{
-    let mut next = 0;
-    while next <= square.names {
-        let x = next;
-        next += 1;
-        if is_marked(work, square, x, b) {
-            if put(work, pending, square, x, z) {
-                put_row(file, table, work, pending, square, x, z);
-            }
-        }
-    }
-}
-
-// Hands the new mark z of row b on: what is above z to row b, and both to the rows below b.
-fn hand_on(
-    file: &[u8],
-    table: &[u16],
-    work: &mut [u8],
-    pending: &mut [u16; Pending::LENGTH],
-    square: Square,
-    b: usize,
-    z: usize,
-)
-    requires { ⌜ MarkedCell (now file) (now table) square (now work) b z ⌝ }
-    ensures { λ _. ⌜ Grows (Step (now (file .entry)) (now (table .entry)) square) square (now (work .entry)) (now (work .exit)) ⌝ }
-{
-    put_row(file, table, work, pending, square, b, z);
-    put_in_rows(file, table, work, pending, square, b, z);
-}
-
-// The defined restriction z, for which b serves.
-fn put_served(
-    file: &[u8],
-    table: &[u16],
-    work: &mut [u8],
-    pending: &mut [u16; Pending::LENGTH],
-    square: Square,
-    b: usize,
-    z: usize,
-)
-    requires { ⌜ Served (now file) (now table) square (now work) b z ⌝ }
-    ensures { λ _. ⌜ Grows (Step (now (file .entry)) (now (table .entry)) square) square (now (work .entry)) (now (work .exit)) ⌝ }
-{
-    if put(work, pending, square, b, z) {
-        hand_on(file, table, work, pending, square, b, z);
-    }
+    hand_on(work, square, c, x);
+    wait(waiting, x);
 }
 
 // The defined conjunctions with the conjunct y of which all conjuncts are marked in row x.
@@ -98,7 +44,7 @@ fn put_gathered(
     table: &[u16],
     work: &mut [u8],
     chains: &[u16; Chains::LENGTH],
-    pending: &mut [u16; Pending::LENGTH],
+    waiting: &mut [u8; Waiting::LENGTH],
     square: Square,
     x: usize,
     y: usize,
@@ -116,9 +62,55 @@ fn put_gathered(
         }
         entry = chains::entry(chains, Chains::LINKS, entry);
         if gathers(file, table, work, square, x, z) {
-            if put(work, pending, square, x, z) {
-                hand_on(file, table, work, pending, square, x, z);
+            if mark(work, square, x, z) {
+                wait(waiting, x);
             }
+        }
+    }
+}
+
+// What x ⊑ y gives in row x: what lies above y, and the conjunctions with this conjunct.
+fn put_beside(
+    file: &[u8],
+    table: &[u16],
+    work: &mut [u8],
+    chains: &[u16; Chains::LENGTH],
+    waiting: &mut [u8; Waiting::LENGTH],
+    square: Square,
+    x: usize,
+    y: usize,
+)
+    requires { ⌜ MarkedCell (now file) (now table) square (now work) x y ⌝ }
+    ensures { λ _. ⌜ Grows (Step (now (file .entry)) (now (table .entry)) square) square (now (work .entry)) (now (work .exit)) ⌝ }
+{
+    hand_over(work, waiting, square, y, x);
+    if square.names <= y {
+        return;
+    }
+    put_gathered(file, table, work, chains, waiting, square, x, y);
+}
+
+// So for all y of the line.
+fn put_above(
+    file: &[u8],
+    table: &[u16],
+    work: &mut [u8],
+    chains: &[u16; Chains::LENGTH],
+    waiting: &mut [u8; Waiting::LENGTH],
+    square: Square,
+    line: &[u8; Line::LENGTH],
+    x: usize,
+)
+    requires { ⌜ Setting (now file) (now table) square (now work) ⌝ }
+    requires { ⌜ x ≤ square .names ⌝ }
+    ensures { λ _. ⌜ Grows (Step (now (file .entry)) (now (table .entry)) square) square (now (work .entry)) (now (work .exit)) ⌝ }
+{
+    let mut next = waiting::next(line, 0);
+    while next <= square.names {
+        let y = next;
+        next = waiting::next(line, y + 1);
+        if is_marked(work, square, x, y) {
+            put_beside(file, table, work, chains, waiting, square, x, y);
         }
     }
 }
@@ -129,7 +121,7 @@ fn put_over(
     table: &[u16],
     work: &mut [u8],
     chains: &[u16; Chains::LENGTH],
-    pending: &mut [u16; Pending::LENGTH],
+    waiting: &mut [u8; Waiting::LENGTH],
     square: Square,
     b: usize,
     y: usize,
@@ -150,25 +142,52 @@ fn put_over(
         if table::kind(table, z) == 4 {
             if table::filler(table, z) == y {
                 if role == table::role(table, z) {
-                    put_served(file, table, work, pending, square, b, z);
+                    if mark(work, square, b, z) {
+                        wait(waiting, b);
+                    }
                 }
             }
         }
     }
 }
 
-// What x ⊑ y gives for restrictions with these fillers.
+// So for all y of the line that the filler x of b lies below.
+fn put_filled(
+    file: &[u8],
+    table: &[u16],
+    work: &mut [u8],
+    chains: &[u16; Chains::LENGTH],
+    waiting: &mut [u8; Waiting::LENGTH],
+    square: Square,
+    line: &[u8; Line::LENGTH],
+    x: usize,
+    b: usize,
+)
+    requires { ⌜ Restriction (now file) (now table) square (now work) x b ⌝ }
+    ensures { λ _. ⌜ Grows (Step (now (file .entry)) (now (table .entry)) square) square (now (work .entry)) (now (work .exit)) ⌝ }
+{
+    let mut next = waiting::next(line, 0);
+    while next <= square.names {
+        let y = next;
+        next = waiting::next(line, y + 1);
+        if is_marked(work, square, x, y) {
+            put_over(file, table, work, chains, waiting, square, b, y);
+        }
+    }
+}
+
+// So for all restrictions b with the filler x.
 fn put_by_fillers(
     file: &[u8],
     table: &[u16],
     work: &mut [u8],
     chains: &[u16; Chains::LENGTH],
-    pending: &mut [u16; Pending::LENGTH],
+    waiting: &mut [u8; Waiting::LENGTH],
     square: Square,
+    line: &[u8; Line::LENGTH],
     x: usize,
-    y: usize,
 )
-    requires { ⌜ MarkedCell (now file) (now table) square (now work) x y ⌝ }
+    requires { ⌜ Setting (now file) (now table) square (now work) ⌝ }
     ensures { λ _. ⌜ Grows (Step (now (file .entry)) (now (table .entry)) square) square (now (work .entry)) (now (work .exit)) ⌝ }
 {
     let mut entry = chains::entry(chains, Chains::FILLERS, x);
@@ -183,30 +202,46 @@ fn put_by_fillers(
         if table::is_restriction(table, b) {
             if table::filler(table, b) == x {
                 if is_marked(work, square, b, b) {
-                    put_over(file, table, work, chains, pending, square, b, y);
+                    put_filled(file, table, work, chains, waiting, square, line, x, b);
                 }
             }
         }
     }
 }
 
-// All that x ⊑ y gives.
+// Hands row x on to each row that x is marked in.
+fn hand_down(work: &mut [u8], waiting: &mut [u8; Waiting::LENGTH], square: Square, x: usize)
+    requires { ⌜ Room square (now work) ⌝ }
+    requires { ⌜ x ≤ square .names ⌝ }
+    ensures { λ _. ⌜ Grows (Taking square square) square (now (work .entry)) (now (work .exit)) ⌝ }
+{
+    let mut next = 0;
+    while next <= square.names {
+        let b = next;
+        next += 1;
+        if is_marked(work, square, b, x) {
+            hand_over(work, waiting, square, x, b);
+        }
+    }
+}
+
+// All that the marks of row x give that are new since it was dealt with last.
 pub fn deal(
     file: &[u8],
     table: &[u16],
     work: &mut [u8],
     chains: &[u16; Chains::LENGTH],
-    pending: &mut [u16; Pending::LENGTH],
+    waiting: &mut [u8; Waiting::LENGTH],
     square: Square,
     x: usize,
-    y: usize,
 )
-    requires { ⌜ MarkedCell (now file) (now table) square (now work) x y ⌝ }
+    requires { ⌜ Setting (now file) (now table) square (now work) ⌝ }
+    requires { ⌜ x ≤ square .names ⌝ }
     ensures { λ _. ⌜ Grows (Step (now (file .entry)) (now (table .entry)) square) square (now (work .entry)) (now (work .exit)) ⌝ }
 {
-    put_by_fillers(file, table, work, chains, pending, square, x, y);
-    if square.names <= y {
-        return;
-    }
-    put_gathered(file, table, work, chains, pending, square, x, y);
+    let mut line = [0u8; Line::LENGTH];
+    waiting::see(work, square, x, waiting, x, &mut line);
+    put_above(file, table, work, chains, waiting, square, &line, x);
+    put_by_fillers(file, table, work, chains, waiting, square, &line, x);
+    hand_down(work, waiting, square, x);
 }

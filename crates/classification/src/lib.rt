@@ -1,8 +1,9 @@
 // Classification: all inclusions between the nodes of an accepted release.
 ghost use Rattle.classification.specs.Inclusions.{Unclassified, Classified};
 use marks::Square;
+use marks::order::Order;
 
-mod chains;
+pub mod chains;
 mod consequences;
 mod propagation;
 mod rules;
@@ -13,6 +14,7 @@ pub fn classify(file: &[u8], table: &[u16], work: &mut [u8], square: Square)
     requires { ⌜ Unclassified (now file) (now table) square (now work) ⌝ }
     ensures { λ _. ⌜ Classified (now (file .entry)) square (now (work .entry)) (now (work .exit)) ⌝ }
 {
-    propagation::propagate(file, table, work, square);
-    sweep::close(file, table, work, square);
+    let mut order = [Order::NONE; Order::NODES];
+    propagation::begin(file, table, work, square, &mut order);
+    sweep::close(file, table, work, square, &order);
 }

@@ -2,15 +2,29 @@
 ghost use mathlib.Core.Path.{_≡_};
 ghost use mathlib.Core.Bool.{true};
 ghost use Rattle.el.proofs.Tests.{Tells};
-ghost use Rattle.release.specs.Files.{joins, restricts};
-ghost use Rattle.release.specs.Tables.{kindAt, countAt, HasRow};
-ghost use Rattle.marks.specs.Squares.{Marked};
+ghost use Prim.Native.Nat.{_≤_};
+ghost use Rattle.release.specs.Files.{joins};
+ghost use Rattle.release.specs.Tables.{kindAt, countAt};
+ghost use Rattle.marks.specs.Squares.{Room, Marked};
 ghost use Rattle.marks.specs.Passes.{Pass, Below, Due};
-ghost use Rattle.classification.specs.Steps.{Step, PartMarked, Gathers, Fills, Filled, Spread, Gathered, InRow, Source, Pair};
+ghost use Rattle.classification.specs.Steps.{Step, PartMarked, Gathers, Fills, Gathered, Seeds, InRow, Source, Pair};
 use marks::Square;
 use marks::is_marked;
 use marks::mark;
 use release::table;
+
+// Marks x ⊑ x and x ⊑ ⊤. Whether a mark is new.
+pub fn seed(work: &mut [u8], square: Square, x: usize) -> bool
+    requires { ⌜ Room square (now work) ⌝ }
+    requires { ⌜ x ≤ square .names ⌝ }
+    ensures { λ r. ⌜ Seeds square x (now (work .entry)) (now (work .exit)) r ⌝ }
+{
+    let changed = mark(work, square, x, x);
+    if mark(work, square, x, square.names) {
+        return true;
+    }
+    changed
+}
 
 // Marks the conjuncts of b, which is marked in row x. Whether a mark is new.
 pub fn mark_parts(
@@ -40,7 +54,7 @@ pub fn mark_parts(
 
 // Whether y is not marked in row x yet, and is a defined ∃r.B that b serves for. The cell is looked at first, since most are
 // marked or not asked for.
-fn fills(table: &[u16], work: &[u8], square: Square, x: usize, b: usize, y: usize) -> bool
+pub fn fills(table: &[u16], work: &[u8], square: Square, x: usize, b: usize, y: usize) -> bool
     requires { ⌜ Pair (now table) square (now work) x b y ⌝ }
     ensures { λ r. ⌜ Due r (Fills (now (table .entry)) square b y (now (work .entry))) (Marked square (now (work .entry)) x y) ⌝ }
 {
@@ -57,54 +71,6 @@ fn fills(table: &[u16], work: &[u8], square: Square, x: usize, b: usize, y: usiz
     let under = table::filler(table, b);
     let over = table::filler(table, y);
     is_marked(work, square, under, over)
-}
-
-// Marks the defined ∃r.B that b serves for, which is marked in row x. Whether a mark is new.
-fn mark_filled(
-    file: &[u8],
-    table: &[u16],
-    work: &mut [u8],
-    square: Square,
-    x: usize,
-    b: usize,
-) -> bool
-    requires { ⌜ Source (now file) (now table) square (now work) x b ⌝ }
-    requires { ⌜ restricts (kindAt (now table) b) ≡ true ⌝ }
-    ensures { λ r. ⌜ Pass (Step (now (file .entry)) (now (table .entry)) square) square (Below (Filled (now (table .entry)) square x b) (square .names)) (now (work .entry)) (now (work .exit)) r ⌝ }
-{
-    let mut changed = false;
-    let mut next = 0;
-    while next < square.names {
-        let y = next;
-        next += 1;
-        if fills(table, work, square, x, b, y) {
-            if mark(work, square, x, y) {
-                changed = true;
-            }
-        }
-    }
-    changed
-}
-
-// Marks what the axiom of b gives, which is marked in row x. Whether a mark is new.
-pub fn spread(
-    file: &[u8],
-    table: &[u16],
-    work: &mut [u8],
-    square: Square,
-    x: usize,
-    b: usize,
-) -> bool
-    requires { ⌜ Source (now file) (now table) square (now work) x b ⌝ }
-    ensures { λ r. ⌜ Pass (Step (now (file .entry)) (now (table .entry)) square) square (Spread (now (file .entry)) (now (table .entry)) square x b) (now (work .entry)) (now (work .exit)) r ⌝ }
-{
-    if table::is_conjunction(table, b) {
-        return mark_parts(file, table, work, square, x, b);
-    }
-    if table::is_restriction(table, b) {
-        return mark_filled(file, table, work, square, x, b);
-    }
-    false
 }
 
 // Whether y is a defined conjunction, and all its conjuncts are marked in row x.

@@ -1,120 +1,149 @@
-// Passes over all rows, until one finds nothing left to mark.
-ghost use Prim.Native.Nat.{suc, _≤_};
-ghost use Rattle.marks.specs.Squares.{Room};
+// Passes over the whole square, until one finds nothing left to mark.
+ghost use Prim.Native.Nat.{suc, _<_};
 ghost use Rattle.marks.specs.Passes.{Pass, Closed, Below};
-ghost use Rattle.classification.specs.Steps.{Step, Own, Gathered, Above, Settled, Setting, MarkedCell, Seeds};
+ghost use Rattle.classification.specs.Steps.{Step, Seeded, Settled, GatheredAt, FilledAt, AxiomSettled, Setting, SeededSetting};
+use crate::chains::Chains;
+use crate::chains::fill;
+use crate::propagation::propagate;
+use crate::rules::fills;
 use crate::rules::gather;
-use crate::rules::spread;
+use crate::rules::mark_parts;
+use crate::rules::seed;
 use marks::Square;
+use marks::inclusions::take_all;
 use marks::mark;
-use marks::rows::absorb;
-use marks::rows::next_marked;
+use marks::order::Order;
+use marks::waiting;
+use marks::waiting::Waiting;
+use release::table;
 
-// Marks x ⊑ x and x ⊑ ⊤. Whether a mark is new.
-pub fn seed(work: &mut [u8], square: Square, x: usize) -> bool
-    requires { ⌜ Room square (now work) ⌝ }
-    requires { ⌜ x ≤ square .names ⌝ }
-    ensures { λ r. ⌜ Seeds square x (now (work .entry)) (now (work .exit)) r ⌝ }
-{
-    let changed = mark(work, square, x, x);
-    if mark(work, square, x, square.names) {
-        return true;
-    }
-    changed
-}
-
-// Marks what the axiom of x gives in its own row. Whether a mark is new.
-fn own(file: &[u8], table: &[u16], work: &mut [u8], square: Square, x: usize) -> bool
-    requires { ⌜ MarkedCell (now file) (now table) square (now work) x x ⌝ }
-    ensures { λ r. ⌜ Pass (Step (now (file .entry)) (now (table .entry)) square) square (Own (now (file .entry)) (now (table .entry)) square x) (now (work .entry)) (now (work .exit)) r ⌝ }
-{
-    if square.names <= x {
-        return false;
-    }
-    spread(file, table, work, square, x, x)
-}
-
-// Marks the defined conjunctions of which all conjuncts are marked in row x. Whether a mark is new.
-fn gather_all(file: &[u8], table: &[u16], work: &mut [u8], square: Square, x: usize) -> bool
+// Marks x ⊑ x and x ⊑ ⊤ for all x. Whether a mark is new.
+fn seed_all(file: &[u8], table: &[u16], work: &mut [u8], square: Square) -> bool
     requires { ⌜ Setting (now file) (now table) square (now work) ⌝ }
-    requires { ⌜ x ≤ square .names ⌝ }
-    ensures { λ r. ⌜ Pass (Step (now (file .entry)) (now (table .entry)) square) square (Below (Gathered (now (file .entry)) (now (table .entry)) square x) (square .names)) (now (work .entry)) (now (work .exit)) r ⌝ }
-{
-    let mut changed = false;
-    let mut next = 0;
-    while next < square.names {
-        let y = next;
-        next += 1;
-        if gather(file, table, work, square, x, y) {
-            changed = true;
-        }
-    }
-    changed
-}
-
-// Marks in row x what is marked in the rows of the nodes that are marked in it. Whether a mark is new.
-fn absorb_above(file: &[u8], table: &[u16], work: &mut [u8], square: Square, x: usize) -> bool
-    requires { ⌜ Setting (now file) (now table) square (now work) ⌝ }
-    requires { ⌜ x ≤ square .names ⌝ }
-    ensures { λ r. ⌜ Pass (Step (now (file .entry)) (now (table .entry)) square) square (Below (Above square x) (suc (square .names))) (now (work .entry)) (now (work .exit)) r ⌝ }
-{
-    let mut changed = false;
-    let mut node = next_marked(work, square, x, 0);
-    while node <= square.names {
-        let absorbed = absorb(work, square, node, x);
-        changed = changed | absorbed;
-        node = next_marked(work, square, x, node + 1);
-    }
-    changed
-}
-
-// One pass over row x. Whether a mark is new.
-fn row_pass(file: &[u8], table: &[u16], work: &mut [u8], square: Square, x: usize) -> bool
-    requires { ⌜ Setting (now file) (now table) square (now work) ⌝ }
-    requires { ⌜ x ≤ square .names ⌝ }
-    ensures { λ r. ⌜ Pass (Step (now (file .entry)) (now (table .entry)) square) square (Settled (now (file .entry)) (now (table .entry)) square x) (now (work .entry)) (now (work .exit)) r ⌝ }
-{
-    let seeded = seed(work, square, x);
-    let spread = own(file, table, work, square, x);
-    let gathered = gather_all(file, table, work, square, x);
-    let absorbed = absorb_above(file, table, work, square, x);
-    seeded | spread | gathered | absorbed
-}
-
-// Passes over row x until nothing is left to mark in it. Whether a mark is new.
-fn row(file: &[u8], table: &[u16], work: &mut [u8], square: Square, x: usize) -> bool
-    requires { ⌜ Setting (now file) (now table) square (now work) ⌝ }
-    requires { ⌜ x ≤ square .names ⌝ }
-    ensures { λ r. ⌜ Pass (Step (now (file .entry)) (now (table .entry)) square) square (Settled (now (file .entry)) (now (table .entry)) square x) (now (work .entry)) (now (work .exit)) r ⌝ }
-{
-    let mut changed = false;
-    while row_pass(file, table, work, square, x) {
-        changed = true;
-    }
-    changed
-}
-
-// Passes over all rows, one after the other. Whether a mark is new.
-fn rows(file: &[u8], table: &[u16], work: &mut [u8], square: Square) -> bool
-    requires { ⌜ Setting (now file) (now table) square (now work) ⌝ }
-    ensures { λ r. ⌜ Pass (Step (now (file .entry)) (now (table .entry)) square) square (Below (Settled (now (file .entry)) (now (table .entry)) square) (suc (square .names))) (now (work .entry)) (now (work .exit)) r ⌝ }
+    ensures { λ r. ⌜ Pass (Step (now (file .entry)) (now (table .entry)) square) square (Below (Seeded square) (suc (square .names))) (now (work .entry)) (now (work .exit)) r ⌝ }
 {
     let mut changed = false;
     let mut next = 0;
     while next <= square.names {
         let x = next;
         next += 1;
-        if row(file, table, work, square, x) {
-            changed = true;
+        let seeded = seed(work, square, x);
+        changed = changed | seeded;
+    }
+    changed
+}
+
+// Marks the defined conjunction y in each row in which all its conjuncts are marked. Whether a mark is new.
+fn gather_column(file: &[u8], table: &[u16], work: &mut [u8], square: Square, y: usize) -> bool
+    requires { ⌜ Setting (now file) (now table) square (now work) ⌝ }
+    requires { ⌜ y < square .names ⌝ }
+    ensures { λ r. ⌜ Pass (Step (now (file .entry)) (now (table .entry)) square) square (Below (GatheredAt (now (file .entry)) (now (table .entry)) square y) (suc (square .names))) (now (work .entry)) (now (work .exit)) r ⌝ }
+{
+    let mut changed = false;
+    let mut x = 0;
+    while x <= square.names {
+        let gathered = gather(file, table, work, square, x, y);
+        changed = changed | gathered;
+        x += 1;
+    }
+    changed
+}
+
+// Marks the defined restriction y in the row of each restriction that serves for it. Whether a mark is new.
+fn fill_column(file: &[u8], table: &[u16], work: &mut [u8], square: Square, y: usize) -> bool
+    requires { ⌜ SeededSetting (now file) (now table) square (now work) ⌝ }
+    requires { ⌜ y < square .names ⌝ }
+    ensures { λ r. ⌜ Pass (Step (now (file .entry)) (now (table .entry)) square) square (Below (FilledAt (now (table .entry)) square y) (square .names)) (now (work .entry)) (now (work .exit)) r ⌝ }
+{
+    let mut changed = false;
+    let mut next = 0;
+    while next < square.names {
+        let b = next;
+        next += 1;
+        if table::is_restriction(table, b) {
+            if fills(table, work, square, b, b, y) {
+                let new = mark(work, square, b, y);
+                changed = changed | new;
+            }
         }
     }
     changed
 }
 
-// Passes until nothing is left to mark.
-pub fn close(file: &[u8], table: &[u16], work: &mut [u8], square: Square)
+// Marks what the axiom of x gives: its conjuncts in its row, and its column where it defines x. Whether a mark is new.
+fn axiom(file: &[u8], table: &[u16], work: &mut [u8], square: Square, x: usize) -> bool
+    requires { ⌜ SeededSetting (now file) (now table) square (now work) ⌝ }
+    requires { ⌜ x < square .names ⌝ }
+    ensures { λ r. ⌜ Pass (Step (now (file .entry)) (now (table .entry)) square) square (AxiomSettled (now (file .entry)) (now (table .entry)) square x) (now (work .entry)) (now (work .exit)) r ⌝ }
+{
+    let kind = table::kind(table, x);
+    if kind == 4 {
+        return fill_column(file, table, work, square, x);
+    }
+    if kind == 2 {
+        let gathered = gather_column(file, table, work, square, x);
+        let parts = mark_parts(file, table, work, square, x, x);
+        return gathered | parts;
+    }
+    if kind == 1 {
+        return mark_parts(file, table, work, square, x, x);
+    }
+    false
+}
+
+// Does so for all axioms. Whether a mark is new.
+fn axioms(file: &[u8], table: &[u16], work: &mut [u8], square: Square) -> bool
+    requires { ⌜ SeededSetting (now file) (now table) square (now work) ⌝ }
+    ensures { λ r. ⌜ Pass (Step (now (file .entry)) (now (table .entry)) square) square (Below (AxiomSettled (now (file .entry)) (now (table .entry)) square) (square .names)) (now (work .entry)) (now (work .exit)) r ⌝ }
+{
+    let mut changed = false;
+    let mut next = 0;
+    while next < square.names {
+        let x = next;
+        next += 1;
+        let new = axiom(file, table, work, square, x);
+        changed = changed | new;
+    }
+    changed
+}
+
+// One pass: what is marked in any row, what the axioms give, and what the rows above each row have. Whether a mark is new; the pass
+// goes no further where one is, since what is left is found faster from there (propagation).
+fn pass(
+    file: &[u8],
+    table: &[u16],
+    work: &mut [u8],
+    square: Square,
+    order: &[u8; Order::NODES],
+) -> bool
+    requires { ⌜ Setting (now file) (now table) square (now work) ⌝ }
+    ensures { λ r. ⌜ Pass (Step (now (file .entry)) (now (table .entry)) square) square (Below (Settled (now (file .entry)) (now (table .entry)) square) (suc (square .names))) (now (work .entry)) (now (work .exit)) r ⌝ }
+{
+    if seed_all(file, table, work, square) {
+        return true;
+    }
+    if axioms(file, table, work, square) {
+        return true;
+    }
+    take_all(work, square, square, order)
+}
+
+// Passes until nothing is left to mark. What a pass finds is followed up from row to row before the next one.
+pub fn close(
+    file: &[u8],
+    table: &[u16],
+    work: &mut [u8],
+    square: Square,
+    order: &[u8; Order::NODES],
+)
     requires { ⌜ Setting (now file) (now table) square (now work) ⌝ }
     ensures { λ _. ⌜ Closed (Step (now (file .entry)) (now (table .entry)) square) square (Below (Settled (now (file .entry)) (now (table .entry)) square) (suc (square .names))) (now (work .entry)) (now (work .exit)) ⌝ }
 {
-    while rows(file, table, work, square) {}
+    let mut chains = [0u16; Chains::LENGTH];
+    let mut waiting = [0u8; Waiting::LENGTH];
+    fill(file, table, &mut chains, square.names);
+    waiting::see_all(work, square, &mut waiting);
+    while pass(file, table, work, square, order) {
+        propagate(file, table, work, &chains, &mut waiting, square);
+    }
 }

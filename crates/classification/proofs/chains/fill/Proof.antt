@@ -1,15 +1,13 @@
-use Prim.Native.Nat.{_≤_, _-_}
-use mathlib.Core.Path.{sym, _∙_}
 use native.Mathlib.Omega.{arith}
-use Rattle.classification.proofs.Marking.{joined, shaped-row}
 use borrow.Author.Needs.{needs}
+use Prim.Native.Nat.{_≤_, _-_}
+use Rattle.classification.proofs.Marking.{joined, shaped-row}
 use Rattle.classification.proofs.chains.fill.Statement.{statement}
 use Rattle.classification.proofs.chains.fill.Tie as tie
 use Rattle.classification.proofs.chains.fill.Reads as reads
 use Rattle.classification.proofs.chains.fill.Lts as lts
 use Rattle.classification.proofs.chains.add_conjunction.Reads as add-conjunction-reads
-use Rattle.classification.proofs.chains.put_first.Reads as put-first-reads
-use Rattle.release.proofs.table.filler.Reads as filler-reads
+use Rattle.classification.proofs.chains.add_restriction.Reads as add-restriction-reads
 use Rattle.release.proofs.table.is_restriction.Reads as is-restriction-reads
 use Rattle.release.proofs.table.kind.Reads as kind-reads
 
@@ -29,17 +27,8 @@ add-next c = search needs
 is-restriction-requires : tie.Need-is-restriction-requires Inv-loop μ-loop
 is-restriction-requires c κs = shaped-row (c .before .before .before .before .pre .0) (c .loop-test .taken)
 
-filler-requires : tie.Need-filler-requires Inv-loop μ-loop
-filler-requires c κs = shaped-row (c .before .before .before .before .before .before .pre .0) (c .before .before .loop-test .taken)
-
-add-put-first : tie.Need-add-put-first Inv-loop μ-loop
-add-put-first c = omega (arith, c .before .before .before .before .before .before .before .before .pre .1, c .before .filler .ensures, c .before .before .before .before .before .before .before .before .pre .0 .filler _ (c .before .before .before .before .loop-test .taken) (sym (c .before .before .before .is-restriction .ensures) ∙ c .before .before .if1 .taken))
-
-add-put-first-2 : tie.Need-add-put-first-2 Inv-loop μ-loop
-add-put-first-2 c = omega (arith, c .before .before .before .before .before .before .before .before .pre .1, c .before .before .before .before .loop-test .taken)
-
-put-first-requires : tie.Need-put-first-requires Inv-loop μ-loop
-put-first-requires c κs = search needs
+add-restriction-requires : tie.Need-add-restriction-requires Inv-loop μ-loop
+add-restriction-requires c κs = (shaped-row (c .before .before .before .before .before .before .before .pre .0) (c .before .before .before .loop-test .taken), omega (arith, c .before .before .before .loop-test .taken, c .before .before .before .before .before .before .before .pre .1))
 
 loop-less : tie.Need-loop-less Inv-loop μ-loop
 loop-less c = search needs
@@ -77,10 +66,7 @@ fill-spec =
     loop-holds
     add-next
     is-restriction-requires
-    filler-requires
-    add-put-first
-    add-put-first-2
-    put-first-requires
+    add-restriction-requires
     loop-less
     loop-again
     kind-requires

@@ -1,26 +1,26 @@
-use mathlib.Core.Path.{_≡_, refl}
 use native.Mathlib.Omega.{arith}
 use borrow.Author.Needs.{needs}
+use mathlib.Core.Path.{_≡_, refl}
 use lib.ListN.{length}
 use Rattle.marks.specs.Passes.{Grows, none}
 use Rattle.marks.proofs.Passes.{grows-further}
 use Rattle.classification.specs.Steps.{Step}
-use Rattle.classification.proofs.Marking.{in-row-at, in-row-stays, gather-grows, cell-put}
+use Rattle.classification.proofs.Marking.{in-row-at, in-row-stays, gather-grows}
 use Rattle.classification.proofs.consequences.put_gathered.Statement.{statement}
 use Rattle.classification.proofs.consequences.put_gathered.Tie as tie
 use Rattle.classification.proofs.consequences.put_gathered.Reads as reads
 use Rattle.classification.proofs.consequences.put_gathered.Lts as lts
 use Rattle.classification.proofs.chains.entry.Reads as entry-reads
-use Rattle.classification.proofs.consequences.hand_on.Reads as hand-on-reads
 use Rattle.classification.proofs.rules.gathers.Reads as gathers-reads
-use Rattle.marks.proofs.pending.put.Reads as put-reads
+use Rattle.marks.proofs.mark.Reads as mark-reads
+use Rattle.marks.proofs.waiting.wait.Reads as wait-reads
 
 -- marks put by the rules
 abbrev Inv-loop : tie.InvT-loop
-Inv-loop file table work₀ chains pending₀ square x y entry₀ left₀ work pending entry left = (length work ≡ length work₀) × Grows (Step file table square) square work₀ work
+Inv-loop file table work₀ chains waiting₀ square x y entry₀ left₀ work waiting entry left = (length work ≡ length work₀) × Grows (Step file table square) square work₀ work
 
 abbrev μ-loop : tie.MeasureT-loop
-μ-loop file table work₀ chains pending₀ square x y entry₀ left₀ work pending entry left = left
+μ-loop file table work₀ chains waiting₀ square x y entry₀ left₀ work waiting entry left = left
 
 entry-requires : tie.Need-entry-requires Inv-loop μ-loop
 entry-requires c κs = search needs
@@ -43,23 +43,23 @@ entry-requires-2 c κs = search needs
 gathers-requires : tie.Need-gathers-requires Inv-loop μ-loop
 gathers-requires c κs = in-row-at (in-row-stays (c .before .before .before .before .before .loop .inv .1) (c .before .before .before .before .before .before .before .before .before .before .pre)) (c .before .before .if1 .left)
 
-put-requires : tie.Need-put-requires Inv-loop μ-loop
-put-requires c κs = let h = in-row-at (in-row-stays (c .before .before .before .before .before .before .before .before .before .loop .inv .1) (c .before .before .before .before .before .before .before .before .before .before .before .before .before .before .pre)) (c .before .before .before .before .before .before .if1 .left) in (h .setting .room, (h .row, omega (arith, h .name)))
+mark-requires : tie.Need-mark-requires Inv-loop μ-loop
+mark-requires c κs = let h = in-row-at (in-row-stays (c .before .before .before .before .before .before .before .before .loop .inv .1) (c .before .before .before .before .before .before .before .before .before .before .before .before .before .pre)) (c .before .before .before .before .before .if1 .left) in (h .setting .room, (h .row, omega (arith, h .name)))
 
-hand-on-requires : tie.Need-hand-on-requires Inv-loop μ-loop
-hand-on-requires c κs = let h = in-row-at (in-row-stays (c .before .before .before .before .before .before .before .before .before .before .before .before .before .before .before .loop .inv .1) (c .before .before .before .before .before .before .before .before .before .before .before .before .before .before .before .before .before .before .before .before .pre)) (c .before .before .before .before .before .before .before .before .before .before .before .before .if1 .left) in cell-put (h .setting) (h .row) (omega (arith, h .name)) (gather-grows h (c .before .before .before .before .before .before .before .before .before .gathers .ensures .sound (c .before .before .before .before .before .before .before .before .if2 .taken)) (c .before .before .before .before .before .put .ensures)) (c .before .before .before .before .before .put .ensures)
+wait-requires : tie.Need-wait-requires Inv-loop μ-loop
+wait-requires c κs = search needs
 
 loop-less : tie.Need-loop-less Inv-loop μ-loop
 loop-less c = search needs
 
 loop-again : tie.Need-loop-again Inv-loop μ-loop
-loop-again c = let g = c .before .before .before .before .before .before .before .before .before .before .before .before .before .before .before .before .before .before .loop .inv .1 in (search needs, grows-further g (grows-further (gather-grows (in-row-at (in-row-stays g (c .before .before .before .before .before .before .before .before .before .before .before .before .before .before .before .before .before .before .before .before .before .before .before .pre)) (c .before .before .before .before .before .before .before .before .before .before .before .before .before .before .before .if1 .left)) (c .before .before .before .before .before .before .before .before .before .before .before .before .gathers .ensures .sound (c .before .before .before .before .before .before .before .before .before .before .before .if2 .taken)) (c .before .before .before .before .before .before .before .before .put .ensures)) (c .before .before .hand-on .ensures)))
+loop-again c = let g = c .before .before .before .before .before .before .before .before .before .before .before .before .before .before .loop .inv .1 in (search needs, grows-further g (gather-grows (in-row-at (in-row-stays g (c .before .before .before .before .before .before .before .before .before .before .before .before .before .before .before .before .before .before .before .pre)) (c .before .before .before .before .before .before .before .before .before .before .before .if1 .left)) (c .before .before .before .before .before .before .before .before .gathers .ensures .sound (c .before .before .before .before .before .before .before .if2 .taken)) (c .before .before .before .before .before .mark .ensures)))
 
 loop-less-2 : tie.Need-loop-less-2 Inv-loop μ-loop
 loop-less-2 c = search needs
 
 loop-again-2 : tie.Need-loop-again-2 Inv-loop μ-loop
-loop-again-2 c = let g = c .before .before .before .before .before .before .before .before .before .before .before .before .before .loop .inv .1 in (search needs, grows-further g (gather-grows (in-row-at (in-row-stays g (c .before .before .before .before .before .before .before .before .before .before .before .before .before .before .before .before .before .before .pre)) (c .before .before .before .before .before .before .before .before .before .before .if1 .left)) (c .before .before .before .before .before .before .before .gathers .ensures .sound (c .before .before .before .before .before .before .if2 .taken)) (c .before .before .before .put .ensures)))
+loop-again-2 c = let g = c .before .before .before .before .before .before .before .before .before .before .before .before .loop .inv .1 in (search needs, grows-further g (gather-grows (in-row-at (in-row-stays g (c .before .before .before .before .before .before .before .before .before .before .before .before .before .before .before .before .before .pre)) (c .before .before .before .before .before .before .before .before .before .if1 .left)) (c .before .before .before .before .before .before .gathers .ensures .sound (c .before .before .before .before .before .if2 .taken)) (c .before .before .before .mark .ensures)))
 
 loop-less-3 : tie.Need-loop-less-3 Inv-loop μ-loop
 loop-less-3 c = search needs
@@ -86,8 +86,8 @@ put-gathered-spec =
     returns
     entry-requires-2
     gathers-requires
-    put-requires
-    hand-on-requires
+    mark-requires
+    wait-requires
     loop-less
     loop-again
     loop-less-2

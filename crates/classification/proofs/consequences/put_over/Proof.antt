@@ -1,27 +1,28 @@
-use mathlib.Core.Path.{_≡_, refl}
 use native.Mathlib.Omega.{arith}
 use borrow.Author.Needs.{needs}
+use mathlib.Core.Path.{_≡_, refl}
 use lib.ListN.{length}
 use Rattle.marks.specs.Passes.{Grows, none}
 use Rattle.marks.proofs.Passes.{grows-further}
 use Rattle.classification.specs.Steps.{Step}
-use Rattle.classification.proofs.Marking.{shaped-row, over-stays, served-over}
+use Rattle.classification.proofs.Marking.{shaped-row, over-stays, over-grows}
 use Rattle.classification.proofs.consequences.put_over.Statement.{statement}
 use Rattle.classification.proofs.consequences.put_over.Tie as tie
 use Rattle.classification.proofs.consequences.put_over.Reads as reads
 use Rattle.classification.proofs.consequences.put_over.Lts as lts
 use Rattle.classification.proofs.chains.entry.Reads as entry-reads
-use Rattle.classification.proofs.consequences.put_served.Reads as put-served-reads
+use Rattle.marks.proofs.mark.Reads as mark-reads
+use Rattle.marks.proofs.waiting.wait.Reads as wait-reads
 use Rattle.release.proofs.table.filler.Reads as filler-reads
 use Rattle.release.proofs.table.kind.Reads as kind-reads
 use Rattle.release.proofs.table.role.Reads as role-reads
 
 -- marks put by the rules
 abbrev Inv-loop : tie.InvT-loop
-Inv-loop file table work₀ chains pending₀ square b y role entry₀ left₀ work pending entry left = (length work ≡ length work₀) × Grows (Step file table square) square work₀ work
+Inv-loop file table work₀ chains waiting₀ square b y role entry₀ left₀ work waiting entry left = (length work ≡ length work₀) × Grows (Step file table square) square work₀ work
 
 abbrev μ-loop : tie.MeasureT-loop
-μ-loop file table work₀ chains pending₀ square b y role entry₀ left₀ work pending entry left = left
+μ-loop file table work₀ chains waiting₀ square b y role entry₀ left₀ work waiting entry left = left
 
 role-requires : tie.Need-role-requires Inv-loop μ-loop
 role-requires c κs = shaped-row (c .before .before .before .pre .setting .shaped) (c .before .before .before .pre .name)
@@ -53,32 +54,41 @@ filler-requires c κs = shaped-row (c .before .before .before .before .before .b
 role-requires-2 : tie.Need-role-requires-2 Inv-loop μ-loop
 role-requires-2 c κs = shaped-row (c .before .before .before .before .before .before .before .before .before .before .before .before .before .before .pre .setting .shaped) (c .before .before .before .before .before .if1 .left)
 
-put-served-requires : tie.Need-put-served-requires Inv-loop μ-loop
-put-served-requires c κs = served-over (over-stays (c .before .before .before .before .before .before .before .before .before .before .before .before .loop .inv .1) (c .before .before .before .before .before .before .before .before .before .before .before .before .before .before .before .before .before .before .pre)) (c .before .before .before .before .before .before .before .before .before .if1 .left) (c .before .before .before .before .before .before .before .kind .ensures) (c .before .before .before .before .before .before .if2 .taken) (c .before .before .before .before .before .filler .ensures) (c .before .before .before .before .if3 .taken) (c .before .before .before .before .before .before .before .before .before .before .before .before .before .before .role .ensures) (c .before .before .before .role2 .ensures) (c .before .before .if4 .taken)
+mark-requires : tie.Need-mark-requires Inv-loop μ-loop
+mark-requires c κs = let h = over-stays (c .before .before .before .before .before .before .before .before .before .before .before .loop .inv .1) (c .before .before .before .before .before .before .before .before .before .before .before .before .before .before .before .before .before .pre) in (h .setting .room, (omega (arith, h .name), omega (arith, c .before .before .before .before .before .before .before .before .if1 .left)))
+
+wait-requires : tie.Need-wait-requires Inv-loop μ-loop
+wait-requires c κs = search needs
 
 loop-less : tie.Need-loop-less Inv-loop μ-loop
 loop-less c = search needs
 
 loop-again : tie.Need-loop-again Inv-loop μ-loop
-loop-again c = (search needs, grows-further (c .before .before .before .before .before .before .before .before .before .before .before .before .before .before .before .loop .inv .1) (c .before .before .put-served .ensures))
+loop-again c = let g = c .before .before .before .before .before .before .before .before .before .before .before .before .before .before .before .before .before .loop .inv .1 in (search needs, grows-further g (over-grows (over-stays g (c .before .before .before .before .before .before .before .before .before .before .before .before .before .before .before .before .before .before .before .before .before .before .before .pre)) (c .before .before .before .before .before .before .before .before .before .before .before .before .before .before .if1 .left) (c .before .before .before .before .before .before .before .before .before .before .before .before .kind .ensures) (c .before .before .before .before .before .before .before .before .before .before .before .if2 .taken) (c .before .before .before .before .before .before .before .before .before .before .filler .ensures) (c .before .before .before .before .before .before .before .before .before .if3 .taken) (c .before .before .before .before .before .before .before .before .before .before .before .before .before .before .before .before .before .before .before .role .ensures) (c .before .before .before .before .before .before .before .before .role2 .ensures) (c .before .before .before .before .before .before .before .if4 .taken) (c .before .before .before .before .before .mark .ensures)))
 
 loop-less-2 : tie.Need-loop-less-2 Inv-loop μ-loop
 loop-less-2 c = search needs
 
 loop-again-2 : tie.Need-loop-again-2 Inv-loop μ-loop
-loop-again-2 c = (search needs, c .before .before .before .before .before .before .before .before .before .before .loop .inv .1)
+loop-again-2 c = let g = c .before .before .before .before .before .before .before .before .before .before .before .before .before .before .before .loop .inv .1 in (search needs, grows-further g (over-grows (over-stays g (c .before .before .before .before .before .before .before .before .before .before .before .before .before .before .before .before .before .before .before .before .before .pre)) (c .before .before .before .before .before .before .before .before .before .before .before .before .if1 .left) (c .before .before .before .before .before .before .before .before .before .before .kind .ensures) (c .before .before .before .before .before .before .before .before .before .if2 .taken) (c .before .before .before .before .before .before .before .before .filler .ensures) (c .before .before .before .before .before .before .before .if3 .taken) (c .before .before .before .before .before .before .before .before .before .before .before .before .before .before .before .before .before .role .ensures) (c .before .before .before .before .before .before .role2 .ensures) (c .before .before .before .before .before .if4 .taken) (c .before .before .before .mark .ensures)))
 
 loop-less-3 : tie.Need-loop-less-3 Inv-loop μ-loop
 loop-less-3 c = search needs
 
 loop-again-3 : tie.Need-loop-again-3 Inv-loop μ-loop
-loop-again-3 c = (search needs, c .before .before .before .before .before .before .before .before .loop .inv .1)
+loop-again-3 c = (search needs, c .before .before .before .before .before .before .before .before .before .before .loop .inv .1)
 
 loop-less-4 : tie.Need-loop-less-4 Inv-loop μ-loop
 loop-less-4 c = search needs
 
 loop-again-4 : tie.Need-loop-again-4 Inv-loop μ-loop
-loop-again-4 c = (search needs, c .before .before .before .before .before .before .loop .inv .1)
+loop-again-4 c = (search needs, c .before .before .before .before .before .before .before .before .loop .inv .1)
+
+loop-less-5 : tie.Need-loop-less-5 Inv-loop μ-loop
+loop-less-5 c = search needs
+
+loop-again-5 : tie.Need-loop-again-5 Inv-loop μ-loop
+loop-again-5 c = (search needs, c .before .before .before .before .before .before .loop .inv .1)
 
 same-length-2 : tie.Need-same-length-2 Inv-loop μ-loop
 same-length-2 c = search needs
@@ -102,7 +112,8 @@ put-over-spec =
     kind-requires
     filler-requires
     role-requires-2
-    put-served-requires
+    mark-requires
+    wait-requires
     loop-less
     loop-again
     loop-less-2
@@ -111,5 +122,7 @@ put-over-spec =
     loop-again-3
     loop-less-4
     loop-again-4
+    loop-less-5
+    loop-again-5
     same-length-2
     returns-2)

@@ -7,7 +7,7 @@ use Rattle.classification.proofs.propagation.start_row.Tie as tie
 use Rattle.classification.proofs.propagation.start_row.Reads as reads
 use Rattle.classification.proofs.propagation.start_row.Lts as lts
 use Rattle.classification.proofs.rules.mark_parts.Reads as mark-parts-reads
-use Rattle.classification.proofs.sweep.seed.Reads as seed-reads
+use Rattle.classification.proofs.rules.seed.Reads as seed-reads
 use Rattle.release.proofs.table.is_conjunction.Reads as is-conjunction-reads
 
 seed-requires : tie.Need-seed-requires

@@ -1,43 +1,67 @@
-use mathlib.Core.Path.{_≡_, refl}
+use native.Mathlib.Omega.{arith}
 use borrow.Author.Needs.{needs}
+use mathlib.Core.Path.{_≡_, refl}
 use lib.ListN.{length}
 use Rattle.marks.specs.Passes.{Grows, none}
 use Rattle.marks.specs.Squares.{unset}
-use Rattle.marks.proofs.Passes.{grows-further, pass-closed}
+use Rattle.marks.proofs.Passes.{grows-further, unset-falls, pass-closed}
 use Rattle.classification.specs.Steps.{Step}
 use Rattle.classification.proofs.Marking.{setting-stays}
 use Rattle.classification.proofs.sweep.close.Statement.{statement}
 use Rattle.classification.proofs.sweep.close.Tie as tie
 use Rattle.classification.proofs.sweep.close.Reads as reads
 use Rattle.classification.proofs.sweep.close.Lts as lts
-use Rattle.classification.proofs.sweep.rows.Reads as rows-reads
+use Rattle.classification.proofs.chains.fill.Reads as fill-reads
+use Rattle.classification.proofs.propagation.propagate.Reads as propagate-reads
+use Rattle.classification.proofs.sweep.pass.Reads as pass-reads
+use Rattle.marks.proofs.waiting.see_all.Reads as see-all-reads
 
--- marks put by the rules; each pass leaves fewer bytes that are no mark
+-- marks put by the rules; each pass leaves fewer bits that are no mark
 abbrev Inv-loop : tie.InvT-loop
-Inv-loop file table work₀ square work = (length work ≡ length work₀) × Grows (Step file table square) square work₀ work
+Inv-loop file table work₀ square order chains waiting₀ work waiting = (length work ≡ length work₀) × Grows (Step file table square) square work₀ work
 
 abbrev μ-loop : tie.MeasureT-loop
-μ-loop file table work₀ square work = unset work
+μ-loop file table work₀ square order chains waiting₀ work waiting = unset work
+
+fill-requires : tie.Need-fill-requires Inv-loop μ-loop
+fill-requires c κs = (c .before .before .before .before .pre .shaped, omega (arith, c .before .before .before .before .pre .few))
+
+see-all-requires : tie.Need-see-all-requires Inv-loop μ-loop
+see-all-requires c κs = (c .before .before .before .before .before .before .before .pre .room, c .before .before .before .before .before .before .before .pre .few)
 
 loop-holds : tie.Need-loop-holds Inv-loop μ-loop
 loop-holds c = (refl, none)
 
-rows-requires : tie.Need-rows-requires Inv-loop μ-loop
-rows-requires c κs = setting-stays (c .before .loop .inv .1) (c .before .before .before .before .before .pre)
+pass-requires : tie.Need-pass-requires Inv-loop μ-loop
+pass-requires c κs = setting-stays (c .before .loop .inv .1) (c .before .before .before .before .before .before .before .before .before .before .pre)
+
+propagate-requires : tie.Need-propagate-requires Inv-loop μ-loop
+propagate-requires c κs = setting-stays (grows-further (c .before .before .before .before .before .before .before .before .loop .inv .1) (c .before .before .before .before .before .before .pass .ensures .grows)) (c .before .before .before .before .before .before .before .before .before .before .before .before .before .before .before .before .before .pre)
 
 loop-less : tie.Need-loop-less Inv-loop μ-loop
-loop-less c = c .before .before .before .rows .ensures .fewer (c .if1 .taken)
+loop-less c = omega (arith, c .before .before .before .before .before .before .before .before .before .pass .ensures .fewer (c .before .before .before .before .before .before .if1 .taken), unset-falls (c .before .before .propagate .ensures))
 
 loop-again : tie.Need-loop-again Inv-loop μ-loop
-loop-again c = (search needs, grows-further (c .before .before .before .before .before .loop .inv .1) (c .before .before .before .rows .ensures .grows))
+loop-again c = (search needs, grows-further (c .before .before .before .before .before .before .before .before .before .before .before .loop .inv .1) (grows-further (c .before .before .before .before .before .before .before .before .before .pass .ensures .grows) (c .before .before .propagate .ensures)))
 
 same-length : tie.Need-same-length Inv-loop μ-loop
 same-length c = search needs
 
 returns : tie.Need-returns Inv-loop μ-loop
-returns c = pass-closed (c .before .before .before .before .before .loop .inv .1) (c .before .before .before .rows .ensures) (c .if1 .left)
+returns c = pass-closed (c .before .before .before .before .before .loop .inv .1) (c .before .before .before .pass .ensures) (c .if1 .left)
 
 pub close-spec : {M : Type 1} → statement M
 close-spec =
     tie.close
-    (tie.spec Inv-loop μ-loop loop-holds rows-requires loop-less loop-again same-length returns)
+    (tie.spec
+    Inv-loop
+    μ-loop
+    fill-requires
+    see-all-requires
+    loop-holds
+    pass-requires
+    propagate-requires
+    loop-less
+    loop-again
+    same-length
+    returns)

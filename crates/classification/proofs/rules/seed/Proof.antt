@@ -1,9 +1,9 @@
 use Rattle.classification.proofs.Marking.{seeds-changed, seeds-unchanged}
 use borrow.Author.Needs.{needs}
-use Rattle.classification.proofs.sweep.seed.Statement.{statement}
-use Rattle.classification.proofs.sweep.seed.Tie as tie
-use Rattle.classification.proofs.sweep.seed.Reads as reads
-use Rattle.classification.proofs.sweep.seed.Lts as lts
+use Rattle.classification.proofs.rules.seed.Statement.{statement}
+use Rattle.classification.proofs.rules.seed.Tie as tie
+use Rattle.classification.proofs.rules.seed.Reads as reads
+use Rattle.classification.proofs.rules.seed.Lts as lts
 use Rattle.marks.proofs.mark.Reads as mark-reads
 
 mark-requires : tie.Need-mark-requires
