@@ -1,6 +1,6 @@
 -- The four squares one after the other, and the result: what each call asks follows from what the calls before it gave.
 --   first-asks, second-asks, both-included         the two classifications, and what they give together
---   forward-asks, backward-asks, all-marked        the marks
+--   forward-asks, forward-apart, backward-asks, all-marked     the marks
 --   readable, compared                             what writing the result bytes asks; what the comparison gives
 use mathlib.Core.Path.{_≡_, refl, _∙_}
 use mathlib.Core.List.{List}
@@ -16,7 +16,7 @@ use Rattle.release.proofs.Checks.{header-sound}
 use Rattle.release.proofs.Linked.{no-header-fault}
 use Rattle.signature.specs.Bytes.{signatureFault}
 use Rattle.marks.specs.declared.Square.{Square}
-use Rattle.marks.specs.Squares.{Room, Unmarked, Apart, Frame, Zeroed}
+use Rattle.marks.specs.Squares.{span, Room, Unmarked, Apart, Frame, Zeroed}
 use Rattle.marks.proofs.Squares.{span-size, frame-marked, marked-frame, frame-unmarked, zeroed-unmarked}
 use Rattle.classification.specs.Inclusions.{Unclassified, Classified}
 use Rattle.classification.proofs.Meaning.{inclusions-stay}
@@ -96,6 +96,9 @@ module _ {g s t a b : List ℕ} {n m k : ℕ} {w : List ℕ} (given : Given g s 
 
     pub forward-asks : Setting g a b (forwardLayout n m k) w1
     forward-asks = setting comparing
+
+    pub forward-apart : k + span n ≤ 2 * k
+    forward-apart = comparing .second-apart
 
     module _ {w2 : List ℕ} (f : ForwardFrom g a b (forwardLayout n m k) w1 w2) where
       abbrev forth : Forwarded g s t (forwardLayout n m k) w1 w2

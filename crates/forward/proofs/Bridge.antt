@@ -51,9 +51,12 @@ module _ {g s t a b : List ℕ} {l : Layout} {w : List ℕ} (c : Comparing g s t
             it = o .left;
             below = formed (c .second-release) (c .second-names) .left-in o-in;
             holds = record {
-              is-restriction = restriction-restricts p (link .is-restriction);
-              reaches = record { role = role-is p (link .is-restriction) ∙ (link .role ∙ sym (role-is f i)); second = marked (nodeAt n y) (named (o .left)) (number-at n y y-in) refl (link .above) };
-              free = λ m. not-both (said (fillerOf (f .it)) (fillerOf o) (filler-is f i) (filler-is p (link .is-restriction)) m) z;
+              serves = record {
+                is-restriction = restriction-restricts p (link .is-restriction);
+                role = role-is p (link .is-restriction) ∙ (link .role ∙ sym (role-is f i));
+                free = λ m. not-both (said (fillerOf (f .it)) (fillerOf o) (filler-is f i) (filler-is p (link .is-restriction)) m) z;
+              };
+              second = marked (nodeAt n y) (named (o .left)) (number-at n y y-in) refl (link .above);
             };
           }))
         ]
@@ -77,10 +80,10 @@ module _ {g s t a b : List ℕ} {l : Layout} {w : List ℕ} (c : Comparing g s t
     no-partner : {e r : ℕ} (f : Found s a n e) → isConjunction (f .it) ≡ false → roleOf (f .it) ≡ r → ((d : Axiom) → In (axiomsOf t) d → Link (says (secondSquare l) v) y r d → says (markSquare l) v (fillerOf (f .it)) (fillerOf d) ≡ true) → SomeBelow (Partner b l v (fillerAt a e) (nodeNumber n y) (roleAt a e)) n → ⊥
     no-partner {e} {r} f k role every p =
         let q = p .holds in
-        let d = restricted (c .second-release) (c .second-names) (p .it) (p .below) (q .is-restriction) in
-        let i = is-restriction d (q .is-restriction) in
-        let link : Link (says (secondSquare l) v) y r (d .it) = record { above = said y (named (d .it .left)) refl (d .left) (q .reaches .second); is-restriction = i; role = sym (role-is d i) ∙ (q .reaches .role ∙ (role-is f k ∙ role)) } in
-        q .free (marked (fillerOf (f .it)) (fillerOf (d .it)) (filler-is f k) (filler-is d i) (every (d .it) (d .member) link))
+        let d = restricted (c .second-release) (c .second-names) (p .it) (p .below) (q .serves .is-restriction) in
+        let i = is-restriction d (q .serves .is-restriction) in
+        let link : Link (says (secondSquare l) v) y r (d .it) = record { above = said y (named (d .it .left)) refl (d .left) (q .second); is-restriction = i; role = sym (role-is d i) ∙ (q .serves .role ∙ (role-is f k ∙ role)) } in
+        q .serves .free (marked (fillerOf (f .it)) (fillerOf (d .it)) (filler-is f k) (filler-is d i) (every (d .it) (d .member) link))
 
     pub rows-closed : Rule x y → says (markSquare l) v x y ≡ true
     rows-closed (el.by-name {b = d} over above not-above) = marked-by (chosen-below l g d over) above (by-name (record { is-name = chosen-below l g d over; chosen-name = over; not-second = λ m. not-both (said y (named d) refl refl m) not-above }))

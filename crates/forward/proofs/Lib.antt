@@ -1,5 +1,4 @@
 -- Laws of forward marks.
-pub mod Chains
 pub mod Tested
 pub mod Bridge
 pub mod Meaning

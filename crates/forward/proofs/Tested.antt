@@ -1,32 +1,40 @@
 -- Laws of the rules of forward marks.
---   marked-none, found-partner, no-partner-found     what the search for a partner by nodes finds
---   partner-by, partner-marked, found-at, ..         the same for one name, and for a search by names
---   edge-by, edge-is-lost, edge-is-kept, end-small   whether there is an edge, and whether it is lost; its end is a node
---   cell-marked, cell-put, cell-none                 a pair looked at
---   row-from-above, row-taken                        a row whose marks another one takes
---   above-grows, above-pass, top-row                 marks taken from above, as steps of the rules
---   setting-stays, linked-stays                      what is asked holds after marks are put, too
---   names-grow, below-put, edge-put                  marks put at once, each as a rule allows
+--   serves-not, ..                        whether a name serves for an edge
+--   kept-by, kept-not, kept-none .. kept-end     the line of the nodes that keep a partner
+--   edge-by, end-small                    whether there is an edge; its end is a node
+--   second-stays, no-partner-stays        what marks put later do not change
+--   kept-lost, kept-partner               what the line says of partners
+--   names-lost, edges-lost                marks put where a line has nothing, as steps of the rules;  by-name-pass, by-edge-pass: as passes
+--   found-at, none-to-next, none-below    what the search for a partner finds
+--   above-grows, row-from-above, taken-pass   marks taken from above, as steps of the rules
+--   quiet-rows                            rows with nothing left to mark
+--   zeros-room, zeros-unmarked            a memory of zeros, for a square
+--   setting-stays                         what is asked holds after marks are put, too
 use mathlib.Core.Path.{_≡_, refl, sym, _∙_}
-use mathlib.Core.Bool.{Bool, true, false}
+use mathlib.Core.Bool.{Bool, true, false, false≢true}
 use mathlib.Core.List.{List}
-use Prim.Native.Nat.{ℕ, suc, _≤_, _<_}
+use mathlib.Core.Logic.{_⊎_, inl, inr}
+use Prim.Native.Nat.{ℕ, zero, suc, _+_, _/_, _≤_, _<_}
+use native.Mathlib.Nat.{mul-le-mul}
 use native.Mathlib.Omega.{arith}
-use native.Mathlib.Decide.{decLt}
-use Rattle.el.proofs.Tests.{Tells, tells-as, never}
+use native.Mathlib.Decide.{ℕ-discrete, decLt}
+use lib.ListN.{getD, replicate, length-replicate}
+use Rattle.el.proofs.Tests.{Tells, always, never}
 use Rattle.release.specs.Files.{restricts}
 use Rattle.release.specs.Tables.{kindAt, roleAt, fillerAt, HasRow}
-use Rattle.marks.specs.Squares.{NextMarked, NextUnmarked, Room, Marked, Put, Within}
+use Rattle.marks.specs.declared.Square.{Square}
+use Rattle.marks.specs.Squares.{span, width, place, NextMarked, Room, Marked, Unmarked, Put}
 use Rattle.marks.specs.Passes.{Grows, Pass, Below, FromRow}
-use Rattle.marks.proofs.Squares.{refuted, frame-marked}
-use Rattle.marks.proofs.Passes.{grows-frame, grows-as, pass-none, pass-as, put-pass, put-grows}
+use Rattle.marks.specs.Lines.{Has, Empty, Joined, Missing, Full}
+use Rattle.marks.specs.Inclusions.{Taking, Takes, Turned}
+use Rattle.marks.proofs.Squares.{frame-marked, marked-frame, zero-unmarked}
+use Rattle.marks.proofs.Passes.{grows-frame, marks-stay, grows-as, pass-by, pass-with, put-grows}
+use Rattle.marks.proofs.Handing.{stays-anywhere}
 use Rattle.layout.specs.declared.Layout.{Layout}
-use Rattle.layout.specs.Searches.{SomeBelow, EachBelow, NoneBelow}
+use Rattle.layout.specs.Searches.{SomeBelow, NoneBelow}
 use Rattle.layout.specs.Layouts.{firstSquare, secondSquare, markSquare, chosen, Rowed}
 use Rattle.layout.proofs.Layouts as layout
-use Rattle.forward.specs.Fillers.{HasFiller}
-use Rattle.forward.specs.Rules.{Setting, Linked, NameLost, Reaches, Partner, Edge, EdgeLost, Own, by-name, by-edge, FromAbove, Step, by-itself, by-above, Cell, Taken, Row}
-use Rattle.forward.proofs.Chains.{NoneWith}
+use Rattle.forward.specs.Rules.{belowSquare, Setting, NameLost, Serves, Partner, Edge, EdgeLost, Own, by-name, by-edge, FromAbove, Step, by-itself, by-above, KeptBy, Kept, ByName, ByEdge, Looked, Cell, Taken, Row}
 
 pub rowed-row : {n x : ℕ} {t : List ℕ} → Rowed n t → x < n → HasRow t x
 rowed-row r h = record { row = omega (arith, r .rows) }
@@ -34,92 +42,185 @@ rowed-row r h = record { row = omega (arith, r .rows) }
 pub tells-none : {r : Bool} {A : Type 0} → r ≡ false → (A → ⊥) → Tells r A
 tells-none e f = rw e (never f)
 
-module _ {b : List ℕ} {l : Layout} {w : List ℕ} {z y r : ℕ} where
-  pub marked-none : {k : ℕ} → Marked (markSquare l) w z k → NoneWith (l .names) b (Partner b l w z y r) k
-  marked-none m = record { none = λ c h d p. p .free (rw (d .filler) m) }
+-- one name
+module _ {b : List ℕ} {l : Layout} {w : List ℕ} {z r c : ℕ} where
+  pub serves-not : restricts (kindAt b c) ≡ false → Serves b l w z r c → ⊥
+  serves-not e s = false≢true (sym e ∙ s .is-restriction)
 
-  pub found-partner : {k : ℕ} (c : ℕ) → c < l .names → HasFiller b k c → Reaches b l w y r c → (Marked (markSquare l) w z k → ⊥) → SomeBelow (Partner b l w z y r) (l .names)
-  found-partner c h d p f = record { it = c; below = h; holds = record { is-restriction = d .is-restriction; reaches = p; free = λ m. f (rw (d .filler) at m) } }
+  pub serves-marked : {k : ℕ} → k ≡ fillerAt b c → Marked (markSquare l) w z k → Serves b l w z r c → ⊥
+  serves-marked e m s = s .free (rw (← e) m)
 
-  pub found-at : {c : ℕ} → c < l .names → Partner b l w z y r c → SomeBelow (Partner b l w z y r) (l .names)
-  found-at {c} h p = record { it = c; below = h; holds = p }
+  pub serves-is : {k o : ℕ} → restricts (kindAt b c) ≡ true → k ≡ fillerAt b c → (Marked (markSquare l) w z k → ⊥) → o ≡ roleAt b c → o ≡ r → Serves b l w z r c
+  serves-is h e f i j = record { is-restriction = h; role = sym i ∙ j; free = λ m. f (rw e m) }
 
-  pub partner-marked : {k c : ℕ} → k ≡ fillerAt b c → Marked (markSquare l) w z k → Partner b l w z y r c → ⊥
-  partner-marked e m p = p .free (rw (← e) m)
+  pub serves-other : {o : ℕ} → o ≡ roleAt b c → (o ≡ r → ⊥) → Serves b l w z r c → ⊥
+  serves-other i j s = j (i ∙ s .role)
 
-  pub partner-by : {k c : ℕ} {t : Bool} → restricts (kindAt b c) ≡ true → k ≡ fillerAt b c → (Marked (markSquare l) w z k → ⊥) → Tells t (Reaches b l w y r c) → Tells t (Partner b l w z y r c)
-  partner-by k e f t = tells-as (λ q. record { is-restriction = k; reaches = q; free = λ m. f (rw e m) }) (λ p. p .reaches) t
+-- the line of the nodes that keep a partner
+pub record KeptTo (b t : List ℕ) (l : Layout) (w : List ℕ) (z r m : ℕ) (k : List ℕ) : Type 0 where
+  pub has : (y c : ℕ) → y ≤ l .names → c < m → Serves b l w z r c → Marked (belowSquare l) t c y → Has k y
+  pub only : (y : ℕ) → y ≤ l .names → Has k y → SomeBelow (λ c. Serves b l w z r c × Marked (belowSquare l) t c y) m
 
-  -- no name before the next one above y is a partner
-  pub none-to-next : {k v : ℕ} → NextMarked (secondSquare l) w y k v → NoneBelow (Partner b l w z y r) k → NoneBelow (Partner b l w z y r) v
-  none-to-next {k} n p = record { none = λ i h d. elim (decLt i k) [ yes j ↦ p .none i j d | no j ↦ n .none i (omega arith) h (d .reaches .second) ] }
+module _ {b t : List ℕ} {l : Layout} {w : List ℕ} {z r : ℕ} where
+  pub kept-by : {c : ℕ} {i j : List ℕ} → Serves b l w z r c → Joined (belowSquare l) t c i j → KeptBy b t l w z r c i j
+  kept-by s g = record { stays = g .stays; has = λ y h n m. g .has y h m; only = λ y h m. elim (g .only y h m) [ inl e ↦ inl e | inr e ↦ inr (s, e) ] }
 
-  pub no-partner-found : {k : ℕ} → Rowed (l .names) b → l .names < k → EachBelow (NoneWith (l .names) b (Partner b l w z y r)) k → SomeBelow (Partner b l w z y r) (l .names) → ⊥
-  no-partner-found rows h p s =
-      let q = s .holds in
-      p .at (fillerAt b (s .it)) (omega (arith, rows .filler (s .it) (s .below) (q .is-restriction))) .none (s .it) (s .below) (record { is-restriction = q .is-restriction; filler = refl }) q
+  pub kept-not : {c : ℕ} {i : List ℕ} → (Serves b l w z r c → ⊥) → KeptBy b t l w z r c i i
+  kept-not f = record { stays = λ y h. h; has = λ y h s m. absurd (f s); only = λ y h m. inl m }
 
-module _ {g a b : List ℕ} {l : Layout} {w : List ℕ} {x y r z : ℕ} (role-is : r ≡ roleAt a x) (end-is : z ≡ fillerAt a x) where
-  pub edge-is-lost : Edge g a l x → (SomeBelow (Partner b l w z y r) (l .names) → ⊥) → EdgeLost g a b l w x y
-  edge-is-lost e p = record { edge = e; no-partner = rw (← role-is, ← end-is) p }
+  pub kept-none : {k : List ℕ} → Empty k → KeptTo b t l w z r 0 k
+  kept-none e = record { has = λ y c h k s m. absurd (omega arith); only = λ y h m. absurd (e .none y m) }
 
-  pub edge-is-kept : SomeBelow (Partner b l w z y r) (l .names) → EdgeLost g a b l w x y → ⊥
-  edge-is-kept p d = d .no-partner (rw (← role-is, ← end-is) p)
+  pub kept-more : {c : ℕ} {i j : List ℕ} → KeptBy b t l w z r c i j → KeptTo b t l w z r c i → KeptTo b t l w z r (c + 1) j
+  kept-more {c} {i} {j} g k = record { has = λ y d h l s m. by-place y d h l s m (ℕ-discrete d c); only = λ y h m. elim (g .only y h m) [ inl e ↦ wider (k .only y h e) | inr e ↦ record { it = c; below = omega arith; holds = e } ] }
+    where
+      by-place : (y d : ℕ) → y ≤ l .names → d < c + 1 → Serves b l w z r d → Marked (belowSquare l) t d y → Dec (d ≡ c) → Has j y
+      by-place y d h o s m (yes e) =
+          let p : Serves b l w z r c = rw e at s in
+          let q : Marked (belowSquare l) t c y = rw e at m in
+          g .has y h p q
+      by-place y d h o s m (no e) = g .stays y (k .has y d h (omega arith) s m)
 
+      wider : {D : ℕ → Type 0} → SomeBelow D c → SomeBelow D (c + 1)
+      wider s = record { it = s .it; below = omega (arith, s .below); holds = s .holds }
+
+  pub kept-end : {m : ℕ} {k : List ℕ} → l .names ≤ m → m ≤ l .names → KeptTo b t l w z r m k → Kept b t l w z r k
+  kept-end h o k = record { has = λ y c i j s m. k .has y c i (omega arith) s m; only = λ y i m. let s = k .only y i m in record { it = s .it; below = omega (arith, s .below); holds = s .holds } }
+
+-- edges
 pub edge-by : {g a : List ℕ} {l : Layout} {x r : ℕ} {t : Bool} → x < l .names → restricts (kindAt a x) ≡ true → r ≡ roleAt a x → t ≡ chosen l g .has-role r → Tells t (Edge g a l x)
 edge-by h k e f = record { sound = λ s. record { is-name = h; is-restriction = k; chosen-role = rw (← e) (sym f ∙ s) }; complete = λ p. f ∙ rw e (p .chosen-role) }
 
 pub end-small : {g a : List ℕ} {l : Layout} {x z : ℕ} → Rowed (l .names) a → Edge g a l x → z ≡ fillerAt a x → z ≤ l .names
 end-small {x = x} r e f = rw f (r .filler x (e .is-name) (e .is-restriction))
 
-module _ {g a b : List ℕ} {l : Layout} {w : List ℕ} {x y : ℕ} where
-  pub cell-marked : Marked (markSquare l) w x y → Pass (Step g a b l) (markSquare l) (Cell g a b l x y) w w false
-  cell-marked m = pass-none (record { marked = λ s. m })
+pub edge-end : {g a b t : List ℕ} {l : Layout} {w : List ℕ} {x : ℕ} → Setting g a b t l w → Edge g a l x → fillerAt a x ≤ l .names
+edge-end {x = x} s e = s .places .first-table .filler x (e .is-name) (e .is-restriction)
 
-  pub cell-none : (NameLost g l w x y → ⊥) → (EdgeLost g a b l w x y → ⊥) → Pass (Step g a b l) (markSquare l) (Cell g a b l x y) w w false
-  cell-none p q = pass-none (record { marked = λ s. elim s [ by-name n ↦ absurd (p n) | by-edge e ↦ absurd (q e) ] })
+pub setting-stays : {R : List ℕ → ℕ → ℕ → Type 0} {g a b t : List ℕ} {l : Layout} {w v : List ℕ} → Grows R (markSquare l) w v → Setting g a b t l w → Setting g a b t l v
+setting-stays {l = l} grows s = record {
+  places = layout.setting-stays grows (s .places);
+  few = s .few;
+  apart = s .apart;
+  room = s .room;
+  turned = record { to = λ x y h i m. s .turned .to x y h i (marked-frame (grows-frame grows) (inl (s .apart)) h i m); from = λ x y h i m. frame-marked (grows-frame grows) (inl (s .apart)) h i (s .turned .from x y h i m) };
+}
 
-  pub cell-put : {v : List ℕ} {r : Bool} → Own g a b l w x y → Put (markSquare l) x y w v r → Pass (Step g a b l) (markSquare l) (Cell g a b l x y) w v r
-  cell-put s p = pass-as (λ m. record { marked = λ s. m }) (put-pass p (by-itself s))
+-- what the line says of partners
+module _ {g a b t : List ℕ} {l : Layout} {w : List ℕ} (s : Setting g a b t l w) {z r : ℕ} {k : List ℕ} where
+  pub kept-lost : {y : ℕ} → y ≤ l .names → Kept b t l w z r k → (Has k y → ⊥) → SomeBelow (Partner b l w z y r) (l .names) → ⊥
+  kept-lost {y} h e f p = f (e .has y (p .it) h (p .below) (p .holds .serves) (s .turned .to y (p .it) h (omega (arith, p .below)) (p .holds .second)))
 
--- marks of a row above
+  pub kept-partner : {y : ℕ} → y ≤ l .names → Kept b t l w z r k → Has k y → SomeBelow (Partner b l w z y r) (l .names)
+  kept-partner {y} h e m = let p = e .only y h m in record { it = p .it; below = p .below; holds = record { serves = p .holds .0; second = s .turned .from y (p .it) h (omega (arith, p .below)) (p .holds .1) } }
+
+-- where there is no partner, marks put later give none
+no-partner-stays : {R : List ℕ → ℕ → ℕ → Type 0} {g a b t : List ℕ} {l : Layout} {w u : List ℕ} {z y r : ℕ} → Setting g a b t l w → Grows R (markSquare l) w u → y ≤ l .names → (SomeBelow (Partner b l w z y r) (l .names) → ⊥) → SomeBelow (Partner b l u z y r) (l .names) → ⊥
+no-partner-stays s grows h f p =
+    let q = p .holds in
+    f (record { it = p .it; below = p .below; holds = record { serves = record { is-restriction = q .serves .is-restriction; role = q .serves .role; free = λ m. q .serves .free (marks-stay grows m) }; second = marked-frame (grows-frame grows) (inl (s .apart)) h (omega (arith, p .below)) (q .second) } })
+
+module _ {g a b t : List ℕ} {l : Layout} {w : List ℕ} (s : Setting g a b t l w) {x : ℕ} where
+  -- marks put where the line of an edge has nothing
+  module _ {k : List ℕ} {z r : ℕ} (edge : Edge g a l x) (end-is : z ≡ fillerAt a x) (role-is : r ≡ roleAt a x) (kept : Kept b t l w z r k) where
+    lost-there : {u : List ℕ} {y : ℕ} → Grows (Missing k x) (markSquare l) w u → y ≤ l .names → (Has k y → ⊥) → EdgeLost g a b l u x y
+    lost-there {u} {y} grows h f = record { edge = edge; no-partner = rw (← end-is, ← role-is) (no-partner-stays s grows h (kept-lost s h kept f)) }
+
+    pub edges-lost : {v : List ℕ} → Grows (Missing k x) (markSquare l) w v → Grows (Step g a b l) (markSquare l) w v
+    edges-lost grows = grows-as (λ u i y h xb yb m. by-itself (by-edge (rw (m .row) (lost-there h yb (m .not-there))))) grows
+
+    pub by-edge-pass : {v : List ℕ} {f : Bool} → Pass (Missing k x) (markSquare l) (Full (markSquare l) k x) w v f → Pass (Step g a b l) (markSquare l) (ByEdge g a b l x) w v f
+    by-edge-pass {v} p = pass-with done (pass-by (λ u i y h xb yb m. by-itself (by-edge (rw (m .row) (lost-there h yb (m .not-there))))) p)
+      where
+        done : v ≡ w → Full (markSquare l) k x v → ByEdge g a b l x v
+        done e full = record { marked = λ y h o. full .marked y h (λ m. o .no-partner (rw (← role-is, ← end-is, e) (kept-partner s h kept m))) }
+
+  -- marks put where what lies below a name has nothing
+  module _ {k i : List ℕ} (is-name : x < l .names) (chosen-name : chosen l g .has-name x ≡ true) (empty : Empty i) (joined : Joined (belowSquare l) t x i k) where
+    name-lost : {R : List ℕ → ℕ → ℕ → Type 0} {u : List ℕ} {y : ℕ} → Grows R (markSquare l) w u → y ≤ l .names → (Has k y → ⊥) → NameLost g l u x y
+    name-lost {y = y} grows h f = record { is-name = is-name; chosen-name = chosen-name; not-second = λ m. f (joined .has y h (s .turned .to y x h (omega arith) (marked-frame (grows-frame grows) (inl (s .apart)) h (omega arith) m))) }
+
+    pub names-lost : {v : List ℕ} → Grows (Missing k x) (markSquare l) w v → Grows (Step g a b l) (markSquare l) w v
+    names-lost grows = grows-as (λ u j y h xb yb m. by-itself (by-name (rw (m .row) (name-lost h yb (m .not-there))))) grows
+
+    pub by-name-pass : {v : List ℕ} {f : Bool} → Pass (Missing k x) (markSquare l) (Full (markSquare l) k x) w v f → Pass (Step g a b l) (markSquare l) (ByName g l x) w v f
+    by-name-pass {v} p = pass-with done (pass-by (λ u j y h xb yb m. by-itself (by-name (rw (m .row) (name-lost h yb (m .not-there))))) p)
+      where
+        below-it : (y : ℕ) → y ≤ l .names → Has k y → Marked (secondSquare l) w y x
+        below-it y h m = elim (joined .only y h m) [ inl e ↦ absurd (empty .none y e) | inr e ↦ s .turned .from y x h (omega arith) e ]
+
+        done : v ≡ w → Full (markSquare l) k x v → ByName g l x v
+        done e full = record { marked = λ y h o. full .marked y h (λ m. o .not-second (rw e (below-it y h m))) }
+
+pub edge-put : {g a b : List ℕ} {l : Layout} {w v : List ℕ} {x y : ℕ} {r : Bool} → EdgeLost g a b l w x y → Put (markSquare l) x y w v r → Grows (Step g a b l) (markSquare l) w v
+edge-put e p = put-grows p (by-itself (by-edge e))
+
+-- the search for a partner: from a number on no name is one, up to the number k
+pub record NoneFrom (b : List ℕ) (l : Layout) (w : List ℕ) (z y r from k : ℕ) : Type 0 where
+  pub none : (c : ℕ) → from ≤ c → c < k → Partner b l w z y r c → ⊥
+
+module _ {b : List ℕ} {l : Layout} {w : List ℕ} {z y r : ℕ} where
+  pub found-at : {c : ℕ} → c < l .names → Marked (secondSquare l) w y c → Serves b l w z r c → SomeBelow (Partner b l w z y r) (l .names)
+  found-at {c} h m p = record { it = c; below = h; holds = record { serves = p; second = m } }
+
+  pub none-start : {from k : ℕ} → NextMarked (secondSquare l) w y from k → NoneFrom b l w z y r from k
+  none-start n = record { none = λ c h i p. n .none c h i (p .second) }
+
+  pub none-more : {from c k : ℕ} → (Serves b l w z r c → ⊥) → NextMarked (secondSquare l) w y (c + 1) k → NoneFrom b l w z y r from c → NoneFrom b l w z y r from k
+  none-more {from} {c} {k} f n o = record { none = λ d h i p. by-place d h i p (decLt d c) (ℕ-discrete d c) }
+    where
+      by-place : (d : ℕ) → from ≤ d → d < k → Partner b l w z y r d → Dec (d < c) → Dec (d ≡ c) → ⊥
+      by-place d h i p (yes j) e = o .none d h j p
+      by-place d h i p (no j) (yes e) = let q : Serves b l w z r c = rw e at (p .serves) in f q
+      by-place d h i p (no j) (no e) = n .none d (omega arith) i (p .second)
+
+  pub none-all : {from k : ℕ} → from ≡ 0 → l .names ≤ k → NoneFrom b l w z y r from k → SomeBelow (Partner b l w z y r) (l .names) → ⊥
+  none-all e h o s = o .none (s .it) (omega arith) (omega (arith, s .below)) (s .holds)
+
+-- marks of rows above
 module _ {l : Layout} {w v : List ℕ} {x c : ℕ} where
-  pub row-from-above : x ≤ l .names → c ≤ l .names → Marked (firstSquare l) w x c → Grows (FromRow (markSquare l) c x) (markSquare l) w v → Grows (FromAbove l) (markSquare l) w v
-  row-from-above x-in c-in m grows = grows-as (λ u z y h i j f. record { it = c; inside = c-in; first = λ apart. rw (f .row) (frame-marked (grows-frame h) apart x-in c-in m); lost = f .marked }) grows
-
-  pub row-taken : {r : Bool} → x ≤ l .names → c ≤ l .names → Marked (firstSquare l) w x c → Pass (FromRow (markSquare l) c x) (markSquare l) (Within (markSquare l) c x) w v r → Pass (FromAbove l) (markSquare l) (Taken l x c) w v r
-  row-taken x-in c-in m p = record { grows = row-from-above x-in c-in m (p .grows); fewer = p .fewer; same = p .same; done = λ e. record { within = λ k. p .done e } }
+  pub row-from-above : c ≤ l .names → Marked (firstSquare l) w x c → Grows (FromRow (markSquare l) c x) (markSquare l) w v → Grows (FromAbove l) (markSquare l) w v
+  row-from-above c-in m grows = grows-as (λ u z y h i j f. record { it = c; inside = c-in; first = λ apart. rw (f .row) (stays-anywhere h m); lost = f .marked }) grows
 
 module _ {g a b : List ℕ} {l : Layout} {w v : List ℕ} where
   pub above-grows : Grows (FromAbove l) (markSquare l) w v → Grows (Step g a b l) (markSquare l) w v
   above-grows grows = grows-as (λ u x y h i j f. by-above f) grows
 
-  pub above-pass : {D : List ℕ → Type 0} {r : Bool} → Pass (FromAbove l) (markSquare l) D w v r → Pass (Step g a b l) (markSquare l) D w v r
-  above-pass p = record { grows = above-grows (p .grows); fewer = p .fewer; same = p .same; done = p .done }
+  pub taking-grows : Grows (Taking (firstSquare l) (markSquare l)) (markSquare l) w v → Grows (Step g a b l) (markSquare l) w v
+  taking-grows grows = grows-as (λ u x y h i j f. by-above (record { it = f .it; inside = f .inside; first = λ apart. f .above; lost = f .marked })) grows
 
--- ⊤ has no axiom
-pub top-row : {g a b : List ℕ} {l : Layout} {w v : List ℕ} {x : ℕ} {r : Bool} → l .names ≤ x → Pass (FromAbove l) (markSquare l) (Below (Taken l x) (suc (l .names))) w v r → Pass (Step g a b l) (markSquare l) (Row g a b l x) w v r
-top-row h p = pass-as (λ d. record { cells = record { at = λ y k. record { marked = λ o. elim o [ by-name e ↦ absurd (omega (arith, e .is-name)) | by-edge e ↦ absurd (omega (arith, e .edge .is-name)) ] } }; above = d }) (above-pass p)
+  pub taking-pass : {D : List ℕ → Type 0} {r : Bool} → Pass (Taking (firstSquare l) (markSquare l)) (markSquare l) D w v r → Pass (Step g a b l) (markSquare l) D w v r
+  taking-pass p = pass-by (λ u x y h i j f. by-above (record { it = f .it; inside = f .inside; first = λ apart. f .above; lost = f .marked })) p
 
-pub setting-stays : {g a b f : List ℕ} {l : Layout} {w v : List ℕ} → Grows (Step g a b l) (markSquare l) w v → Setting g a b f l w → Setting g a b f l v
-setting-stays grows s = record { places = layout.setting-stays grows (s .places); indexed = s .indexed }
+-- rows with nothing left to mark; ⊤ has no axiom
+pub quiet-rows : {g a b : List ℕ} {l : Layout} {w : List ℕ} → Below (Looked g a b l) (l .names) w → Below (Takes (firstSquare l) (markSquare l)) (suc (l .names)) w → Below (Row g a b l) (suc (l .names)) w
+quiet-rows {g} {a} {b} {l} {w} looked takes = record {
+  at = λ x h. record {
+    cells = record { at = λ y i. record { marked = cell x y (omega arith) } };
+    above = record { at = λ c i. record { within = λ m. takes .at x h .each c (omega arith) m } };
+  };
+}
+  where
+    cell : (x y : ℕ) → y ≤ l .names → Own g a b l w x y → Marked (markSquare l) w x y
+    cell x y h (by-name e) = looked .at x (e .is-name) .name .marked y h e
+    cell x y h (by-edge e) = looked .at x (e .edge .is-name) .edge .marked y h e
 
-pub linked-stays : {g a b e f : List ℕ} {l : Layout} {w v : List ℕ} → Grows (Step g a b l) (markSquare l) w v → Linked g a b e f l w → Linked g a b e f l v
-linked-stays grows s = record { setting = setting-stays grows (s .setting); first-indexed = s .first-indexed }
+-- names and edges that lose nothing
+pub by-name-none : {g : List ℕ} {l : Layout} {x : ℕ} {w : List ℕ} → chosen l g .has-name x ≡ false → ByName g l x w
+by-name-none e = record { marked = λ y h o. absurd (false≢true (sym e ∙ o .chosen-name)) }
 
--- marks of names, and of what lies below a marked pair
-pub names-grow : {g a b : List ℕ} {l : Layout} {w v : List ℕ} → Grows (NameLost g l) (markSquare l) w v → Grows (Step g a b l) (markSquare l) w v
-names-grow grows = grows-as (λ u x y h i j p. by-itself (by-name p)) grows
+pub by-edge-none : {g a b : List ℕ} {l : Layout} {x : ℕ} {w : List ℕ} → (Edge g a l x → ⊥) → ByEdge g a b l x w
+by-edge-none f = record { marked = λ y h o. absurd (f (o .edge)) }
 
-pub below-put : {l : Layout} {w v : List ℕ} {x c y : ℕ} {r : Bool} → c ≤ l .names → Marked (firstSquare l) w x c → Marked (markSquare l) w c y → Put (markSquare l) x y w v r → Grows (FromAbove l) (markSquare l) w v
-below-put {c = c} c-in m k p = put-grows p (record { it = c; inside = c-in; first = λ apart. m; lost = k })
+-- a memory of zeros, for a square
+zero-bytes : (k i : ℕ) → getD (replicate {A = ℕ} k 0) i 0 ≡ 0
+zero-bytes zero i = refl
+zero-bytes (suc k) zero = refl
+zero-bytes (suc k) (suc i) = zero-bytes k i
 
-pub edge-put : {g a b : List ℕ} {l : Layout} {w v : List ℕ} {x y : ℕ} {r : Bool} → EdgeLost g a b l w x y → Put (markSquare l) x y w v r → Grows (Step g a b l) (markSquare l) w v
-edge-put e p = put-grows p (by-itself (by-edge e))
+pub zeros-room : {n : ℕ} → n ≤ 127 → Room (record { base = 0; names = n }) (replicate 2048 0)
+unfolding span width
+zeros-room {n} h = record { small = record { few = omega arith; near = omega arith }; fits = omega (arith, length-replicate {A = ℕ} 2048 0, mul-le-mul {n₁ = suc n} {m₁ = n / 8 + 1} {n₂ = 128} {m₂ = 16} (omega arith) (omega arith)) }
 
--- pairs that need no look: those that are marked, and the nodes that are not above
-pub marked-cells : {g a b : List ℕ} {l : Layout} {w : List ℕ} {x k r : ℕ} → NextUnmarked (markSquare l) w x k r → (i : ℕ) → k ≤ i → i < r → Cell g a b l x i w
-marked-cells n i h j = record { marked = λ s. n .all i h j }
-
-pub not-above-taken : {l : Layout} {w : List ℕ} {x k r : ℕ} → NextMarked (firstSquare l) w x k r → (i : ℕ) → k ≤ i → i < r → Taken l x i w
-not-above-taken n i h j = record { within = λ m. absurd (n .none i h j m) }
+pub zeros-unmarked : {q : Square} (k : ℕ) → Unmarked q (replicate k 0)
+zeros-unmarked {q} k = record { none = λ x y h l m. zero-unmarked (zero-bytes k (place q x y)) m }

@@ -1,13 +1,16 @@
 -- The rules of forward marks, over the tables a and b of the two releases, the signature bytes g and the squares of l in the memory
--- w. Rows and columns are nodes: the names below n, then ⊤.
+-- w. Rows and columns are nodes: the names below n, then ⊤. The memory t has the second release's inclusions turned: row c has
+-- what lies below c.
 --   NameLost g l w x y         x is a signature name, and not above y by the second release
---   Reaches b l w y r c        by the second release y lies below c, whose restriction has the role r
---   Partner b l w z y r c      so c gives y an edge by r, and its filler is not marked in row z
+--   Serves b l w z r c         the restriction of c has the role r, and its filler is not marked in row z
+--   Partner b l w z y r c      so it is, and y lies below c by the second release: c gives y an edge
 --   Edge g a l x               the axiom of x gives an edge by the first release, with a signature role
 --   EdgeLost g a b l w x y     the edge of x has no partner
 --   Own g a b l w x y          x, y is lost by what x itself is: by its name, or by its edge
 --   FromAbove l w x y          x, y is lost since c, y is marked, and x lies below c by the first release
 --   Step g a b l w x y         a rule allows the mark x, y: one of these two
+--   KeptBy b t l w z r c i j   the line j is i, with what lies below c if c serves;  Kept b t l w z r k: k is what lies below one that serves
+--   ByName g l x w             nothing is left to mark by the name x;  ByEdge g a b l x w: by its edge;  Looked g a b l x w: by both
 --   Cell g a b l x y w         nothing is left to mark there by x itself
 --   Taken l x c w              if x lies below c by the first release, row x has the marks of row c
 --   Row g a b l x w            nothing is left to mark in row x
@@ -15,40 +18,49 @@
 use mathlib.Core.Path.{_≡_}
 use mathlib.Core.Bool.{true}
 use mathlib.Core.List.{List}
-use Prim.Native.Nat.{ℕ, suc, _≤_, _<_}
+use mathlib.Core.Logic.{_⊎_}
+use Prim.Native.Nat.{ℕ, suc, _+_, _≤_, _<_}
 use Rattle.release.specs.Files.{restricts}
 use Rattle.release.specs.Tables.{kindAt, roleAt, fillerAt}
-use Rattle.marks.specs.Squares.{Marked, Apart, Within}
+use Rattle.marks.specs.declared.Square.{Square}
+use Rattle.marks.specs.Squares.{span, Room, Marked, Apart, Within}
 use Rattle.marks.specs.Passes.{Below}
+use Rattle.marks.specs.Lines.{Has}
+use Rattle.marks.specs.Inclusions.{Turned}
 use Rattle.layout.specs.declared.Layout.{Layout}
 use Rattle.layout.specs.Searches.{SomeBelow}
 use Rattle.layout.specs.Layouts as layout
 use Rattle.layout.specs.Layouts.{firstSquare, secondSquare, markSquare, chosen}
-use Rattle.forward.specs.Fillers.{Indexed}
 
--- what the functions ask: all is in its place, and f holds the chains of the second release's fillers
-pub record Setting (g a b f : List ℕ) (l : Layout) (w : List ℕ) : Type 0 where
+-- the square of the turned inclusions, in a memory of its own
+abbrev pub belowSquare : Layout → Square
+belowSquare l = record { base = 0; names = l .names }
+
+-- what the functions ask: all is in its place, marks change no inclusion of the second release, and t has these turned
+pub record Setting (g a b t : List ℕ) (l : Layout) (w : List ℕ) : Type 0 where
   pub places : layout.Setting g a b l w
-  pub indexed : Indexed (l .names) b 0 f
+  pub few : l .names ≤ 127
+  pub apart : l .second + span (l .names) ≤ l .marks
+  pub room : Room (belowSquare l) t
+  pub turned : Turned (secondSquare l) w (belowSquare l) t
 
--- what dealing with new marks asks: e holds the chains of the first release's fillers, too
-pub record Linked (g a b e f : List ℕ) (l : Layout) (w : List ℕ) : Type 0 where
-  pub setting : Setting g a b f l w
-  pub first-indexed : Indexed (l .names) a 0 e
+-- of a memory with a square in which is only looked where to look
+pub record Under (l : Layout) (t : List ℕ) : Type 0 where
+  pub room : Room (belowSquare l) t
 
 pub record NameLost (g : List ℕ) (l : Layout) (w : List ℕ) (x y : ℕ) : Type 0 where
   pub is-name : x < l .names
   pub chosen-name : chosen l g .has-name x ≡ true
   pub not-second : Marked (secondSquare l) w y x → ⊥
 
-pub record Reaches (b : List ℕ) (l : Layout) (w : List ℕ) (y r c : ℕ) : Type 0 where
+pub record Serves (b : List ℕ) (l : Layout) (w : List ℕ) (z r c : ℕ) : Type 0 where
+  pub is-restriction : restricts (kindAt b c) ≡ true
   pub role : roleAt b c ≡ r
-  pub second : Marked (secondSquare l) w y c
+  pub free : Marked (markSquare l) w z (fillerAt b c) → ⊥
 
 pub record Partner (b : List ℕ) (l : Layout) (w : List ℕ) (z y r c : ℕ) : Type 0 where
-  pub is-restriction : restricts (kindAt b c) ≡ true
-  pub reaches : Reaches b l w y r c
-  pub free : Marked (markSquare l) w z (fillerAt b c) → ⊥
+  pub serves : Serves b l w z r c
+  pub second : Marked (secondSquare l) w y c
 
 pub record Edge (g a : List ℕ) (l : Layout) (x : ℕ) : Type 0 where
   pub is-name : x < l .names
@@ -73,6 +85,26 @@ pub record FromAbove (l : Layout) (w : List ℕ) (x y : ℕ) : Type 0 where
 pub data Step (g a b : List ℕ) (l : Layout) (w : List ℕ) (x y : ℕ) : Type 0 where
   by-itself : Own g a b l w x y → Step g a b l w x y
   by-above : FromAbove l w x y → Step g a b l w x y
+
+-- lines of nodes
+pub record KeptBy (b t : List ℕ) (l : Layout) (w : List ℕ) (z r c : ℕ) (i j : List ℕ) : Type 0 where
+  pub stays : (y : ℕ) → Has i y → Has j y
+  pub has : (y : ℕ) → y ≤ l .names → Serves b l w z r c → Marked (belowSquare l) t c y → Has j y
+  pub only : (y : ℕ) → y ≤ l .names → Has j y → Has i y ⊎ (Serves b l w z r c × Marked (belowSquare l) t c y)
+
+pub record Kept (b t : List ℕ) (l : Layout) (w : List ℕ) (z r : ℕ) (k : List ℕ) : Type 0 where
+  pub has : (y c : ℕ) → y ≤ l .names → c < l .names → Serves b l w z r c → Marked (belowSquare l) t c y → Has k y
+  pub only : (y : ℕ) → y ≤ l .names → Has k y → SomeBelow (λ c. Serves b l w z r c × Marked (belowSquare l) t c y) (l .names)
+
+pub record ByName (g : List ℕ) (l : Layout) (x : ℕ) (w : List ℕ) : Type 0 where
+  pub marked : (y : ℕ) → y ≤ l .names → NameLost g l w x y → Marked (markSquare l) w x y
+
+pub record ByEdge (g a b : List ℕ) (l : Layout) (x : ℕ) (w : List ℕ) : Type 0 where
+  pub marked : (y : ℕ) → y ≤ l .names → EdgeLost g a b l w x y → Marked (markSquare l) w x y
+
+pub record Looked (g a b : List ℕ) (l : Layout) (x : ℕ) (w : List ℕ) : Type 0 where
+  pub name : ByName g l x w
+  pub edge : ByEdge g a b l x w
 
 pub record Cell (g a b : List ℕ) (l : Layout) (x y : ℕ) (w : List ℕ) : Type 0 where
   pub marked : Own g a b l w x y → Marked (markSquare l) w x y

@@ -1,195 +1,287 @@
-// What a new mark gives: edges that lose their last partner by it. Where to look is read from the chains of fillers; each edge is
-// tested at its pair, so nothing is asked of what waits.
+// What new marks of a row give: in the rows below it, and in those of the edges that end there. Where to look is read from hints;
+// each edge is tested at its pair, or for all nodes at once.
 ghost use Prim.Native.Nat.{_≤_, _<_};
-ghost use Rattle.marks.specs.Squares.{Room, Marked};
 ghost use Rattle.marks.specs.Passes.{Grows};
-ghost use Rattle.layout.specs.Layouts.{Setting, firstSquare, markSquare};
-ghost use Rattle.forward.specs.Fillers.{Indexed};
-ghost use Rattle.forward.specs.Rules.{Linked, FromAbove, Step};
-use crate::fillers;
-use crate::hints;
-use crate::hints::Hints;
-use crate::partner::finds_partner;
+ghost use Rattle.marks.specs.Squares.{Room};
+ghost use Rattle.layout.specs.Layouts.{firstSquare, markSquare};
+ghost use Rattle.forward.specs.Rules.{Setting, Under, Edge, FromAbove, Step};
+use crate::kept::keep;
+use crate::partner::Partners;
+use crate::partner::has_partner;
 use crate::rules::has_edge;
+use classification::chains;
+use classification::chains::Chains;
 use layout::Layout;
 use layout::first_includes;
 use layout::is_marked;
+use layout::mark;
 use marks::Square;
-use marks::pending::Pending;
-use marks::pending::put;
+use marks::line;
+use marks::line::Line;
+use marks::rows::hand_on;
+use marks::rows::next_marked;
+use marks::rows::next_unmarked;
+use marks::rows::seems_within;
+use marks::waiting::Waiting;
+use marks::waiting::wait;
 use release::table;
 
-// Marks the pairs x, y for all x below `name` by the first release, whose pair is marked.
-fn put_below(
+// Marks the pairs of x that its edge loses, for all nodes at once. Whether there can be new ones.
+pub fn lose_row(
+    signature: &[u8],
+    first: &[u16],
+    second: &[u16],
     work: &mut [u8],
-    hints: &mut [u8; Hints::LENGTH],
-    pending: &mut [u16; Pending::LENGTH],
+    below: &[u8],
     layout: Layout,
-    name: usize,
+    x: usize,
+) -> bool
+    requires { ⌜ Setting (now signature) (now first) (now second) (now below) layout (now work) ⌝ }
+    requires { ⌜ Edge (now signature) (now first) layout x ⌝ }
+    ensures { λ _. ⌜ Grows (Step (now (signature .entry)) (now (first .entry)) (now (second .entry)) layout) (markSquare layout) (now (work .entry)) (now (work .exit)) ⌝ }
+{
+    let mut kept = [0u8; Line::LENGTH];
+    let marks = Square {
+        base: layout.marks,
+        names: layout.names,
+    };
+    let role = table::role(first, x);
+    let end = table::filler(first, x);
+    keep(second, work, below, &mut kept, layout, end, role);
+    if line::seems_full(work, marks, x, &kept) {
+        return false;
+    }
+    line::mark_missing(work, marks, x, &kept);
+    true
+}
+
+// Marks the pair x, y if the edge of x is lost there.
+fn lose(
+    signature: &[u8],
+    first: &[u16],
+    second: &[u16],
+    work: &mut [u8],
+    below: &[u8],
+    partners: &mut [u8; Partners::LENGTH],
+    waiting: &mut [u8; Waiting::LENGTH],
+    layout: Layout,
+    x: usize,
     y: usize,
 )
+    requires { ⌜ Setting (now signature) (now first) (now second) (now below) layout (now work) ⌝ }
+    requires { ⌜ Edge (now signature) (now first) layout x ⌝ }
+    requires { ⌜ y ≤ layout .names ⌝ }
+    ensures { λ _. ⌜ Grows (Step (now (signature .entry)) (now (first .entry)) (now (second .entry)) layout) (markSquare layout) (now (work .entry)) (now (work .exit)) ⌝ }
+{
+    if is_marked(work, layout, x, y) {
+        return;
+    }
+    if has_partner(first, second, work, partners, layout, x, y) {
+        return;
+    }
+    mark(work, layout, x, y);
+    wait(waiting, x);
+}
+
+// The edge of x, for each node that it is not marked with.
+fn lose_left(
+    signature: &[u8],
+    first: &[u16],
+    second: &[u16],
+    work: &mut [u8],
+    below: &[u8],
+    partners: &mut [u8; Partners::LENGTH],
+    waiting: &mut [u8; Waiting::LENGTH],
+    layout: Layout,
+    x: usize,
+)
+    requires { ⌜ Setting (now signature) (now first) (now second) (now below) layout (now work) ⌝ }
+    requires { ⌜ Edge (now signature) (now first) layout x ⌝ }
+    ensures { λ _. ⌜ Grows (Step (now (signature .entry)) (now (first .entry)) (now (second .entry)) layout) (markSquare layout) (now (work .entry)) (now (work .exit)) ⌝ }
+{
+    let marks = Square {
+        base: layout.marks,
+        names: layout.names,
+    };
+    let mut y = next_unmarked(work, marks, x, 0);
+    while y <= layout.names {
+        lose(
+            signature,
+            first,
+            second,
+            work,
+            below,
+            partners,
+            waiting,
+            layout,
+            x,
+            y,
+        );
+        y = next_unmarked(work, marks, x, y + 1);
+    }
+}
+
+// Whether x is marked with all nodes but two at most.
+fn are_few_left(work: &[u8], layout: Layout, x: usize) -> bool
+    requires { ⌜ Room (markSquare layout) (now work) ⌝ }
+    requires { ⌜ x ≤ layout .names ⌝ }
+{
+    let marks = Square {
+        base: layout.marks,
+        names: layout.names,
+    };
+    let first = next_unmarked(work, marks, x, 0);
+    if layout.names <= first {
+        return true;
+    }
+    let second = next_unmarked(work, marks, x, first + 1);
+    if layout.names <= second {
+        return true;
+    }
+    layout.names < next_unmarked(work, marks, x, second + 1)
+}
+
+// The edge of x, whose end has new marks: where few nodes are left, for each of them, else for all nodes at once.
+fn lose_edge(
+    signature: &[u8],
+    first: &[u16],
+    second: &[u16],
+    work: &mut [u8],
+    below: &[u8],
+    partners: &mut [u8; Partners::LENGTH],
+    waiting: &mut [u8; Waiting::LENGTH],
+    layout: Layout,
+    x: usize,
+)
+    requires { ⌜ Setting (now signature) (now first) (now second) (now below) layout (now work) ⌝ }
+    requires { ⌜ Edge (now signature) (now first) layout x ⌝ }
+    ensures { λ _. ⌜ Grows (Step (now (signature .entry)) (now (first .entry)) (now (second .entry)) layout) (markSquare layout) (now (work .entry)) (now (work .exit)) ⌝ }
+{
+    if are_few_left(work, layout, x) {
+        lose_left(
+            signature,
+            first,
+            second,
+            work,
+            below,
+            partners,
+            waiting,
+            layout,
+            x,
+        );
+        return;
+    }
+    if lose_row(signature, first, second, work, below, layout, x) {
+        wait(waiting, x);
+    }
+}
+
+// The edges that end at the node.
+fn lose_edges(
+    signature: &[u8],
+    first: &[u16],
+    second: &[u16],
+    work: &mut [u8],
+    below: &[u8],
+    edges: &[u16; Chains::LENGTH],
+    partners: &mut [u8; Partners::LENGTH],
+    waiting: &mut [u8; Waiting::LENGTH],
+    layout: Layout,
+    end: usize,
+)
+    requires { ⌜ Setting (now signature) (now first) (now second) (now below) layout (now work) ⌝ }
+    ensures { λ _. ⌜ Grows (Step (now (signature .entry)) (now (first .entry)) (now (second .entry)) layout) (markSquare layout) (now (work .entry)) (now (work .exit)) ⌝ }
+{
+    let mut entry = chains::entry(edges, Chains::FILLERS, end);
+    let mut left = Chains::ENTRIES;
+    while 0 < left {
+        left -= 1;
+        let x = entry;
+        if layout.names <= x {
+            return;
+        }
+        entry = chains::entry(edges, Chains::NEXT, x);
+        if has_edge(signature, first, layout, x) {
+            lose_edge(
+                signature,
+                first,
+                second,
+                work,
+                below,
+                partners,
+                waiting,
+                layout,
+                x,
+            );
+        }
+    }
+}
+
+// Hands the marks of row x on to each row below it.
+fn hand_down(
+    work: &mut [u8],
+    under: &[u8],
+    waiting: &mut [u8; Waiting::LENGTH],
+    layout: Layout,
+    x: usize,
+)
     requires { ⌜ Room (firstSquare layout) (now work) × Room (markSquare layout) (now work) ⌝ }
-    requires { ⌜ (name ≤ layout .names) × (y ≤ layout .names) ⌝ }
-    requires { ⌜ Marked (markSquare layout) (now work) name y ⌝ }
+    requires { ⌜ Under layout (now under) ⌝ }
+    requires { ⌜ x ≤ layout .names ⌝ }
     ensures { λ _. ⌜ Grows (FromAbove layout) (markSquare layout) (now (work .entry)) (now (work .exit)) ⌝ }
 {
     let marks = Square {
         base: layout.marks,
         names: layout.names,
     };
-    hints::list_first(hints, work, layout, name);
-    let mut i = 0;
-    while i <= layout.names {
-        let x = hints::next(hints, Hints::FIRST, name, i);
-        if layout.names < x {
-            return;
+    let square = Square {
+        base: 0,
+        names: layout.names,
+    };
+    let mut lower = next_marked(under, square, x, 0);
+    while lower <= layout.names {
+        let old = lower;
+        lower = next_marked(under, square, x, lower + 1);
+        if seems_within(work, marks, x, old) {
+            continue;
         }
-        i = x + 1;
-        if first_includes(work, layout, x, name) {
-            put(work, pending, marks, x, y);
-        }
-    }
-}
-
-// Marks the pair of x and y, and with it those of all that lies below x, if the edge of x is lost there.
-pub fn lose(
-    signature: &[u8],
-    first: &[u16],
-    second: &[u16],
-    work: &mut [u8],
-    hints: &mut [u8; Hints::LENGTH],
-    pending: &mut [u16; Pending::LENGTH],
-    layout: Layout,
-    x: usize,
-    y: usize,
-)
-    requires { ⌜ Setting (now signature) (now first) (now second) layout (now work) ⌝ }
-    requires { ⌜ (x < layout .names) × (y ≤ layout .names) ⌝ }
-    ensures { λ _. ⌜ Grows (Step (now (signature .entry)) (now (first .entry)) (now (second .entry)) layout) (markSquare layout) (now (work .entry)) (now (work .exit)) ⌝ }
-{
-    if is_marked(work, layout, x, y) {
-        return;
-    }
-    if has_edge(signature, first, layout, x) {
-        let role = table::role(first, x);
-        let end = table::filler(first, x);
-        if finds_partner(second, work, hints, layout, end, y, role) {
-            return;
-        }
-        put(
-            work,
-            pending,
-            Square {
-                base: layout.marks,
-                names: layout.names,
-            },
-            x,
-            y,
-        );
-        put_below(work, hints, pending, layout, x, y);
-    }
-}
-
-// The edge of x, for all y below `partner` by the second release, which is no partner of it any more.
-fn lose_below(
-    signature: &[u8],
-    first: &[u16],
-    second: &[u16],
-    work: &mut [u8],
-    hints: &mut [u8; Hints::LENGTH],
-    pending: &mut [u16; Pending::LENGTH],
-    layout: Layout,
-    x: usize,
-    partner: usize,
-)
-    requires { ⌜ Setting (now signature) (now first) (now second) layout (now work) ⌝ }
-    requires { ⌜ (x < layout .names) × (partner < layout .names) ⌝ }
-    ensures { λ _. ⌜ Grows (Step (now (signature .entry)) (now (first .entry)) (now (second .entry)) layout) (markSquare layout) (now (work .entry)) (now (work .exit)) ⌝ }
-{
-    hints::list_second(hints, work, layout, partner);
-    let mut i = 0;
-    while i <= layout.names {
-        let y = hints::next(hints, Hints::SECOND, partner, i);
-        if layout.names < y {
-            return;
-        }
-        i = y + 1;
-        lose(signature, first, second, work, hints, pending, layout, x, y);
-    }
-}
-
-// The edge of x, for all that had a partner with the filler `end`.
-fn lose_partners(
-    signature: &[u8],
-    first: &[u16],
-    second: &[u16],
-    fillers: &[u16],
-    work: &mut [u8],
-    hints: &mut [u8; Hints::LENGTH],
-    pending: &mut [u16; Pending::LENGTH],
-    layout: Layout,
-    x: usize,
-    end: usize,
-)
-    requires { ⌜ Setting (now signature) (now first) (now second) layout (now work) ⌝ }
-    requires { ⌜ Indexed (layout .names) (now second) 0 (now fillers) ⌝ }
-    requires { ⌜ (x < layout .names) × (end ≤ layout .names) ⌝ }
-    ensures { λ _. ⌜ Grows (Step (now (signature .entry)) (now (first .entry)) (now (second .entry)) layout) (markSquare layout) (now (work .entry)) (now (work .exit)) ⌝ }
-{
-    let role = table::role(first, x);
-    let mut next = fillers::first(fillers, end);
-    while next < layout.names {
-        let partner = next;
-        next = fillers::next(fillers, layout.names, partner);
-        if role == table::role(second, partner) {
-            lose_below(
-                signature,
-                first,
-                second,
-                work,
-                hints,
-                pending,
-                layout,
-                x,
-                partner,
-            );
+        if first_includes(work, layout, old, x) {
+            hand_on(work, marks, x, old);
+            wait(waiting, old);
         }
     }
 }
 
-// All that the mark x, y gives.
+// All that the new marks of row x give.
 pub fn deal(
     signature: &[u8],
     first: &[u16],
     second: &[u16],
-    edges: &[u16],
-    fillers: &[u16],
     work: &mut [u8],
-    hints: &mut [u8; Hints::LENGTH],
-    pending: &mut [u16; Pending::LENGTH],
+    under: &[u8],
+    below: &[u8],
+    edges: &[u16; Chains::LENGTH],
+    partners: &mut [u8; Partners::LENGTH],
+    waiting: &mut [u8; Waiting::LENGTH],
     layout: Layout,
     x: usize,
-    y: usize,
 )
-    requires { ⌜ Linked (now signature) (now first) (now second) (now edges) (now fillers) layout (now work) ⌝ }
-    requires { ⌜ (x ≤ layout .names) × (y ≤ layout .names) ⌝ }
+    requires { ⌜ Setting (now signature) (now first) (now second) (now below) layout (now work) ⌝ }
+    requires { ⌜ Under layout (now under) ⌝ }
+    requires { ⌜ x ≤ layout .names ⌝ }
     ensures { λ _. ⌜ Grows (Step (now (signature .entry)) (now (first .entry)) (now (second .entry)) layout) (markSquare layout) (now (work .entry)) (now (work .exit)) ⌝ }
 {
-    let mut next = fillers::first(edges, x);
-    while next < layout.names {
-        let edge = next;
-        next = fillers::next(edges, layout.names, edge);
-        lose_partners(
-            signature,
-            first,
-            second,
-            fillers,
-            work,
-            hints,
-            pending,
-            layout,
-            edge,
-            y,
-        );
-    }
+    hand_down(work, under, waiting, layout, x);
+    lose_edges(
+        signature,
+        first,
+        second,
+        work,
+        below,
+        edges,
+        partners,
+        waiting,
+        layout,
+        x,
+    );
 }

@@ -1,24 +1,25 @@
 // Forward marks: the pairs x, y such that some signature concept lies above x by the first release and not above y by the second.
-ghost use Prim.Native.Nat.{_≤_};
+ghost use Prim.Native.Nat.{_+_, _≤_};
 ghost use Rattle.release.specs.Files.{mostNames};
+ghost use Rattle.marks.specs.Squares.{span};
 ghost use Rattle.layout.specs.Layouts.{Setting};
 ghost use Rattle.forward.specs.Forward.{ForwardFrom};
-use crate::fillers::Chains;
-use crate::hints::Hints;
 use layout::Layout;
-use marks::pending::Pending;
+use marks::Square;
+use marks::order::Order;
+use marks::turned::Turning;
+use marks::turned::turn;
+use marks::waiting::Waiting;
 
-mod beginnings;
 mod consequences;
-mod fillers;
-mod hints;
+mod kept;
 mod partner;
 mod propagation;
 mod rules;
 mod sweep;
 
-// Marks those pairs, given the tables of the two releases and the squares of their inclusions. The edges of both releases are put
-// into chains by their ends; the rest of the locals are hints and marks that wait.
+// Marks those pairs, given the tables of the two releases and the squares of their inclusions. `below` has the inclusions of the
+// second release with rows and columns exchanged; the other locals are hints.
 pub fn mark_lost_above(
     signature: &[u8],
     first: &[u16],
@@ -28,34 +29,43 @@ pub fn mark_lost_above(
 )
     requires { ⌜ Setting (now signature) (now first) (now second) layout (now work) ⌝ }
     requires { ⌜ layout .names ≤ mostNames ⌝ }
+    requires { ⌜ layout .second + span (layout .names) ≤ layout .marks ⌝ }
     ensures { λ _. ⌜ ForwardFrom (now (signature .entry)) (now (first .entry)) (now (second .entry)) layout (now (work .entry)) (now (work .exit)) ⌝ }
 {
-    let mut edges = [Chains::NONE; Chains::LENGTH];
-    let mut chains = [Chains::NONE; Chains::LENGTH];
-    let mut hints = [0u8; Hints::LENGTH];
-    let mut pending = [0u16; Pending::LENGTH];
-    fillers::index(first, &mut edges, layout.names);
-    fillers::index(second, &mut chains, layout.names);
-    propagation::propagate(
+    let mut below = [0u8; Turning::LENGTH];
+    let mut order = [Order::NONE; Order::NODES];
+    let mut waiting = [0u8; Waiting::LENGTH];
+    turn(
+        work,
+        Square {
+            base: layout.second,
+            names: layout.names,
+        },
+        &mut below,
+        Square {
+            base: 0,
+            names: layout.names,
+        },
+    );
+    propagation::sort(first, work, layout, &mut order);
+    propagation::begin(
         signature,
         first,
         second,
-        &edges,
-        &chains,
         work,
-        &mut hints,
-        &mut pending,
+        &below,
+        &mut waiting,
+        &order,
         layout,
     );
     sweep::close(
         signature,
         first,
         second,
-        &edges,
-        &chains,
         work,
-        &mut hints,
-        &mut pending,
+        &below,
+        &mut waiting,
+        &order,
         layout,
     );
 }

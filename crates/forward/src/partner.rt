@@ -1,175 +1,111 @@
-// The search for a partner of an edge.
+// The search for a partner of an edge, for one node.
 ghost use mathlib.Core.Path.{_≡_};
-ghost use mathlib.Core.Bool.{true};
 ghost use Prim.Native.Nat.{_≤_, _<_};
 ghost use Rattle.el.proofs.Tests.{Tells};
+ghost use Rattle.release.specs.Tables.{roleAt, fillerAt};
 ghost use Rattle.marks.specs.Squares.{Room};
 ghost use Rattle.layout.specs.Searches.{SomeBelow};
 ghost use Rattle.layout.specs.Layouts.{Rowed, secondSquare, markSquare};
-ghost use Rattle.forward.specs.Fillers.{Indexed};
-ghost use Rattle.forward.specs.Rules.{Reaches, Partner};
-use crate::fillers;
-use crate::hints;
-use crate::hints::Hints;
+ghost use Rattle.forward.specs.Rules.{Partner};
+use crate::kept::serves;
 use layout::Layout;
-use layout::is_marked;
-use layout::second_includes;
 use marks::Square;
 use marks::rows::next_marked;
 use release::table;
 
-// Whether the second release has y below the name, whose restriction has the role.
-fn reaches(table: &[u16], work: &[u8], layout: Layout, y: usize, role: usize, name: usize) -> bool
-    requires { ⌜ Rowed (layout .names) (now table) ⌝ }
-    requires { ⌜ Room (secondSquare layout) (now work) ⌝ }
-    requires { ⌜ (y ≤ layout .names) × (name < layout .names) ⌝ }
-    ensures { λ r. ⌜ Tells r (Reaches (now (table .entry)) layout (now (work .entry)) y role name) ⌝ }
-{
-    let own = table::role(table, name);
-    if own != role {
-        return false;
-    }
-    second_includes(work, layout, y, name)
+// The partner found last, a byte for each pair. Those before it are none any more, since a node that is marked stays so: as it is
+// only a hint, the search begins with it, and then looks at all.
+pub struct Partners {}
+
+impl Partners {
+    pub const NODES: usize = 128;
+
+    pub const LENGTH: usize = 16384;
 }
 
-// Whether y has an edge with the role by the second release, to a node that `end` is not marked with. Candidates are the nodes
-// that are not marked, and for each the names that have it as filler. The first one found ends both loops, and is noted.
-fn has_partner(
-    table: &[u16],
-    fillers: &[u16],
-    work: &[u8],
-    hints: &mut [u8; Hints::LENGTH],
-    layout: Layout,
-    end: usize,
-    y: usize,
-    role: usize,
-) -> bool
-    requires { ⌜ Rowed (layout .names) (now table) ⌝ }
-    requires { ⌜ Indexed (layout .names) (now table) 0 (now fillers) ⌝ }
-    requires { ⌜ Room (secondSquare layout) (now work) × Room (markSquare layout) (now work) ⌝ }
-    requires { ⌜ (end ≤ layout .names) × (y ≤ layout .names) ⌝ }
-    ensures { λ r. ⌜ Tells r (SomeBelow (Partner (now (table .entry)) layout (now (work .entry)) end y role) (layout .names)) ⌝ }
+fn wide(x: u8) -> usize
+    ensures { λ r. ⌜ r ≡ x ⌝ }
 {
-    let mut found = false;
-    let mut next = 0;
-    'search: while next <= layout.names {
-        let node = next;
-        next += 1;
-        if is_marked(work, layout, end, node) {
-            continue;
+    x as usize
+}
+
+fn narrow(x: usize) -> u8
+    requires { ⌜ x ≤ 255 ⌝ }
+    ensures { λ r. ⌜ r ≡ x ⌝ }
+{
+    x as u8
+}
+
+// The partner noted last, or a number out of range.
+fn noted(partners: &[u8; Partners::LENGTH], x: usize, y: usize) -> usize {
+    if x < Partners::NODES {
+        if y < Partners::NODES {
+            return wide(partners[x * Partners::NODES + y]);
         }
-        let mut name = fillers::first(fillers, node);
-        while name < layout.names {
-            if reaches(table, work, layout, y, role, name) {
-                hints::note(hints, end, y, role, name);
-                found = true;
-                break 'search;
+    }
+    Partners::NODES
+}
+
+// Notes a partner. Out of range nothing happens.
+fn note(partners: &mut [u8; Partners::LENGTH], x: usize, y: usize, name: usize) {
+    if x < Partners::NODES {
+        if y < Partners::NODES {
+            if name < Partners::NODES {
+                partners[x * Partners::NODES + y] = narrow(name);
             }
-            name = fillers::next(fillers, layout.names, name);
         }
     }
-    found
 }
 
-// Whether the name gives such an edge.
-fn is_partner(
-    table: &[u16],
-    work: &[u8],
-    layout: Layout,
-    end: usize,
-    y: usize,
-    role: usize,
-    name: usize,
-) -> bool
-    requires { ⌜ Rowed (layout .names) (now table) ⌝ }
-    requires { ⌜ Room (secondSquare layout) (now work) × Room (markSquare layout) (now work) ⌝ }
-    requires { ⌜ (end ≤ layout .names) × (y ≤ layout .names) × (name < layout .names) ⌝ }
-    ensures { λ r. ⌜ Tells r (Partner (now (table .entry)) layout (now (work .entry)) end y role name) ⌝ }
+// Where the search begins.
+fn begin(partners: &[u8; Partners::LENGTH], names: usize, x: usize, y: usize) -> usize
+    ensures { λ r. ⌜ r ≤ names ⌝ }
 {
-    if table::is_restriction(table, name) {
-        let filler = table::filler(table, name);
-        if is_marked(work, layout, end, filler) {
-            return false;
-        }
-        return reaches(table, work, layout, y, role, name);
+    let name = noted(partners, x, y);
+    if name <= names {
+        return name;
     }
-    false
+    0
 }
 
-// Whether the one noted last is still a partner. Where it says no, there can be another one.
-fn last_is_partner(
-    table: &[u16],
+// Whether y has an edge by the second release that is a partner of the edge of x. The names above y are looked through twice, first
+// from the one noted last on; the first one found ends both loops, and is noted.
+pub fn has_partner(
+    first: &[u16],
+    second: &[u16],
     work: &[u8],
-    hints: &[u8; Hints::LENGTH],
+    partners: &mut [u8; Partners::LENGTH],
     layout: Layout,
-    end: usize,
+    x: usize,
     y: usize,
-    role: usize,
 ) -> bool
-    requires { ⌜ Rowed (layout .names) (now table) ⌝ }
+    requires { ⌜ Rowed (layout .names) (now first) × Rowed (layout .names) (now second) ⌝ }
     requires { ⌜ Room (secondSquare layout) (now work) × Room (markSquare layout) (now work) ⌝ }
-    requires { ⌜ (end ≤ layout .names) × (y ≤ layout .names) ⌝ }
-    ensures { λ r. ⌜ (r ≡ true → SomeBelow (Partner (now (table .entry)) layout (now (work .entry)) end y role) (layout .names)) ⌝ }
+    requires { ⌜ (x < layout .names) × (y ≤ layout .names) ⌝ }
+    requires { ⌜ fillerAt (now first) x ≤ layout .names ⌝ }
+    ensures { λ r. ⌜ Tells r (SomeBelow (Partner (now (second .entry)) layout (now (work .entry)) (fillerAt (now (first .entry)) x) y (roleAt (now (first .entry)) x)) (layout .names)) ⌝ }
 {
-    let last = hints::noted(hints, end, y, role);
-    if layout.names <= last {
-        return false;
-    }
-    is_partner(table, work, layout, end, y, role, last)
-}
-
-// Whether y has such an edge. The one noted last is tried first: as a rule it still is one.
-pub fn keeps_partner(
-    table: &[u16],
-    fillers: &[u16],
-    work: &[u8],
-    hints: &mut [u8; Hints::LENGTH],
-    layout: Layout,
-    end: usize,
-    y: usize,
-    role: usize,
-) -> bool
-    requires { ⌜ Rowed (layout .names) (now table) ⌝ }
-    requires { ⌜ Indexed (layout .names) (now table) 0 (now fillers) ⌝ }
-    requires { ⌜ Room (secondSquare layout) (now work) × Room (markSquare layout) (now work) ⌝ }
-    requires { ⌜ (end ≤ layout .names) × (y ≤ layout .names) ⌝ }
-    ensures { λ r. ⌜ Tells r (SomeBelow (Partner (now (table .entry)) layout (now (work .entry)) end y role) (layout .names)) ⌝ }
-{
-    if last_is_partner(table, work, hints, layout, end, y, role) {
-        return true;
-    }
-    has_partner(table, fillers, work, hints, layout, end, y, role)
-}
-
-// The same by the names above y, which are few as a rule: quicker than by the nodes where there is no partner.
-pub fn finds_partner(
-    table: &[u16],
-    work: &[u8],
-    hints: &mut [u8; Hints::LENGTH],
-    layout: Layout,
-    end: usize,
-    y: usize,
-    role: usize,
-) -> bool
-    requires { ⌜ Rowed (layout .names) (now table) ⌝ }
-    requires { ⌜ Room (secondSquare layout) (now work) × Room (markSquare layout) (now work) ⌝ }
-    requires { ⌜ (end ≤ layout .names) × (y ≤ layout .names) ⌝ }
-    ensures { λ r. ⌜ Tells r (SomeBelow (Partner (now (table .entry)) layout (now (work .entry)) end y role) (layout .names)) ⌝ }
-{
-    if last_is_partner(table, work, hints, layout, end, y, role) {
-        return true;
-    }
+    let role = table::role(first, x);
+    let end = table::filler(first, x);
     let above = Square {
         base: layout.second,
         names: layout.names,
     };
-    let mut name = next_marked(work, above, y, 0);
-    while name < layout.names {
-        if is_partner(table, work, layout, end, y, role, name) {
-            hints::note(hints, end, y, role, name);
-            return true;
+    let mut found = false;
+    let mut from = begin(partners, layout.names, x, y);
+    let mut turn: usize = 0;
+    'search: while turn < 2 {
+        let mut name = next_marked(work, above, y, from);
+        while name < layout.names {
+            if serves(second, work, layout, end, role, name) {
+                note(partners, x, y, name);
+                found = true;
+                break 'search;
+            }
+            name = next_marked(work, above, y, name + 1);
         }
-        name = next_marked(work, above, y, name + 1);
+        from = 0;
+        turn += 1;
     }
-    false
+    found
 }

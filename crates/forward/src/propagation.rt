@@ -1,162 +1,383 @@
-// New marks, each dealt with once. That this misses nothing is not proved and need not be: the passes after it (sweep) find what
-// it missed. They find nothing, as a rule.
-ghost use Prim.Native.Nat.{_<_};
+// New marks, each row dealt with when it has some. That this misses nothing is not proved and need not be: the passes after it (sweep)
+// find what it missed. They find nothing, as a rule.
+ghost use Prim.Native.Nat.{_*_, _+_, _≤_, _<_};
+ghost use lib.ListN.{length};
+ghost use Rattle.marks.specs.Squares.{Room};
+ghost use Rattle.marks.specs.Lines.{Spans};
 ghost use Rattle.marks.specs.Passes.{Grows};
-ghost use Rattle.layout.specs.Layouts.{markSquare};
-ghost use Rattle.forward.specs.Rules.{Linked, Step};
-use crate::beginnings::hand_all_down;
-use crate::beginnings::mark_names;
+ghost use Rattle.layout.specs.Layouts.{firstSquare, markSquare};
+ghost use Rattle.forward.specs.Rules.{Setting, Under, Step};
 use crate::consequences::deal;
-use crate::consequences::lose;
-use crate::hints::Hints;
+use crate::consequences::lose_row;
+use crate::partner::Partners;
 use crate::rules::has_edge;
+use classification::chains::Chains;
+use classification::chains::list_fillers;
 use layout::Layout;
+use layout::has_name;
 use marks::Square;
-use marks::pending::Pending;
-use marks::pending::take;
-use marks::rows::next_unmarked;
+use marks::inclusions::take;
+use marks::line;
+use marks::line::Line;
+use marks::order;
+use marks::order::Order;
+use marks::turned::Turning;
+use marks::turned::turn;
+use marks::waiting;
+use marks::waiting::Waiting;
+use marks::waiting::wait;
+use release::table;
 
-// Deals with the marks that wait, until none does. Each is new once, so there are no more than cells.
-fn deal_with_all(
-    signature: &[u8],
-    first: &[u16],
-    second: &[u16],
-    edges: &[u16],
-    fillers: &[u16],
-    work: &mut [u8],
-    hints: &mut [u8; Hints::LENGTH],
-    pending: &mut [u16; Pending::LENGTH],
-    layout: Layout,
-)
-    requires { ⌜ Linked (now signature) (now first) (now second) (now edges) (now fillers) layout (now work) ⌝ }
-    ensures { λ _. ⌜ Grows (Step (now (signature .entry)) (now (first .entry)) (now (second .entry)) layout) (markSquare layout) (now (work .entry)) (now (work .exit)) ⌝ }
+// Writes an order in which ends come before their edges, and what lies above before what lies below, as far as that can be had.
+pub fn sort(first: &[u16], work: &[u8], layout: Layout, order: &mut [u8; Order::NODES])
+    requires { ⌜ 4 * layout .names ≤ length (now first) ⌝ }
+    requires { ⌜ Room (firstSquare layout) (now work) ⌝ }
+    requires { ⌜ layout .names ≤ 127 ⌝ }
 {
-    let mut dealt = 0;
-    while dealt < Pending::CELLS {
-        let cell = take(pending);
-        dealt += 1;
-        if layout.names < cell.x {
-            return;
-        }
-        if cell.y <= layout.names {
-            deal(
-                signature,
-                first,
-                second,
-                edges,
-                fillers,
-                work,
-                hints,
-                pending,
-                layout,
-                cell.x,
-                cell.y,
-            );
+    let mut ends = [Order::NONE; Order::NODES];
+    let mut next = 0;
+    while next < layout.names {
+        let x = next;
+        next += 1;
+        if table::is_restriction(first, x) {
+            order::put(&mut ends, x, table::filler(first, x));
         }
     }
+    order::sort(
+        work,
+        Square {
+            base: layout.first,
+            names: layout.names,
+        },
+        &ends,
+        order,
+    );
 }
 
-// The edge of x, for each node that it is not marked with, and what follows.
-fn lose_edge(
+// Marks the name x with all that it is not above by the second release, if it is in the signature.
+fn mark_name(
     signature: &[u8],
     first: &[u16],
     second: &[u16],
-    edges: &[u16],
-    fillers: &[u16],
     work: &mut [u8],
-    hints: &mut [u8; Hints::LENGTH],
-    pending: &mut [u16; Pending::LENGTH],
+    below: &[u8],
     layout: Layout,
     x: usize,
 )
-    requires { ⌜ Linked (now signature) (now first) (now second) (now edges) (now fillers) layout (now work) ⌝ }
+    requires { ⌜ Setting (now signature) (now first) (now second) (now below) layout (now work) ⌝ }
     requires { ⌜ x < layout .names ⌝ }
     ensures { λ _. ⌜ Grows (Step (now (signature .entry)) (now (first .entry)) (now (second .entry)) layout) (markSquare layout) (now (work .entry)) (now (work .exit)) ⌝ }
 {
-    let marks = Square {
-        base: layout.marks,
-        names: layout.names,
-    };
-    let mut y = next_unmarked(work, marks, x, 0);
-    while y <= layout.names {
-        lose(signature, first, second, work, hints, pending, layout, x, y);
-        deal_with_all(
-            signature,
-            first,
-            second,
-            edges,
-            fillers,
-            work,
-            hints,
-            pending,
-            layout,
+    if has_name(signature, layout, x) {
+        let mut kept = [0u8; Line::LENGTH];
+        line::join(
+            &mut kept,
+            below,
+            Square {
+                base: 0,
+                names: layout.names,
+            },
+            x,
         );
-        y = next_unmarked(work, marks, x, y + 1);
+        line::mark_missing(
+            work,
+            Square {
+                base: layout.marks,
+                names: layout.names,
+            },
+            x,
+            &kept,
+        );
     }
 }
 
-// All edges, and what follows.
-pub fn lose_edges(
+// Does so for all names.
+fn mark_names(
     signature: &[u8],
     first: &[u16],
     second: &[u16],
-    edges: &[u16],
-    fillers: &[u16],
     work: &mut [u8],
-    hints: &mut [u8; Hints::LENGTH],
-    pending: &mut [u16; Pending::LENGTH],
+    below: &[u8],
     layout: Layout,
 )
-    requires { ⌜ Linked (now signature) (now first) (now second) (now edges) (now fillers) layout (now work) ⌝ }
+    requires { ⌜ Setting (now signature) (now first) (now second) (now below) layout (now work) ⌝ }
     ensures { λ _. ⌜ Grows (Step (now (signature .entry)) (now (first .entry)) (now (second .entry)) layout) (markSquare layout) (now (work .entry)) (now (work .exit)) ⌝ }
 {
     let mut next = 0;
     while next < layout.names {
         let x = next;
         next += 1;
-        if has_edge(signature, first, layout, x) {
-            lose_edge(
+        mark_name(signature, first, second, work, below, layout, x);
+    }
+}
+
+// Lets the rows above row x wait that are not done.
+fn wait_for_above(
+    work: &[u8],
+    waiting: &mut [u8; Waiting::LENGTH],
+    done: &[u8],
+    layout: Layout,
+    x: usize,
+)
+    requires { ⌜ Room (firstSquare layout) (now work) ⌝ }
+    requires { ⌜ Spans (layout .names) (now done) ⌝ }
+    requires { ⌜ (x ≤ layout .names) × (layout .names ≤ 127) ⌝ }
+{
+    let inclusions = Square {
+        base: layout.first,
+        names: layout.names,
+    };
+    let mut later = line::next_outside(work, inclusions, x, done, 0);
+    while later <= layout.names {
+        if later != x {
+            wait(waiting, later);
+        }
+        later = line::next_outside(work, inclusions, x, done, later + 1);
+    }
+}
+
+// The edge of x. If its end is not done, it waits.
+fn first_edge(
+    signature: &[u8],
+    first: &[u16],
+    second: &[u16],
+    work: &mut [u8],
+    below: &[u8],
+    waiting: &mut [u8; Waiting::LENGTH],
+    done: &[u8],
+    layout: Layout,
+    x: usize,
+)
+    requires { ⌜ Setting (now signature) (now first) (now second) (now below) layout (now work) ⌝ }
+    requires { ⌜ Spans (layout .names) (now done) ⌝ }
+    requires { ⌜ x < layout .names ⌝ }
+    ensures { λ _. ⌜ Grows (Step (now (signature .entry)) (now (first .entry)) (now (second .entry)) layout) (markSquare layout) (now (work .entry)) (now (work .exit)) ⌝ }
+{
+    if has_edge(signature, first, layout, x) {
+        let end = table::filler(first, x);
+        lose_row(signature, first, second, work, below, layout, x);
+        if line::has(done, end) {
+            return;
+        }
+        wait(waiting, end);
+    }
+}
+
+// Row x: the marks of what lies above it, and its edge.
+fn first_row(
+    signature: &[u8],
+    first: &[u16],
+    second: &[u16],
+    work: &mut [u8],
+    below: &[u8],
+    waiting: &mut [u8; Waiting::LENGTH],
+    done: &[u8],
+    layout: Layout,
+    x: usize,
+    near: usize,
+)
+    requires { ⌜ Setting (now signature) (now first) (now second) (now below) layout (now work) ⌝ }
+    requires { ⌜ Spans (layout .names) (now done) ⌝ }
+    requires { ⌜ x ≤ layout .names ⌝ }
+    ensures { λ _. ⌜ Grows (Step (now (signature .entry)) (now (first .entry)) (now (second .entry)) layout) (markSquare layout) (now (work .entry)) (now (work .exit)) ⌝ }
+{
+    take(
+        work,
+        Square {
+            base: layout.first,
+            names: layout.names,
+        },
+        Square {
+            base: layout.marks,
+            names: layout.names,
+        },
+        done,
+        x,
+        near,
+    );
+    wait_for_above(work, waiting, done, layout, x);
+    if x < layout.names {
+        first_edge(
+            signature,
+            first,
+            second,
+            work,
+            below,
+            waiting,
+            done,
+            layout,
+            x,
+        );
+    }
+}
+
+// All rows, one after the other.
+fn first_rows(
+    signature: &[u8],
+    first: &[u16],
+    second: &[u16],
+    work: &mut [u8],
+    below: &[u8],
+    waiting: &mut [u8; Waiting::LENGTH],
+    done: &mut [u8],
+    order: &[u8; Order::NODES],
+    layout: Layout,
+)
+    requires { ⌜ Setting (now signature) (now first) (now second) (now below) layout (now work) ⌝ }
+    requires { ⌜ Spans (layout .names) (now done) ⌝ }
+    ensures { λ _. ⌜ Grows (Step (now (signature .entry)) (now (first .entry)) (now (second .entry)) layout) (markSquare layout) (now (work .entry)) (now (work .exit)) ⌝ }
+{
+    let mut near = Order::NODES;
+    let mut k = 0;
+    while k <= layout.names {
+        let x = order::at(order, k);
+        k += 1;
+        if x <= layout.names {
+            first_row(
                 signature,
                 first,
                 second,
-                edges,
-                fillers,
                 work,
-                hints,
-                pending,
+                below,
+                waiting,
+                done,
                 layout,
                 x,
+                near,
             );
+            line::add(done, x);
+            near = x;
         }
     }
 }
 
-// The marks that names give, and what follows from them by edges, as far as the hints lead.
-pub fn propagate(
+// Deals with the rows that wait, until none does.
+fn deal_with_all(
     signature: &[u8],
     first: &[u16],
     second: &[u16],
-    edges: &[u16],
-    fillers: &[u16],
     work: &mut [u8],
-    hints: &mut [u8; Hints::LENGTH],
-    pending: &mut [u16; Pending::LENGTH],
+    under: &[u8],
+    below: &[u8],
+    waiting: &mut [u8; Waiting::LENGTH],
     layout: Layout,
 )
-    requires { ⌜ Linked (now signature) (now first) (now second) (now edges) (now fillers) layout (now work) ⌝ }
+    requires { ⌜ Setting (now signature) (now first) (now second) (now below) layout (now work) ⌝ }
+    requires { ⌜ Under layout (now under) ⌝ }
     ensures { λ _. ⌜ Grows (Step (now (signature .entry)) (now (first .entry)) (now (second .entry)) layout) (markSquare layout) (now (work .entry)) (now (work .exit)) ⌝ }
 {
-    mark_names(signature, work, layout);
-    hand_all_down(work, layout);
-    lose_edges(
+    let mut edges = [0u16; Chains::LENGTH];
+    let mut partners = [0u8; Partners::LENGTH];
+    list_fillers(first, &mut edges, layout.names);
+    let mut left = Waiting::TURNS;
+    while 0 < left {
+        left -= 1;
+        let x = waiting::take(waiting);
+        if layout.names < x {
+            return;
+        }
+        deal(
+            signature,
+            first,
+            second,
+            work,
+            under,
+            below,
+            &edges,
+            &mut partners,
+            waiting,
+            layout,
+            x,
+        );
+    }
+}
+
+// The same, if a row waits.
+fn propagate(
+    signature: &[u8],
+    first: &[u16],
+    second: &[u16],
+    work: &mut [u8],
+    below: &[u8],
+    waiting: &mut [u8; Waiting::LENGTH],
+    layout: Layout,
+)
+    requires { ⌜ Setting (now signature) (now first) (now second) (now below) layout (now work) ⌝ }
+    ensures { λ _. ⌜ Grows (Step (now (signature .entry)) (now (first .entry)) (now (second .entry)) layout) (markSquare layout) (now (work .entry)) (now (work .exit)) ⌝ }
+{
+    let x = waiting::take(waiting);
+    if layout.names < x {
+        return;
+    }
+    wait(waiting, x);
+    let mut under = [0u8; Turning::LENGTH];
+    turn(
+        work,
+        Square {
+            base: layout.first,
+            names: layout.names,
+        },
+        &mut under,
+        Square {
+            base: 0,
+            names: layout.names,
+        },
+    );
+    deal_with_all(
         signature,
         first,
         second,
-        edges,
-        fillers,
         work,
-        hints,
-        pending,
+        &under,
+        below,
+        waiting,
         layout,
     );
+}
+
+// The marks that names give, and what follows from them by edges, as far as the hints lead.
+pub fn begin(
+    signature: &[u8],
+    first: &[u16],
+    second: &[u16],
+    work: &mut [u8],
+    below: &[u8],
+    waiting: &mut [u8; Waiting::LENGTH],
+    order: &[u8; Order::NODES],
+    layout: Layout,
+)
+    requires { ⌜ Setting (now signature) (now first) (now second) (now below) layout (now work) ⌝ }
+    ensures { λ _. ⌜ Grows (Step (now (signature .entry)) (now (first .entry)) (now (second .entry)) layout) (markSquare layout) (now (work .entry)) (now (work .exit)) ⌝ }
+{
+    let mut done = [0u8; Line::LENGTH];
+    mark_names(signature, first, second, work, below, layout);
+    first_rows(
+        signature,
+        first,
+        second,
+        work,
+        below,
+        waiting,
+        &mut done,
+        order,
+        layout,
+    );
+    propagate(signature, first, second, work, below, waiting, layout);
+}
+
+// What follows from the marks that a pass found.
+pub fn resume(
+    signature: &[u8],
+    first: &[u16],
+    second: &[u16],
+    work: &mut [u8],
+    below: &[u8],
+    waiting: &mut [u8; Waiting::LENGTH],
+    layout: Layout,
+)
+    requires { ⌜ Setting (now signature) (now first) (now second) (now below) layout (now work) ⌝ }
+    ensures { λ _. ⌜ Grows (Step (now (signature .entry)) (now (first .entry)) (now (second .entry)) layout) (markSquare layout) (now (work .entry)) (now (work .exit)) ⌝ }
+{
+    waiting::wait_all(waiting, layout.names);
+    propagate(signature, first, second, work, below, waiting, layout);
 }

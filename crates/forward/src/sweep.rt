@@ -1,151 +1,143 @@
-// Passes over all pairs, until one finds nothing left to mark.
+// Passes over all names and rows, until one finds nothing left to mark.
 ghost use Prim.Native.Nat.{suc, _≤_, _<_};
-ghost use Rattle.marks.specs.Squares.{Room};
 ghost use Rattle.marks.specs.Passes.{Pass, Closed, Below};
-ghost use Rattle.layout.specs.Layouts.{firstSquare, markSquare};
-ghost use Rattle.forward.specs.Rules.{Setting, Linked, Step, FromAbove, Cell, Taken, Row};
-use crate::hints::Hints;
-use crate::propagation::lose_edges;
-use crate::rules::edge_lost;
-use crate::rules::name_lost;
+ghost use Rattle.layout.specs.Layouts.{markSquare};
+ghost use Rattle.forward.specs.Rules.{Setting, Step, ByName, ByEdge, Looked, Row};
+use crate::kept::keep;
+use crate::propagation::resume;
+use crate::rules::has_edge;
 use layout::Layout;
-use layout::is_marked;
-use layout::mark;
+use layout::has_name;
 use marks::Square;
-use marks::pending::Pending;
-use marks::rows::absorb;
-use marks::rows::next_marked;
-use marks::rows::next_unmarked;
+use marks::inclusions::take_all;
+use marks::line;
+use marks::line::Line;
+use marks::order::Order;
+use marks::waiting::Waiting;
+use release::table;
 
-// Marks the pair x, y if x loses it by itself. Whether the mark is new. A pair that is marked already is asked no rule.
-fn look(
+// Marks the name x with all that it is not above by the second release, if it is in the signature. Whether a mark is new.
+fn look_at_name(
     signature: &[u8],
     first: &[u16],
     second: &[u16],
-    fillers: &[u16],
     work: &mut [u8],
-    hints: &mut [u8; Hints::LENGTH],
+    below: &[u8],
     layout: Layout,
     x: usize,
-    y: usize,
 ) -> bool
-    requires { ⌜ Setting (now signature) (now first) (now second) (now fillers) layout (now work) ⌝ }
-    requires { ⌜ (x < layout .names) × (y ≤ layout .names) ⌝ }
-    ensures { λ r. ⌜ Pass (Step (now (signature .entry)) (now (first .entry)) (now (second .entry)) layout) (markSquare layout) (Cell (now (signature .entry)) (now (first .entry)) (now (second .entry)) layout x y) (now (work .entry)) (now (work .exit)) r ⌝ }
+    requires { ⌜ Setting (now signature) (now first) (now second) (now below) layout (now work) ⌝ }
+    requires { ⌜ x < layout .names ⌝ }
+    ensures { λ r. ⌜ Pass (Step (now (signature .entry)) (now (first .entry)) (now (second .entry)) layout) (markSquare layout) (ByName (now (signature .entry)) layout x) (now (work .entry)) (now (work .exit)) r ⌝ }
 {
-    if is_marked(work, layout, x, y) {
-        return false;
-    }
-    if name_lost(signature, work, layout, x, y) {
-        return mark(work, layout, x, y);
-    }
-    if edge_lost(signature, first, second, fillers, work, hints, layout, x, y) {
-        return mark(work, layout, x, y);
+    if has_name(signature, layout, x) {
+        let mut kept = [0u8; Line::LENGTH];
+        line::join(
+            &mut kept,
+            below,
+            Square {
+                base: 0,
+                names: layout.names,
+            },
+            x,
+        );
+        return line::absorb_missing(
+            work,
+            Square {
+                base: layout.marks,
+                names: layout.names,
+            },
+            x,
+            &kept,
+        );
     }
     false
 }
 
-// Looks at each pair of the name x that is not marked. Whether a mark is new.
-fn look_at_cells(
+// Marks the pairs of x that its edge loses. Whether a mark is new.
+fn look_at_edge(
     signature: &[u8],
     first: &[u16],
     second: &[u16],
-    fillers: &[u16],
     work: &mut [u8],
-    hints: &mut [u8; Hints::LENGTH],
+    below: &[u8],
     layout: Layout,
     x: usize,
 ) -> bool
-    requires { ⌜ Setting (now signature) (now first) (now second) (now fillers) layout (now work) ⌝ }
+    requires { ⌜ Setting (now signature) (now first) (now second) (now below) layout (now work) ⌝ }
     requires { ⌜ x < layout .names ⌝ }
-    ensures { λ r. ⌜ Pass (Step (now (signature .entry)) (now (first .entry)) (now (second .entry)) layout) (markSquare layout) (Below (Cell (now (signature .entry)) (now (first .entry)) (now (second .entry)) layout x) (suc (layout .names))) (now (work .entry)) (now (work .exit)) r ⌝ }
+    ensures { λ r. ⌜ Pass (Step (now (signature .entry)) (now (first .entry)) (now (second .entry)) layout) (markSquare layout) (ByEdge (now (signature .entry)) (now (first .entry)) (now (second .entry)) layout x) (now (work .entry)) (now (work .exit)) r ⌝ }
 {
-    let marks = Square {
-        base: layout.marks,
-        names: layout.names,
-    };
-    let mut changed = false;
-    let mut y = next_unmarked(work, marks, x, 0);
-    while y <= layout.names {
-        let looked = look(signature, first, second, fillers, work, hints, layout, x, y);
-        changed = changed | looked;
-        y = next_unmarked(work, marks, x, y + 1);
+    if has_edge(signature, first, layout, x) {
+        let mut kept = [0u8; Line::LENGTH];
+        let role = table::role(first, x);
+        let end = table::filler(first, x);
+        keep(second, work, below, &mut kept, layout, end, role);
+        return line::absorb_missing(
+            work,
+            Square {
+                base: layout.marks,
+                names: layout.names,
+            },
+            x,
+            &kept,
+        );
     }
-    changed
+    false
 }
 
-// Marks in row x what is marked in the row of a node above x by the first release. Whether a mark is new.
-fn take_from_above(work: &mut [u8], layout: Layout, x: usize) -> bool
-    requires { ⌜ Room (firstSquare layout) (now work) × Room (markSquare layout) (now work) ⌝ }
-    requires { ⌜ x ≤ layout .names ⌝ }
-    ensures { λ r. ⌜ Pass (FromAbove layout) (markSquare layout) (Below (Taken layout x) (suc (layout .names))) (now (work .entry)) (now (work .exit)) r ⌝ }
-{
-    let inclusions = Square {
-        base: layout.first,
-        names: layout.names,
-    };
-    let marks = Square {
-        base: layout.marks,
-        names: layout.names,
-    };
-    let mut changed = false;
-    let mut above = next_marked(work, inclusions, x, 0);
-    while above <= layout.names {
-        let absorbed = absorb(work, marks, above, x);
-        changed = changed | absorbed;
-        above = next_marked(work, inclusions, x, above + 1);
-    }
-    changed
-}
-
-// One pass over row x. Whether a mark is new. ⊤ loses nothing by itself.
-fn row(
+// Both, for all names. Whether a mark is new.
+fn look_at_names(
     signature: &[u8],
     first: &[u16],
     second: &[u16],
-    fillers: &[u16],
     work: &mut [u8],
-    hints: &mut [u8; Hints::LENGTH],
-    layout: Layout,
-    x: usize,
-) -> bool
-    requires { ⌜ Setting (now signature) (now first) (now second) (now fillers) layout (now work) ⌝ }
-    requires { ⌜ x ≤ layout .names ⌝ }
-    ensures { λ r. ⌜ Pass (Step (now (signature .entry)) (now (first .entry)) (now (second .entry)) layout) (markSquare layout) (Row (now (signature .entry)) (now (first .entry)) (now (second .entry)) layout x) (now (work .entry)) (now (work .exit)) r ⌝ }
-{
-    if layout.names <= x {
-        return take_from_above(work, layout, x);
-    }
-    let changed = look_at_cells(signature, first, second, fillers, work, hints, layout, x);
-    if take_from_above(work, layout, x) {
-        return true;
-    }
-    changed
-}
-
-// One pass over all rows. Whether a mark is new.
-fn rows(
-    signature: &[u8],
-    first: &[u16],
-    second: &[u16],
-    fillers: &[u16],
-    work: &mut [u8],
-    hints: &mut [u8; Hints::LENGTH],
+    below: &[u8],
     layout: Layout,
 ) -> bool
-    requires { ⌜ Setting (now signature) (now first) (now second) (now fillers) layout (now work) ⌝ }
-    ensures { λ r. ⌜ Pass (Step (now (signature .entry)) (now (first .entry)) (now (second .entry)) layout) (markSquare layout) (Below (Row (now (signature .entry)) (now (first .entry)) (now (second .entry)) layout) (suc (layout .names))) (now (work .entry)) (now (work .exit)) r ⌝ }
+    requires { ⌜ Setting (now signature) (now first) (now second) (now below) layout (now work) ⌝ }
+    ensures { λ r. ⌜ Pass (Step (now (signature .entry)) (now (first .entry)) (now (second .entry)) layout) (markSquare layout) (Below (Looked (now (signature .entry)) (now (first .entry)) (now (second .entry)) layout) (layout .names)) (now (work .entry)) (now (work .exit)) r ⌝ }
 {
     let mut changed = false;
     let mut next = 0;
-    while next <= layout.names {
+    while next < layout.names {
         let x = next;
         next += 1;
-        if row(signature, first, second, fillers, work, hints, layout, x) {
-            changed = true;
-        }
+        let name = look_at_name(signature, first, second, work, below, layout, x);
+        let edge = look_at_edge(signature, first, second, work, below, layout, x);
+        changed = changed | (name | edge);
     }
     changed
+}
+
+// One pass: over all names, and if these gave nothing, over all rows with those above them. Whether a mark is new.
+fn pass(
+    signature: &[u8],
+    first: &[u16],
+    second: &[u16],
+    work: &mut [u8],
+    below: &[u8],
+    order: &[u8; Order::NODES],
+    layout: Layout,
+) -> bool
+    requires { ⌜ Setting (now signature) (now first) (now second) (now below) layout (now work) ⌝ }
+    ensures { λ r. ⌜ Pass (Step (now (signature .entry)) (now (first .entry)) (now (second .entry)) layout) (markSquare layout) (Below (Row (now (signature .entry)) (now (first .entry)) (now (second .entry)) layout) (suc (layout .names))) (now (work .entry)) (now (work .exit)) r ⌝ }
+{
+    if look_at_names(signature, first, second, work, below, layout) {
+        return true;
+    }
+    take_all(
+        work,
+        Square {
+            base: layout.first,
+            names: layout.names,
+        },
+        Square {
+            base: layout.marks,
+            names: layout.names,
+        },
+        order,
+    )
 }
 
 // Passes until nothing is left to mark. What follows from the marks that a pass found is propagated before the next one.
@@ -153,27 +145,16 @@ pub fn close(
     signature: &[u8],
     first: &[u16],
     second: &[u16],
-    edges: &[u16],
-    fillers: &[u16],
     work: &mut [u8],
-    hints: &mut [u8; Hints::LENGTH],
-    pending: &mut [u16; Pending::LENGTH],
+    below: &[u8],
+    waiting: &mut [u8; Waiting::LENGTH],
+    order: &[u8; Order::NODES],
     layout: Layout,
 )
-    requires { ⌜ Linked (now signature) (now first) (now second) (now edges) (now fillers) layout (now work) ⌝ }
+    requires { ⌜ Setting (now signature) (now first) (now second) (now below) layout (now work) ⌝ }
     ensures { λ _. ⌜ Closed (Step (now (signature .entry)) (now (first .entry)) (now (second .entry)) layout) (markSquare layout) (Below (Row (now (signature .entry)) (now (first .entry)) (now (second .entry)) layout) (suc (layout .names))) (now (work .entry)) (now (work .exit)) ⌝ }
 {
-    while rows(signature, first, second, fillers, work, hints, layout) {
-        lose_edges(
-            signature,
-            first,
-            second,
-            edges,
-            fillers,
-            work,
-            hints,
-            pending,
-            layout,
-        );
+    while pass(signature, first, second, work, below, order, layout) {
+        resume(signature, first, second, work, below, waiting, layout);
     }
 }

@@ -1,4 +1,4 @@
-use Rattle.comparison.proofs.Pipeline.{few, forward-asks, backward-asks, all-marked}
+use Rattle.comparison.proofs.Pipeline.{few, forward-asks, forward-apart, backward-asks, all-marked}
 use borrow.Author.Needs.{needs}
 use Rattle.comparison.proofs.fill.Statement.{statement}
 use Rattle.comparison.proofs.fill.Tie as tie
@@ -15,7 +15,7 @@ mul-t15 : tie.Need-mul-t15
 mul-t15 c = search needs
 
 mark-lost-above-requires : tie.Need-mark-lost-above-requires
-mark-lost-above-requires c κs = let p = c .before .before .before .before .before .before .before .before .before .before .before .pre in (forward-asks (p .0) (p .1) (c .before .before .before .fill-inclusions .ensures), few (p .0 .both))
+mark-lost-above-requires c κs = let p = c .before .before .before .before .before .before .before .before .before .before .before .pre in (forward-asks (p .0) (p .1) (c .before .before .before .fill-inclusions .ensures), (few (p .0 .both), forward-apart (p .0) (p .1) (c .before .before .before .fill-inclusions .ensures)))
 
 mul-t15-2 : tie.Need-mul-t15-2
 mul-t15-2 c = search needs

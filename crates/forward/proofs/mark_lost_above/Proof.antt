@@ -1,66 +1,54 @@
-use native.Mathlib.Omega.{arith}
-use borrow.Author.Needs.{needs}
+use mathlib.Core.Path.{refl}
 use Rattle.marks.proofs.Passes.{closed-further}
-use Rattle.forward.proofs.Chains.{indexed-filled}
 use Rattle.forward.proofs.Meaning.{forwarded}
-use Rattle.forward.proofs.Tested.{linked-stays}
+use Rattle.forward.proofs.Tested.{setting-stays, zeros-room, zeros-unmarked}
+use borrow.Author.Needs.{needs}
 use Rattle.forward.proofs.mark_lost_above.Statement.{statement}
 use Rattle.forward.proofs.mark_lost_above.Tie as tie
 use Rattle.forward.proofs.mark_lost_above.Reads as reads
 use Rattle.forward.proofs.mark_lost_above.Lts as lts
-use Rattle.forward.proofs.fillers.index.Reads as index-reads
-use Rattle.forward.proofs.propagation.propagate.Reads as propagate-reads
+use Rattle.forward.proofs.propagation.begin.Reads as begin-reads
+use Rattle.forward.proofs.propagation.sort.Reads as sort-reads
 use Rattle.forward.proofs.sweep.close.Reads as close-reads
+use Rattle.marks.proofs.turned.turn.Reads as turn-reads
 
-slice-aggregate-index : tie.Need-slice-aggregate-index
-slice-aggregate-index c = search needs
+slice-aggregate-turn : tie.Need-slice-aggregate-turn
+slice-aggregate-turn c = search needs
 
-index-requires : tie.Need-index-requires
-index-requires c κs = let p = c .before .before .before .before .before .pre in (p .0 .first-table, (omega arith, indexed-filled {k = 255} {u = 65535} (omega arith) (omega arith)))
+turn-requires : tie.Need-turn-requires
+turn-requires c κs = ((c .before .before .before .before .before .before .pre .0 .second, zeros-room (c .before .before .before .before .before .before .pre .1 .0)), (refl, zeros-unmarked 2048))
 
-slice-aggregate-index-2 : tie.Need-slice-aggregate-index-2
-slice-aggregate-index-2 c = search needs
+sort-requires : tie.Need-sort-requires
+sort-requires c κs = (c .before .before .before .before .before .before .before .before .before .before .pre .0 .first-table .rows, (c .before .before .before .before .before .before .before .before .before .before .pre .0 .first, c .before .before .before .before .before .before .before .before .before .before .pre .1 .0))
 
-index-requires-2 : tie.Need-index-requires-2
-index-requires-2 c κs = let p = c .before .before .before .before .before .before .before .before .pre in (p .0 .second-table, (omega arith, indexed-filled {k = 255} {u = 65535} (omega arith) (omega arith)))
+slice-aggregate-begin : tie.Need-slice-aggregate-begin
+slice-aggregate-begin c = search needs
 
-slice-aggregate-propagate : tie.Need-slice-aggregate-propagate
-slice-aggregate-propagate c = search needs
-
-slice-aggregate-propagate-2 : tie.Need-slice-aggregate-propagate-2
-slice-aggregate-propagate-2 c = search needs
-
-propagate-requires : tie.Need-propagate-requires
-propagate-requires c κs = record { setting = record { places = c .before .before .before .before .before .before .before .before .before .before .before .before .before .before .before .pre .0; indexed = c .before .before .before .before .before .before .index2 .ensures }; first-indexed = c .before .before .before .before .before .before .before .before .before .index .ensures }
+begin-requires : tie.Need-begin-requires
+begin-requires c κs = record { places = c .before .before .before .before .before .before .before .before .before .before .before .before .before .before .before .pre .0; few = c .before .before .before .before .before .before .before .before .before .before .before .before .before .before .before .pre .1 .0; apart = c .before .before .before .before .before .before .before .before .before .before .before .before .before .before .before .pre .1 .1; room = c .before .before .before .before .before .before .before .before .turn .ensures .1; turned = c .before .before .before .before .before .before .before .before .turn .ensures .0 }
 
 slice-aggregate-close : tie.Need-slice-aggregate-close
 slice-aggregate-close c = search needs
 
-slice-aggregate-close-2 : tie.Need-slice-aggregate-close-2
-slice-aggregate-close-2 c = search needs
-
 close-requires : tie.Need-close-requires
-close-requires c κs = linked-stays (c .before .before .before .before .before .before .before .propagate .ensures) (record { setting = record { places = c .before .before .before .before .before .before .before .before .before .before .before .before .before .before .before .before .before .before .before .before .before .before .before .pre .0; indexed = c .before .before .before .before .before .before .before .before .before .before .before .before .before .before .index2 .ensures }; first-indexed = c .before .before .before .before .before .before .before .before .before .before .before .before .before .before .before .before .before .index .ensures })
+close-requires c κs = setting-stays (c .before .before .before .before .before .before .begin .ensures) (record { places = c .before .before .before .before .before .before .before .before .before .before .before .before .before .before .before .before .before .before .before .before .before .before .pre .0; few = c .before .before .before .before .before .before .before .before .before .before .before .before .before .before .before .before .before .before .before .before .before .before .pre .1 .0; apart = c .before .before .before .before .before .before .before .before .before .before .before .before .before .before .before .before .before .before .before .before .before .before .pre .1 .1; room = c .before .before .before .before .before .before .before .before .before .before .before .before .before .before .before .turn .ensures .1; turned = c .before .before .before .before .before .before .before .before .before .before .before .before .before .before .before .turn .ensures .0 })
 
 same-length : tie.Need-same-length
 same-length c = search needs
 
 returns : tie.Need-returns
-returns c = record { of-releases = λ s t k. forwarded k (closed-further (c .before .before .before .before .before .before .before .before .before .before .propagate .ensures) (c .before .before .close .ensures)) }
+returns c = record { of-releases = λ s t k. forwarded k (closed-further (c .before .before .before .before .before .before .before .before .before .begin .ensures) (c .before .before .close .ensures)) }
 
 pub mark-lost-above-spec : {M : Type 1} → statement M
 mark-lost-above-spec =
     tie.close
     (tie.spec
-    slice-aggregate-index
-    index-requires
-    slice-aggregate-index-2
-    index-requires-2
-    slice-aggregate-propagate
-    slice-aggregate-propagate-2
-    propagate-requires
+    slice-aggregate-turn
+    turn-requires
+    sort-requires
+    slice-aggregate-begin
+    begin-requires
     slice-aggregate-close
-    slice-aggregate-close-2
     close-requires
     same-length
     returns)

@@ -1,86 +1,88 @@
--- Of the nodes passed by the outer loop, none is the end of a partner; of the names passed on the chain of a node by the inner one,
--- none is a partner. So where both loops end there is none, and where they are left there is one.
-use mathlib.Core.Path.{_≡_, refl}
-use mathlib.Core.Bool.{false}
-use Prim.Native.Nat.{_≤_, _-_, _+_}
 use native.Mathlib.Omega.{arith}
 use borrow.Author.Needs.{needs}
+use Prim.Native.Nat.{suc, _+_, _≤_, _-_}
+use mathlib.Core.Path.{_≡_, refl}
+use mathlib.Core.Bool.{false}
 use Rattle.el.proofs.Tests.{always}
+use Rattle.marks.specs.Squares.{Marked}
 use Rattle.marks.proofs.Squares.{refuted}
-use Rattle.layout.specs.Searches.{EachBelow}
-use Rattle.layout.proofs.Searches.{each-start, each-more}
+use Rattle.layout.specs.Searches.{SomeBelow}
+use Rattle.layout.specs.Layouts.{secondSquare}
 use Rattle.forward.specs.Rules.{Partner}
-use Rattle.forward.proofs.Chains.{NoneWith, Passed, passed-start, passed-next, passed-end}
-use Rattle.forward.proofs.Tested.{marked-none, found-partner, no-partner-found, tells-none}
+use Rattle.forward.proofs.Tested.{NoneFrom, rowed-row, tells-none, found-at, none-start, none-more, none-all}
 use Rattle.forward.proofs.partner.has_partner.Statement.{statement}
 use Rattle.forward.proofs.partner.has_partner.Tie as tie
 use Rattle.forward.proofs.partner.has_partner.Reads as reads
 use Rattle.forward.proofs.partner.has_partner.Lts as lts
-use Rattle.forward.proofs.fillers.first.Reads as first-reads
-use Rattle.forward.proofs.fillers.next.Reads as next-reads
-use Rattle.forward.proofs.hints.note.Reads as note-reads
-use Rattle.forward.proofs.partner.reaches.Reads as reaches-reads
-use Rattle.layout.proofs.is_marked.Reads as is-marked-reads
+use Rattle.forward.proofs.kept.serves.Reads as serves-reads
+use Rattle.forward.proofs.partner.begin.Reads as begin-reads
+use Rattle.forward.proofs.partner.note.Reads as note-reads
+use Rattle.marks.proofs.rows.next_marked.Reads as next-marked-reads
+use Rattle.release.proofs.table.filler.Reads as filler-reads
+use Rattle.release.proofs.table.role.Reads as role-reads
 
 abbrev Inv-loop : tie.InvT-loop
-Inv-loop table fillers work hints₀ layout end y role found₀ next node name₀ hints found name = (found ≡ false) × Passed (layout .names) table node (Partner table layout work end y role) name
+Inv-loop first second work partners₀ layout x y role end above found₀ from turn name₀ partners found name = (name ≤ suc (layout .names)) × (found ≡ false) × NoneFrom second layout work end y role from name × (name ≤ layout .names → Marked (secondSquare layout) work y name)
 
 abbrev μ-loop : tie.MeasureT-loop
-μ-loop table fillers work hints₀ layout end y role found₀ next node name₀ hints found name = layout .names - name
+μ-loop first second work partners₀ layout x y role end above found₀ from turn name₀ partners found name = suc (layout .names) - name
 
 abbrev Inv-search : tie.InvT-search
-Inv-search table fillers work hints₀ layout end y role found₀ next₀ hints found next = (next ≤ layout .names + 1) × (found ≡ false) × EachBelow (NoneWith (layout .names) table (Partner table layout work end y role)) next
+Inv-search first second work partners₀ layout x y role end above found₀ from₀ turn₀ partners found from turn = (turn ≤ 2) × (from ≤ layout .names) × (found ≡ false) × (1 ≤ turn → from ≡ 0) × (2 ≤ turn → SomeBelow (Partner second layout work end y role) (layout .names) → ⊥)
 
 abbrev μ-search : tie.MeasureT-search
-μ-search table fillers work hints₀ layout end y role found₀ next₀ hints found next = layout .names + 1 - next
+μ-search first second work partners₀ layout x y role end above found₀ from₀ turn₀ partners found from turn = 2 - turn
+
+role-requires : tie.Need-role-requires Inv-loop μ-loop Inv-search μ-search
+role-requires c κs = rowed-row (c .before .before .before .pre .0 .0) (c .before .before .before .pre .1 .1 .0 .0)
+
+filler-requires : tie.Need-filler-requires Inv-loop μ-loop Inv-search μ-search
+filler-requires c κs = rowed-row (c .before .before .before .before .pre .0 .0) (c .before .before .before .before .pre .1 .1 .0 .0)
+
+begin-requires : tie.Need-begin-requires Inv-loop μ-loop Inv-search μ-search
+begin-requires c κs = search needs
 
 search-holds : tie.Need-search-holds Inv-loop μ-loop Inv-search μ-search
-search-holds c = (search needs, refl, each-start)
+search-holds c = (omega arith, c .begin .ensures, refl, λ h. absurd (omega (arith, h)), λ h. absurd (omega (arith, h)))
 
-add-next : tie.Need-add-next Inv-loop μ-loop Inv-search μ-search
-add-next c = search needs
-
-is-marked-requires : tie.Need-is-marked-requires Inv-loop μ-loop Inv-search μ-search
-is-marked-requires c κs = search needs
-
-search-less : tie.Need-search-less Inv-loop μ-loop Inv-search μ-search
-search-less c = search needs
-
-search-again : tie.Need-search-again Inv-loop μ-loop Inv-search μ-search
-search-again c = (search needs, c .before .before .before .before .search .inv .1, each-more (c .before .before .before .before .search .inv .2) (marked-none (c .before .is-marked .ensures .sound (c .if2 .taken))))
-
-first-requires : tie.Need-first-requires Inv-loop μ-loop Inv-search μ-search
-first-requires c κs = record { inside = omega (arith, c .before .before .before .before .before .before .before .before .pre .1 .0 .long) }
+next-marked-requires : tie.Need-next-marked-requires Inv-loop μ-loop Inv-search μ-search
+next-marked-requires c κs = (c .before .before .before .before .before .before .before .before .before .pre .1 .0 .0, (c .before .before .before .before .before .before .before .before .before .pre .1 .1 .0 .1, omega (arith, c .before .search .inv .1)))
 
 loop-holds : tie.Need-loop-holds Inv-loop μ-loop Inv-search μ-search
-loop-holds c = (c .before .before .before .before .before .search .inv .1, passed-start (c .first .ensures) (c .before .before .before .before .before .before .before .before .before .pre .1 .0 .first (c .before .before .before .before .before .search .next) (c .before .before .before .if1 .taken)))
+loop-holds c = (c .next-marked .ensures .inside, c .before .before .search .inv .2, none-start (c .next-marked .ensures), c .next-marked .ensures .found)
 
-search-less-2 : tie.Need-search-less-2 Inv-loop μ-loop Inv-search μ-search
-search-less-2 c = search needs
-
-search-again-2 : tie.Need-search-again-2 Inv-loop μ-loop Inv-search μ-search
-search-again-2 c = (search needs, c .before .before .loop .inv .0, each-more (c .before .before .before .before .before .before .before .before .search .inv .2) (passed-end (c .if3 .left) (c .before .before .loop .inv .1)))
-
-reaches-requires : tie.Need-reaches-requires Inv-loop μ-loop Inv-search μ-search
-reaches-requires c κs = search needs
+serves-requires : tie.Need-serves-requires Inv-loop μ-loop Inv-search μ-search
+serves-requires c κs = (c .before .before .before .before .before .before .before .before .before .before .before .before .before .pre .0 .1, (c .before .before .before .before .before .before .before .before .before .before .before .before .before .pre .1 .0 .1, (rw (c .before .before .before .before .before .before .before .before .filler .ensures) (c .before .before .before .before .before .before .before .before .before .before .before .before .before .pre .1 .1 .1), c .if1 .taken)))
 
 note-requires : tie.Need-note-requires Inv-loop μ-loop Inv-search μ-search
 note-requires c κs = search needs
 
-next-requires : tie.Need-next-requires Inv-loop μ-loop Inv-search μ-search
-next-requires c κs = record { inside = omega (arith, c .before .before .before .before .before .before .before .before .before .before .before .before .before .before .pre .1 .0 .long) }
+add-next-marked : tie.Need-add-next-marked Inv-loop μ-loop Inv-search μ-search
+add-next-marked c = omega (arith, c .before .before .if1 .taken, c .before .before .before .before .before .before .before .before .before .before .before .before .before .before .before .pre .1 .0 .0 .small .few)
+
+next-marked-requires-2 : tie.Need-next-marked-requires-2 Inv-loop μ-loop Inv-search μ-search
+next-marked-requires-2 c κs = (c .before .before .before .before .before .before .before .before .before .before .before .before .before .before .before .pre .1 .0 .0, (c .before .before .before .before .before .before .before .before .before .before .before .before .before .before .before .pre .1 .1 .0 .1, omega (arith, c .before .before .if1 .taken)))
 
 loop-less : tie.Need-loop-less Inv-loop μ-loop Inv-search μ-search
-loop-less c = omega (arith, c .next .ensures, c .before .before .before .before .before .before .before .before .before .before .before .before .before .before .before .pre .1 .0 .next (c .before .before .before .before .before .loop .name) (c .before .before .before .before .before .before .before .before .before .before .before .search .next) (omega arith) (c .before .before .before .if3 .taken) (c .before .before .before .before .before .loop .inv .1 .here (c .before .before .before .if3 .taken)) .from)
+loop-less c = omega (arith, c .before .before .before .if1 .taken, c .next-marked2 .ensures .after)
 
 loop-again : tie.Need-loop-again Inv-loop μ-loop Inv-search μ-search
-loop-again c = (c .before .before .before .before .before .loop .inv .0, passed-next (c .before .before .before .before .before .loop .name) (c .next .ensures) (c .before .before .before .before .before .loop .inv .1) (λ p. refuted (c .before .before .reaches .ensures) (c .before .if4 .left) (p .reaches)) (c .before .before .before .before .before .before .before .before .before .before .before .before .before .before .before .pre .1 .0 .next (c .before .before .before .before .before .loop .name) (c .before .before .before .before .before .before .before .before .before .before .before .search .next) (omega arith) (c .before .before .before .if3 .taken) (c .before .before .before .before .before .loop .inv .1 .here (c .before .before .before .if3 .taken))))
+loop-again c = (c .next-marked2 .ensures .inside, c .before .before .before .before .before .loop .inv .1, none-more (refuted (c .before .before .serves .ensures) (c .before .if2 .left)) (c .next-marked2 .ensures) (c .before .before .before .before .before .loop .inv .2), c .next-marked2 .ensures .found)
+
+add-turn : tie.Need-add-turn Inv-loop μ-loop Inv-search μ-search
+add-turn c = omega (arith, c .before .before .before .before .search-test .taken)
+
+search-less : tie.Need-search-less Inv-loop μ-loop Inv-search μ-search
+search-less c = omega (arith, c .before .before .before .before .search-test .taken)
+
+search-again : tie.Need-search-again Inv-loop μ-loop Inv-search μ-search
+search-again c = (omega (arith, c .before .before .before .before .search-test .taken), omega arith, c .before .before .loop .inv .1, λ h. refl, λ h. none-all (c .before .before .before .before .before .search .inv .3 (omega (arith, h))) (omega (arith, c .if1 .left)) (c .before .before .loop .inv .2))
 
 returns : tie.Need-returns Inv-loop μ-loop Inv-search μ-search
-returns c = tells-none (c .before .before .search .inv .1) (no-partner-found (c .before .before .before .before .before .before .pre .0) (c .if1 .left) (c .before .before .search .inv .2))
+returns c = tells-none (c .before .search .inv .2) (rw (← c .before .before .before .before .filler .ensures, ← c .before .before .before .before .before .role .ensures) (c .before .search .inv .4 (omega (arith, c .search-test .left))))
 
 returns-2 : tie.Need-returns-2 Inv-loop μ-loop Inv-search μ-search
-returns-2 c = always (found-partner (c .before .before .before .before .before .before .loop .name) (c .before .before .before .before .if3 .taken) (c .before .before .before .before .before .before .loop .inv .1 .here (c .before .before .before .before .if3 .taken)) (c .before .before .before .reaches .ensures .sound (c .before .before .if4 .taken)) (refuted (c .before .before .before .before .before .before .before .before .before .is-marked .ensures) (c .before .before .before .before .before .before .before .before .if2 .left)))
+returns-2 c = always (rw (← c .before .before .before .before .before .before .before .before .before .before .before .before .filler .ensures, ← c .before .before .before .before .before .before .before .before .before .before .before .before .before .role .ensures) (found-at (c .before .before .before .before .if1 .taken) (c .before .before .before .before .before .before .loop .inv .3 (omega (arith, c .before .before .before .before .if1 .taken))) (c .before .before .before .serves .ensures .sound (c .before .before .if2 .taken))))
 
 pub has-partner-spec : {M : Type 1} → statement M
 has-partner-spec =
@@ -90,19 +92,20 @@ has-partner-spec =
     μ-loop
     Inv-search
     μ-search
+    role-requires
+    filler-requires
+    begin-requires
     search-holds
-    add-next
-    is-marked-requires
-    search-less
-    search-again
-    first-requires
+    next-marked-requires
     loop-holds
-    search-less-2
-    search-again-2
-    reaches-requires
+    serves-requires
     note-requires
-    next-requires
+    add-next-marked
+    next-marked-requires-2
     loop-less
     loop-again
+    add-turn
+    search-less
+    search-again
     returns
     returns-2)

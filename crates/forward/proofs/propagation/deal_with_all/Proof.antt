@@ -1,58 +1,56 @@
-use Prim.Native.Nat.{_≤_, _-_}
-use mathlib.Core.Path.{_≡_, refl}
+use native.Mathlib.Omega.{arith}
 use borrow.Author.Needs.{needs}
+use Prim.Native.Nat.{suc, _≤_, _-_}
+use mathlib.Core.Path.{_≡_, refl, _∙_}
 use lib.ListN.{length}
 use Rattle.marks.specs.Passes.{Grows, none}
+use Rattle.marks.proofs.Passes.{grows-frame, grows-further}
 use Rattle.layout.specs.Layouts.{markSquare}
-use Rattle.marks.proofs.Passes.{grows-further}
-use Rattle.forward.specs.Rules.{Step}
-use Rattle.forward.proofs.Tested.{linked-stays}
+use Rattle.forward.specs.Rules.{Setting, Step}
+use Rattle.forward.proofs.Tested.{setting-stays}
 use Rattle.forward.proofs.propagation.deal_with_all.Statement.{statement}
 use Rattle.forward.proofs.propagation.deal_with_all.Tie as tie
 use Rattle.forward.proofs.propagation.deal_with_all.Reads as reads
 use Rattle.forward.proofs.propagation.deal_with_all.Lts as lts
+use Rattle.classification.proofs.chains.list_fillers.Reads as list-fillers-reads
 use Rattle.forward.proofs.consequences.deal.Reads as deal-reads
-use Rattle.marks.proofs.pending.take.Reads as take-reads
+use Rattle.marks.proofs.waiting.take.Reads as take-reads
 
--- marks put by the rules
 abbrev Inv-loop : tie.InvT-loop
-Inv-loop signature first second edges fillers work₀ hints₀ pending₀ layout dealt₀ work hints pending dealt = (dealt ≤ 16384) × (length work ≡ length work₀) × Grows (Step signature first second layout) (markSquare layout) work₀ work
+Inv-loop signature first second work₀ under below waiting₀ layout edges partners₀ left₀ work waiting partners left = (length work ≡ length work₀) × Setting signature first second below layout work × Grows (Step signature first second layout) (markSquare layout) work₀ work
 
 abbrev μ-loop : tie.MeasureT-loop
-μ-loop signature first second edges fillers work₀ hints₀ pending₀ layout dealt₀ work hints pending dealt = 16384 - dealt
+μ-loop signature first second work₀ under below waiting₀ layout edges partners₀ left₀ work waiting partners left = left
+
+list-fillers-requires : tie.Need-list-fillers-requires Inv-loop μ-loop
+list-fillers-requires c κs = (c .before .before .before .before .before .before .before .pre .0 .places .first-table .rows, omega (arith, c .before .before .before .before .before .before .before .pre .0 .few))
 
 loop-holds : tie.Need-loop-holds Inv-loop μ-loop
-loop-holds c = (search needs, refl, none)
+loop-holds c = (refl, c .before .before .before .before .before .before .before .before .pre .0, none)
+
+sub-left : tie.Need-sub-left Inv-loop μ-loop
+sub-left c = search needs
 
 take-requires : tie.Need-take-requires Inv-loop μ-loop
 take-requires c κs = search needs
 
-add-dealt : tie.Need-add-dealt Inv-loop μ-loop
-add-dealt c = search needs
-
 same-length : tie.Need-same-length Inv-loop μ-loop
-same-length c = search needs
+same-length c = c .before .before .before .before .before .loop .inv .0
 
 returns : tie.Need-returns Inv-loop μ-loop
-returns c = c .before .before .before .before .before .before .loop .inv .2
+returns c = c .before .before .before .before .before .loop .inv .2
 
 deal-requires : tie.Need-deal-requires Inv-loop μ-loop
-deal-requires c κs = (linked-stays (c .before .before .before .before .before .before .before .before .before .before .before .before .loop .inv .2) (c .before .before .before .before .before .before .before .before .before .before .before .before .before .before .before .before .before .before .before .pre), (c .before .before .before .before .before .before .if1 .left, c .before .before .before .if2 .taken))
+deal-requires c κs = (c .before .before .before .before .before .before .before .before .before .loop .inv .1, (c .before .before .before .before .before .before .before .before .before .before .before .before .before .before .before .before .before .before .pre .1, omega (arith, c .before .before .before .before .if1 .left)))
 
 loop-less : tie.Need-loop-less Inv-loop μ-loop
 loop-less c = search needs
 
 loop-again : tie.Need-loop-again Inv-loop μ-loop
-loop-again c = (search needs, search needs, grows-further (c .before .before .before .before .before .before .before .before .before .before .before .before .before .before .before .loop .inv .2) (c .before .before .deal .ensures))
-
-loop-less-2 : tie.Need-loop-less-2 Inv-loop μ-loop
-loop-less-2 c = search needs
-
-loop-again-2 : tie.Need-loop-again-2 Inv-loop μ-loop
-loop-again-2 c = (search needs, search needs, c .before .before .before .before .before .before .before .before .before .loop .inv .2)
+loop-again c = (grows-frame (c .before .before .deal .ensures) .long ∙ c .before .before .before .before .before .before .before .before .before .before .before .before .loop .inv .0, setting-stays (c .before .before .deal .ensures) (c .before .before .before .before .before .before .before .before .before .before .before .before .loop .inv .1), grows-further (c .before .before .before .before .before .before .before .before .before .before .before .before .loop .inv .2) (c .before .before .deal .ensures))
 
 same-length-2 : tie.Need-same-length-2 Inv-loop μ-loop
-same-length-2 c = search needs
+same-length-2 c = c .before .loop .inv .0
 
 returns-2 : tie.Need-returns-2 Inv-loop μ-loop
 returns-2 c = c .before .loop .inv .2
@@ -63,15 +61,14 @@ deal-with-all-spec =
     (tie.spec
     Inv-loop
     μ-loop
+    list-fillers-requires
     loop-holds
+    sub-left
     take-requires
-    add-dealt
     same-length
     returns
     deal-requires
     loop-less
     loop-again
-    loop-less-2
-    loop-again-2
     same-length-2
     returns-2)

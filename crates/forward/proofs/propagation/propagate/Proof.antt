@@ -1,30 +1,53 @@
+use mathlib.Core.Path.{refl}
+use Rattle.marks.specs.Passes.{none}
+use Rattle.forward.proofs.Tested.{zeros-room, zeros-unmarked}
 use borrow.Author.Needs.{needs}
-use Rattle.marks.proofs.Passes.{grows-further}
-use Rattle.forward.proofs.Tested.{linked-stays, names-grow, above-grows}
 use Rattle.forward.proofs.propagation.propagate.Statement.{statement}
 use Rattle.forward.proofs.propagation.propagate.Tie as tie
 use Rattle.forward.proofs.propagation.propagate.Reads as reads
 use Rattle.forward.proofs.propagation.propagate.Lts as lts
-use Rattle.forward.proofs.beginnings.hand_all_down.Reads as hand-all-down-reads
-use Rattle.forward.proofs.beginnings.mark_names.Reads as mark-names-reads
-use Rattle.forward.proofs.propagation.lose_edges.Reads as lose-edges-reads
+use Rattle.forward.proofs.propagation.deal_with_all.Reads as deal-with-all-reads
+use Rattle.marks.proofs.turned.turn.Reads as turn-reads
+use Rattle.marks.proofs.waiting.take.Reads as take-reads
+use Rattle.marks.proofs.waiting.wait.Reads as wait-reads
 
-mark-names-requires : tie.Need-mark-names-requires
-mark-names-requires c κs = let p = c .before .before .before .before .before .before .before .pre .setting .places in (p .signature, (p .second, p .marks))
+take-requires : tie.Need-take-requires
+take-requires c κs = search needs
 
-hand-all-down-requires : tie.Need-hand-all-down-requires
-hand-all-down-requires c κs = let h = linked-stays (names-grow (c .before .before .before .mark-names .ensures)) (c .before .before .before .before .before .before .before .before .before .before .before .pre) in (h .setting .places .first, h .setting .places .marks)
+returns : tie.Need-returns
+returns c = none
 
-lose-edges-requires : tie.Need-lose-edges-requires
-lose-edges-requires c κs = linked-stays (above-grows (c .before .before .before .before .before .hand-all-down .ensures)) (linked-stays (names-grow (c .before .before .before .before .before .before .before .before .before .mark-names .ensures)) (c .before .before .before .before .before .before .before .before .before .before .before .before .before .before .before .before .before .pre))
+wait-requires : tie.Need-wait-requires
+wait-requires c κs = search needs
+
+slice-aggregate-turn : tie.Need-slice-aggregate-turn
+slice-aggregate-turn c = search needs
+
+turn-requires : tie.Need-turn-requires
+turn-requires c κs = ((c .before .before .before .before .before .before .before .before .before .before .before .before .before .pre .places .first, zeros-room (c .before .before .before .before .before .before .before .before .before .before .before .before .before .pre .few)), (refl, zeros-unmarked 2048))
+
+slice-aggregate-deal-with-all : tie.Need-slice-aggregate-deal-with-all
+slice-aggregate-deal-with-all c = search needs
+
+deal-with-all-requires : tie.Need-deal-with-all-requires
+deal-with-all-requires c κs = (c .before .before .before .before .before .before .before .before .before .before .before .before .before .before .before .before .before .before .pre, record { room = c .before .before .before .before .turn .ensures .1 })
 
 same-length : tie.Need-same-length
 same-length c = search needs
 
-returns : tie.Need-returns
-returns c = grows-further (names-grow (c .before .before .before .before .before .before .before .before .before .before .before .before .mark-names .ensures)) (grows-further (above-grows (c .before .before .before .before .before .before .before .before .hand-all-down .ensures)) (c .before .before .lose-edges .ensures))
+returns-2 : tie.Need-returns-2
+returns-2 c = c .before .before .deal-with-all .ensures
 
 pub propagate-spec : {M : Type 1} → statement M
 propagate-spec =
     tie.close
-    (tie.spec mark-names-requires hand-all-down-requires lose-edges-requires same-length returns)
+    (tie.spec
+    take-requires
+    returns
+    wait-requires
+    slice-aggregate-turn
+    turn-requires
+    slice-aggregate-deal-with-all
+    deal-with-all-requires
+    same-length
+    returns-2)

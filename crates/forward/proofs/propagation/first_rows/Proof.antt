@@ -1,0 +1,78 @@
+use native.Mathlib.Omega.{arith}
+use borrow.Author.Needs.{needs}
+use Prim.Native.Nat.{suc, _≤_, _-_}
+use mathlib.Core.Path.{_≡_, refl, _∙_}
+use lib.ListN.{length}
+use Rattle.marks.specs.Passes.{Grows, none}
+use Rattle.marks.proofs.Passes.{grows-frame, grows-further}
+use Rattle.layout.specs.Layouts.{markSquare}
+use Rattle.forward.specs.Rules.{Setting, Step}
+use Rattle.forward.proofs.Tested.{setting-stays}
+use Rattle.forward.proofs.propagation.first_rows.Statement.{statement}
+use Rattle.forward.proofs.propagation.first_rows.Tie as tie
+use Rattle.forward.proofs.propagation.first_rows.Reads as reads
+use Rattle.forward.proofs.propagation.first_rows.Lts as lts
+use Rattle.forward.proofs.propagation.first_row.Reads as first-row-reads
+use Rattle.marks.proofs.line.add.Reads as add-reads
+use Rattle.marks.proofs.order.at.Reads as at-reads
+
+abbrev Inv-loop : tie.InvT-loop
+Inv-loop signature first second work₀ below waiting₀ done₀ order layout near₀ k₀ work waiting done near k = (k ≤ suc (layout .names)) × ((length work ≡ length work₀) × (length done ≡ length done₀)) × Setting signature first second below layout work × Grows (Step signature first second layout) (markSquare layout) work₀ work
+
+abbrev μ-loop : tie.MeasureT-loop
+μ-loop signature first second work₀ below waiting₀ done₀ order layout near₀ k₀ work waiting done near k = suc (layout .names) - k
+
+loop-holds : tie.Need-loop-holds Inv-loop μ-loop
+loop-holds c = (omega arith, (refl, refl), c .before .before .before .before .before .before .pre .0, none)
+
+at-requires : tie.Need-at-requires Inv-loop μ-loop
+at-requires c κs = search needs
+
+add-k : tie.Need-add-k Inv-loop μ-loop
+add-k c = omega (arith, c .before .if1 .taken, c .before .before .before .before .before .before .before .before .before .before .pre .0 .few)
+
+first-row-requires : tie.Need-first-row-requires Inv-loop μ-loop
+first-row-requires c κs = (c .before .before .before .before .before .before .before .before .loop .inv .2, (record { inside = omega (arith, c .before .before .before .before .before .before .before .before .before .before .before .before .before .before .before .pre .1 .inside, c .before .before .before .before .before .before .before .before .loop .inv .1 .1) }, c .before .before .before .if2 .taken))
+
+add-requires : tie.Need-add-requires Inv-loop μ-loop
+add-requires c κs = record { inside = omega (arith, c .before .before .before .before .before .before .before .before .before .before .before .before .before .before .before .before .before .before .before .pre .1 .inside, c .before .before .before .before .before .before .before .before .before .before .before .before .loop .inv .1 .1, c .before .before .before .before .before .before .before .if2 .taken) }
+
+loop-less : tie.Need-loop-less Inv-loop μ-loop
+loop-less c = omega (arith, c .before .before .before .before .before .before .before .before .before .before .before .before .before .if1 .taken)
+
+loop-again : tie.Need-loop-again Inv-loop μ-loop
+loop-again c = (omega (arith, c .before .before .before .before .before .before .before .before .before .before .before .before .before .if1 .taken), (grows-frame (c .before .before .before .before .before .before .first-row .ensures) .long ∙ c .before .before .before .before .before .before .before .before .before .before .before .before .before .before .before .loop .inv .1 .0, c .before .done .given ∙ c .before .before .before .before .before .before .before .before .before .before .before .before .before .before .before .loop .inv .1 .1), setting-stays (c .before .before .before .before .before .before .first-row .ensures) (c .before .before .before .before .before .before .before .before .before .before .before .before .before .before .before .loop .inv .2), grows-further (c .before .before .before .before .before .before .before .before .before .before .before .before .before .before .before .loop .inv .3) (c .before .before .before .before .before .before .first-row .ensures))
+
+loop-less-2 : tie.Need-loop-less-2 Inv-loop μ-loop
+loop-less-2 c = omega (arith, c .before .before .before .if1 .taken)
+
+loop-again-2 : tie.Need-loop-again-2 Inv-loop μ-loop
+loop-again-2 c = (omega (arith, c .before .before .before .if1 .taken), c .before .before .before .before .before .loop .inv .1, c .before .before .before .before .before .loop .inv .2, c .before .before .before .before .before .loop .inv .3)
+
+same-length : tie.Need-same-length Inv-loop μ-loop
+same-length c = c .before .before .loop .inv .1 .0
+
+same-length-2 : tie.Need-same-length-2 Inv-loop μ-loop
+same-length-2 c = c .before .before .loop .inv .1 .1
+
+returns : tie.Need-returns Inv-loop μ-loop
+returns c = c .before .before .loop .inv .3
+
+pub first-rows-spec : {M : Type 1} → statement M
+first-rows-spec =
+    tie.close
+    (tie.spec
+    Inv-loop
+    μ-loop
+    loop-holds
+    at-requires
+    add-k
+    first-row-requires
+    add-requires
+    loop-less
+    loop-again
+    loop-less-2
+    loop-again-2
+    same-length
+    same-length-2
+    returns)
