@@ -29,7 +29,7 @@ use Rattle.layout.specs.Layouts.{firstSquare, secondSquare, markSquare, chosen}
 use Rattle.layout.specs.Searches.{SomeBelow, EachBelow}
 use Rattle.layout.specs.Comparing.{Comparing}
 use Rattle.layout.proofs.Comparing.{chosen-below}
-use Rattle.backward.specs.Rules.{PlainColumn, ColumnPart, RowPart, Filled, PartnerLost, of-filler, of-nothing, RoleLost, Defined, by-part, by-top, by-parts, by-role, Own, by-definition, by-name, Quiet}
+use Rattle.backward.specs.Rules.{PlainColumn, ColumnPart, RowPart, Filled, PartnerLost, of-filler, of-nothing, RoleLost, RowLost, by-top, by-parts, by-role, Defined, by-part, by-row, Own, by-definition, by-name, Quiet}
 use Rattle.backward.specs.Backward.{columnAt}
 use Rattle.backward.proofs.Columns.{column-last, column-name, last-or-name, named-column, by-column, saysColumn, said-column, column-marked}
 use Rattle.backward.proofs.Defined.{joins-2, found-2, found-4, not-joined, not-2, plain-node-at, fills-filled, filled-by}
@@ -87,20 +87,24 @@ module _ {g s t a b : List ℕ} {l : Layout} {w : List ℕ} (c : Comparing g s t
 
   -- definitions are the rule
   module _ {x y : ℕ} (x-in : x ≤ n) (y-in : y ≤ n) where
-    pub step-backward : Defined g s t a b l v x y → Rule (nodeAt n x) (columnAt n y)
-    step-backward (by-part h e p) =
-        let f = found-2 (c .second-release) (c .second-names) y h e in
-        let d = defined-conjunction f e in
-        of-part (f .member) (ap (λ z. node (named z)) (f .left) ∙ sym (column-name n y h)) (record { is-defined = d .1; is-conjunction = d .0 }) (part-in f (d .0) (p .it) (p .below)) (said (nodeAt n x) (named (partAt t b y (p .it))) (number-at n x x-in) refl (p .holds .marked))
-    step-backward (by-top plain e) = of-everything (plain-there y-in plain) (at-top n x e)
-    step-backward (by-parts plain h e p) =
+    row-backward : PlainColumn b n y → RowLost g s a b l v x y → Rule (nodeAt n x) (columnAt n y)
+    row-backward plain (by-top e) = of-everything (plain-there y-in plain) (at-top n x e)
+    row-backward plain (by-parts h e p) =
         let f = found-2 (c .first-release) (c .first-names) x h e in
         let d = defined-conjunction f e in
         of-parts (plain-there y-in plain) (f .member) (name-is f h) (record { is-defined = d .1; is-conjunction = d .0 }) (record { at = λ z z-in. let q = part-at f (d .0) z-in in said-column (named z) refl y-in (rw (q .is) at (p .at (q .at) (q .inside) .marked)) })
-    step-backward (by-role plain h e p) =
+    row-backward plain (by-role h e p) =
         let f = found-4 (c .first-release) (c .first-names) x h e in
         let d = defined-restriction f e in
         of-role (plain-there y-in plain) (plain-node-at (c .first-release) (c .first-names) h (λ z. omega arith)) (f .member) (name-is f h) (record { is-defined = d .1; is-restriction = d .0; role = refl }) (rw (← role-is f (d .0)) (p .chosen-role)) (partner-there f (d .0) y-in (p .partner) (partner-is (axiomsOf t) (roleOf (f .it)) (columnAt n y)))
+
+    pub step-backward : Defined g s t a b l v x y → Rule (nodeAt n x) (columnAt n y)
+    step-backward (by-row p) = row-backward (p .plain) (p .row)
+    step-backward (by-part o) =
+        let p = o .part in
+        let f = found-2 (c .second-release) (c .second-names) y (o .is-name) (o .kind) in
+        let d = defined-conjunction f (o .kind) in
+        of-part (f .member) (ap (λ z. node (named z)) (f .left) ∙ sym (column-name n y (o .is-name))) (record { is-defined = d .1; is-conjunction = d .0 }) (part-in f (d .0) (p .it) (p .below)) (said (nodeAt n x) (named (partAt t b y (p .it))) (number-at n x x-in) refl (p .holds .marked))
 
   -- and back
   said-filler : (p q : Node) {x y : ℕ} → nodeNumber n p ≡ x → nodeNumber n q ≡ y → IsNode n q → saysColumn (markSquare l) v p (node q) ≡ true → (y < n) × Marked (markSquare l) v x y
@@ -132,8 +136,11 @@ module _ {g s t a b : List ℕ} {l : Layout} {w : List ℕ} (c : Comparing g s t
       marked-by : Defined g s t a b l v (nodeNumber n x) y → saysColumn (markSquare l) v x (columnAt n y) ≡ true
       marked-by step = said-column x refl y-in (at-cell (number-small n x x-in) (by-definition step))
 
+      marked-row : el.PlainColumn (axiomsOf t) (columnAt n y) → RowLost g s a b l v (nodeNumber n x) y → saysColumn (markSquare l) v x (columnAt n y) ≡ true
+      marked-row plain lost = marked-by (by-row (record { plain = plain-back plain; row = lost }))
+
       marked-above : {d : ℕ} → d < n → Own g s t a b l v d y → Marked (firstSquare l) v d (nodeNumber n x) → saysColumn (markSquare l) v x (columnAt n y) ≡ true
-      marked-above {d} d-in own-step below-x = said-column x refl y-in (quiet .handed .at d (omega arith) .rows .at (nodeNumber n x) (omega (arith, number-small n x x-in)) .within below-x .marked y y-in (at-cell (omega arith) own-step))
+      marked-above {d} d-in own-step below-x = said-column x refl y-in (quiet .handed .at d (omega arith) .each (nodeNumber n x) (number-small n x x-in) below-x .marked y y-in (at-cell (omega arith) own-step))
 
       cell-closed : Rule x (columnAt n y) → saysColumn (markSquare l) v x (columnAt n y) ≡ true
       cell-closed (of-part {b = d} {z = z} d-in e joins z-in m) =
@@ -141,19 +148,19 @@ module _ {g s t a b : List ℕ} {l : Layout} {w : List ℕ} (c : Comparing g s t
           let f = own (c .second-release) (c .second-names) d-in in
           let q = part-at f (joins .is-conjunction) z-in in
           let some : SomeBelow (ColumnPart t b l v (nodeNumber n x) (d .left)) (countAt t b (d .left)) = record { it = q .at; below = q .inside; holds = record { marked = rw (q .is) (marked x (named z) refl refl m) } } in
-          marked-by (by-part (p .0) (rw (← p .1) (joins-2 (c .second-release) (c .second-names) d-in joins)) (rw (p .1) at some))
-      cell-closed (of-everything plain e) = marked-by (by-top (plain-back plain) (ap (nodeNumber n) e))
+          marked-by (by-part (record { is-name = p .0; kind = rw (← p .1) (joins-2 (c .second-release) (c .second-names) d-in joins); part = rw (p .1) at some }))
+      cell-closed (of-everything plain e) = marked-row plain (by-top (ap (nodeNumber n) e))
       cell-closed (of-parts {a = o} plain o-in e joins every) =
           let f = own (c .first-release) (c .first-names) o-in in
           let each : EachBelow (RowPart s a l v (o .left) y) (countAt s a (o .left)) = record { at = λ i h. record { marked = column-marked (named (partAt s a (o .left) i)) refl y-in (every .at (partAt s a (o .left) i) (part-in f (joins .is-conjunction) i h)) } } in
-          marked-by (rw (← e) (by-parts (plain-back plain) (formed (c .first-release) (c .first-names) .left-in o-in) (joins-2 (c .first-release) (c .first-names) o-in joins) each))
+          marked-row plain (rw (← e) (by-parts (formed (c .first-release) (c .first-names) .left-in o-in) (joins-2 (c .first-release) (c .first-names) o-in joins) each))
       cell-closed (of-name {b = d} plain x-plain over below-x not-below) = marked-above (chosen-below l g d over) (by-name (record { chosen-name = over; not-second = under-not y-in not-below })) (marked (named d) x refl refl below-x)
       cell-closed (of-role {a = o} {r = r} plain x-plain o-in e fills over m) =
           let f = own (c .first-release) (c .first-names) o-in in
           let h = fills-filled (c .first-release) (c .first-names) o-in fills in
           let p = partner-back o-in (fills .is-restriction) y-in (partner-is (axiomsOf t) r (columnAt n y)) m in
           let lost : RoleLost g a b l v (o .left) y = record { chosen-role = rw (h .role) over; partner = rw (h .role, ← filler-is f (fills .is-restriction)) p } in
-          marked-by (rw (← e) (by-role (plain-back plain) (h .is-name) (h .kind) lost))
+          marked-row plain (rw (← e) (by-role (h .is-name) (h .kind) lost))
 
     not-at-top : Rule x (node everything) → ⊥
     not-at-top (of-part d-in e joins z-in m) = let z : _≡_ {A = ℕ} 0 1 = cc in omega arith

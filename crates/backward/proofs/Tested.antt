@@ -2,41 +2,49 @@
 --   has-count, has-part, part-small         the conjuncts of a conjunction can be read
 --   column-part, row-part, ..               a conjunct that is marked, or is not
 --   role-filler, role-top, role-nothing     the fillers of two restrictions
---   part-step, top-step, ..                 which definition it is that allows a mark;  own-step: a definition, where no name does
---   cell-marked, cell-put, cell-none        a pair looked at
---   byte-near, byte-inside, byte-none       the byte of eight rows, and what it shows;  handed-skip: none of them is above
---   handed-pass, handed-none, handed-grows  the marks of a row handed on to another one
---   setting, named, squares                 what the functions ask is there
---   setting-stays, named-stays, ..          what is asked holds after marks are put, too
+--   top-step, parts-step, ..                which definition it is that allows a mark;  own-step: a definition, where no name does
+--   cell-marked, cell-put, cell-none        a pair looked at;  marked-cells: pairs that need no look
+--   no-rule-row, not-joined-column          a row or a column that needs no look
+--   missing-grows, name-row                 the columns that a line has not, which has what lies above a name
+--   over-grows                              a restriction over another one
+--   setting, rows, named, squares           what the functions ask is there;  setting-stays, ..: after marks are put, too
+--   given-below, handed-below               the marks of a row handed on
 --   below-grows, name-grows                 growth by what lies below, or by names, is growth by the rules
+--   Looked, looked, looked-end              the row and the column of a name looked at, and those of all
 --   quiet-changed, quiet-unchanged          a pass over the pairs and one that hands marks on
-use mathlib.Core.Path.{_≡_, refl, ap, _∙_}
-use mathlib.Core.Bool.{Bool, true, false}
+use mathlib.Core.Path.{_≡_, refl}
+use mathlib.Core.Bool.{Bool, true, false, _||_}
 use mathlib.Core.List.{List}
 use mathlib.Core.Logic.{inl, inr}
-use Prim.Native.Nat.{ℕ, suc, _+_, _*_, _/_, _%_, _≤_, _<_}
+use Prim.Native.Nat.{ℕ, suc, _≤_, _<_}
 use native.Mathlib.Omega.{arith}
 use native.Mathlib.Decide.{decLt}
-use lib.ListN.{length, getD}
 use Rattle.el.proofs.Tests.{Tells, tells-as, always, not-both}
-use Rattle.release.specs.Files.{restricts}
-use Rattle.release.specs.Tables.{kindAt, roleAt, fillerAt, countAt, partAt, HasCount, HasPart, Shaped, Conjunctive}
+use Rattle.release.specs.Files.{restricts, joins}
+use Rattle.release.specs.Tables.{kindAt, roleAt, fillerAt, countAt, partAt, HasRow, HasCount, HasPart, Shaped, Conjunctive}
 use Rattle.release.proofs.DefinedParts as parts
-use Rattle.marks.specs.declared.Square.{Square}
-use Rattle.marks.specs.Squares.{NextUnmarked, width, place, mostCells, farthest, Marked, Put, Within}
+use Rattle.release.proofs.Checks.{header-sound}
+use Rattle.release.proofs.Linked.{no-header-fault}
+use Rattle.marks.specs.Squares.{NextUnmarked, Marked, Put}
 use Rattle.marks.specs.Passes.{Grows, Pass, Below, FromRow}
-use Rattle.marks.proofs.Squares.{refuted, product-small, place-below, frame-room, frame-marked, zero-unmarked}
-use Rattle.marks.proofs.Passes.{grows-frame, grows-as, pass-none, pass-as, pass-changed, pass-unchanged, put-pass}
+use Rattle.marks.specs.Lines.{Empty, Joined, Missing, Full}
+use Rattle.marks.specs.Inclusions.{Giving, Gives}
+use Rattle.marks.proofs.Squares.{not-true, frame-room, marked-frame}
+use Rattle.marks.proofs.Passes.{grows-frame, grows-as, marks-stay, grows-further, pass-none, pass-as, pass-by, pass-both, put-pass, put-grows}
+use Rattle.marks.proofs.Handing.{stays-anywhere}
 use Rattle.layout.specs.declared.Layout.{Layout}
 use Rattle.layout.specs.Searches.{SomeBelow, EachBelow}
 use Rattle.layout.specs.Layouts.{firstSquare, secondSquare, markSquare, chosen}
 use Rattle.layout.specs.Comparing.{Comparing}
 use Rattle.layout.proofs.Layouts as layout
 use Rattle.layout.proofs.Comparing as comparing
-use Rattle.backward.specs.Rules.{Setting, Named, Squares, PlainColumn, ColumnPart, RowPart, NameLost, Filled, PartnerLost, of-filler, of-nothing, RoleLost, Defined, by-part, by-top, by-parts, by-role, Own, by-definition, by-name, FromBelow, NoneAbove, Step, by-own, by-below, Cell, Row, Handed, HandedOn, Quiet}
+use Rattle.backward.specs.Rules.{Setting, Rows, Named, Squares, PlainColumn, ColumnPart, RowPart, NameLost, Filled, PartnerLost, of-filler, of-nothing, RoleLost, NoRule, PartLost, RowLost, by-top, by-parts, by-role, PlainLost, Defined, by-part, by-row, Own, by-definition, by-name, Over, FromBelow, Step, by-own, by-below, Cell, Row, Column, Quiet}
 
 pub restricted : (t : List ℕ) (x : ℕ) → kindAt t x ≡ 4 → restricts (kindAt t x) ≡ true
 restricted t x e = rw e refl
+
+pub shaped-row : {n : ℕ} {s t : List ℕ} {x : ℕ} → Shaped n s t → x < n → HasRow t x
+shaped-row h l = record { row = omega (arith, h .rows) }
 
 -- conjuncts
 module _ {n : ℕ} {s t : List ℕ} {x : ℕ} (shaped : Shaped n s t) (x-in : x < n) (kind : kindAt t x ≡ 2) where
@@ -96,43 +104,53 @@ pub role-not-chosen : {g a b : List ℕ} {l : Layout} {w : List ℕ} {x y r : �
 role-not-chosen e k p = not-both (rw e (p .chosen-role)) k
 
 -- definitions
+module _ {g s a b : List ℕ} {l : Layout} {w : List ℕ} {x y : ℕ} where
+  pub top-step : x ≤ l .names → l .names ≤ x → Tells true (RowLost g s a b l w x y)
+  top-step h k = always (by-top (omega arith))
+
+  pub parts-step : {q : Bool} → x < l .names → kindAt a x ≡ 2 → Tells q (EachBelow (RowPart s a l w x y) (countAt s a x)) → Tells q (RowLost g s a b l w x y)
+  parts-step h e = tells-as (λ p. by-parts h e p) back
+    where
+      back : RowLost g s a b l w x y → EachBelow (RowPart s a l w x y) (countAt s a x)
+      back (by-top d) = absurd (omega arith)
+      back (by-parts d i p) = p
+      back (by-role d i p) = absurd (omega arith)
+
+  pub role-step : {q : Bool} → x < l .names → kindAt a x ≡ 4 → Tells q (RoleLost g a b l w x y) → Tells q (RowLost g s a b l w x y)
+  role-step h e = tells-as (λ p. by-role h e p) back
+    where
+      back : RowLost g s a b l w x y → RoleLost g a b l w x y
+      back (by-top d) = absurd (omega arith)
+      back (by-parts d i p) = absurd (omega arith)
+      back (by-role d i p) = p
+
+  pub none-step : x < l .names → (kindAt a x ≡ 2 → ⊥) → (kindAt a x ≡ 4 → ⊥) → RowLost g s a b l w x y → ⊥
+  none-step h k e (by-top d) = omega arith
+  none-step h k e (by-parts d i p) = k i
+  none-step h k e (by-role d i p) = e i
+
+  no-rule : NoRule g a l x → RowLost g s a b l w x y → ⊥
+  no-rule n (by-top d) = omega (arith, n .is-name)
+  no-rule n (by-parts d i p) = n .not-joined i
+  no-rule n (by-role d i p) = not-both (p .chosen-role) (n .not-chosen i)
+
+  pub no-rule-row : NoRule g a l x → Cell (PlainLost g s a b l) l x y w
+  no-rule-row n = record { marked = λ p. absurd (no-rule n (p .row)) }
+
 module _ {g s t a b : List ℕ} {l : Layout} {w : List ℕ} {x y : ℕ} where
   pub part-step : {q : Bool} → y < l .names → kindAt b y ≡ 2 → Tells q (SomeBelow (ColumnPart t b l w x y) (countAt t b y)) → Tells q (Defined g s t a b l w x y)
-  part-step h e = tells-as (λ p. by-part h e p) back
+  part-step h e = tells-as (λ p. by-part (record { is-name = h; kind = e; part = p })) back
     where
       back : Defined g s t a b l w x y → SomeBelow (ColumnPart t b l w x y) (countAt t b y)
-      back (by-part c d p) = p
-      back (by-top c d) = absurd (c .not-joined h e)
-      back (by-parts c d i p) = absurd (c .not-joined h e)
-      back (by-role c d i p) = absurd (c .not-joined h e)
+      back (by-part p) = p .part
+      back (by-row p) = absurd (p .plain .not-joined h e)
 
-  module _ (plain : PlainColumn b (l .names) y) where
-    pub top-step : x ≤ l .names → l .names ≤ x → Tells true (Defined g s t a b l w x y)
-    top-step h k = always (by-top plain (omega arith))
-
-    pub parts-step : {q : Bool} → x < l .names → kindAt a x ≡ 2 → Tells q (EachBelow (RowPart s a l w x y) (countAt s a x)) → Tells q (Defined g s t a b l w x y)
-    parts-step h e = tells-as (λ p. by-parts plain h e p) back
-      where
-        back : Defined g s t a b l w x y → EachBelow (RowPart s a l w x y) (countAt s a x)
-        back (by-part c d p) = absurd (plain .not-joined c d)
-        back (by-top c d) = absurd (omega arith)
-        back (by-parts c d i p) = p
-        back (by-role c d i p) = absurd (omega arith)
-
-    pub role-step : {q : Bool} → x < l .names → kindAt a x ≡ 4 → Tells q (RoleLost g a b l w x y) → Tells q (Defined g s t a b l w x y)
-    role-step h e = tells-as (λ p. by-role plain h e p) back
-      where
-        back : Defined g s t a b l w x y → RoleLost g a b l w x y
-        back (by-part c d p) = absurd (plain .not-joined c d)
-        back (by-top c d) = absurd (omega arith)
-        back (by-parts c d i p) = absurd (omega arith)
-        back (by-role c d i p) = p
-
-    pub none-step : x < l .names → (kindAt a x ≡ 2 → ⊥) → (kindAt a x ≡ 4 → ⊥) → Defined g s t a b l w x y → ⊥
-    none-step h k e (by-part c d p) = plain .not-joined c d
-    none-step h k e (by-top c d) = omega arith
-    none-step h k e (by-parts c d i p) = k i
-    none-step h k e (by-role c d i p) = e i
+  pub row-step : {q : Bool} → PlainColumn b (l .names) y → Tells q (RowLost g s a b l w x y) → Tells q (Defined g s t a b l w x y)
+  row-step plain = tells-as (λ p. by-row (record { plain = plain; row = p })) back
+    where
+      back : Defined g s t a b l w x y → RowLost g s a b l w x y
+      back (by-part p) = absurd (plain .not-joined (p .is-name) (p .kind))
+      back (by-row p) = p .row
 
   pub own-step : {q : Bool} → (NameLost g l w x y → ⊥) → Tells q (Defined g s t a b l w x y) → Tells q (Own g s t a b l w x y)
   own-step f = tells-as (λ p. by-definition p) back
@@ -142,72 +160,100 @@ module _ {g s t a b : List ℕ} {l : Layout} {w : List ℕ} {x y : ℕ} where
       back (by-name p) = absurd (f p)
 
 -- a pair
-module _ {g s t a b : List ℕ} {l : Layout} {w : List ℕ} {x y : ℕ} where
-  pub cell-marked : Marked (markSquare l) w x y → Pass (Step g s t a b l) (markSquare l) (Cell g s t a b l x y) w w false
+module _ {Rule : List ℕ → ℕ → ℕ → Type 0} {l : Layout} {w : List ℕ} {x y : ℕ} where
+  pub cell-marked : Marked (markSquare l) w x y → Pass Rule (markSquare l) (Cell Rule l x y) w w false
   cell-marked m = pass-none (record { marked = λ p. m })
 
-  pub cell-none : (Own g s t a b l w x y → ⊥) → Pass (Step g s t a b l) (markSquare l) (Cell g s t a b l x y) w w false
+  pub cell-none : (Rule w x y → ⊥) → Pass Rule (markSquare l) (Cell Rule l x y) w w false
   cell-none f = pass-none (record { marked = λ p. absurd (f p) })
 
-  pub cell-put : {v : List ℕ} {r : Bool} → Own g s t a b l w x y → Put (markSquare l) x y w v r → Pass (Step g s t a b l) (markSquare l) (Cell g s t a b l x y) w v r
-  cell-put e p = pass-as (λ m. record { marked = λ q. m }) (put-pass p (by-own e))
+  pub cell-put : {v : List ℕ} {r : Bool} → Rule w x y → Put (markSquare l) x y w v r → Pass Rule (markSquare l) (Cell Rule l x y) w v r
+  cell-put e p = pass-as (λ m. record { marked = λ q. m }) (put-pass p e)
+
+pub marked-cells : {Rule : List ℕ → ℕ → ℕ → Type 0} {l : Layout} {w : List ℕ} {x k r : ℕ} → NextUnmarked (markSquare l) w x k r → (i : ℕ) → k ≤ i → i < r → Cell Rule l x i w
+marked-cells n i h j = record { marked = λ o. n .all i h j }
+
+pub not-joined-column : {t b : List ℕ} {l : Layout} {w : List ℕ} {y : ℕ} → (kindAt b y ≡ 2 → ⊥) → Column (PartLost t b l) l y w
+not-joined-column f = record { cells = record { at = λ x h. record { marked = λ p. absurd (f (p .kind)) } } }
+
+-- names
+module _ {g : List ℕ} {l : Layout} {w : List ℕ} {x : ℕ} {i k : List ℕ} (h : Named g l w) (x-in : x ≤ l .names) (has : chosen l g .has-name x ≡ true) (empty : Empty i) (row : Joined (secondSquare l) w x i k) where
+  missing-lost : (u : List ℕ) (z y : ℕ) → Grows (Missing k x) (markSquare l) w u → z ≤ l .names → y ≤ l .names → Missing k x u z y → NameLost g l u z y
+  missing-lost u z y grows z-in y-in m = record { chosen-name = rw (m .row) has; not-second = inr (λ j. m .not-there (row .has y y-in (marked-frame (grows-frame grows) (inl (h .apart)) x-in y-in (rw (m .row) at j)))) }
+
+  pub missing-grows : {v : List ℕ} → Grows (Missing k x) (markSquare l) w v → Grows (NameLost g l) (markSquare l) w v
+  missing-grows grows = grows-as missing-lost grows
+
+  nothing-lost : {u : List ℕ} → NameLost g l u x (l .names)
+  nothing-lost = record { chosen-name = has; not-second = inl refl }
+
+  pub name-row : {u v : List ℕ} {r o : Bool} → Pass (Missing k x) (markSquare l) (Full (markSquare l) k x) w u r → Put (markSquare l) x (l .names) u v o → Pass (NameLost g l) (markSquare l) (Row (NameLost g l) l x) w v (r || o)
+  name-row {u} {v} full put = pass-both done (pass-by missing-lost full) (put-pass put nothing-lost)
+    where
+      grown : Grows (NameLost g l) (markSquare l) w v
+      grown = grows-further (missing-grows (full .grows)) (put-grows put nothing-lost)
+
+      done : Full (markSquare l) k x v → Marked (markSquare l) v x (l .names) → Row (NameLost g l) l x v
+      done f m = record {
+        cells = record {
+          at = λ y y-in. record {
+            marked = λ p. elim (p .not-second) [
+              | inl e ↦ rw e m
+              | inr j ↦ f .marked y (omega arith) (λ q. elim (row .only y (omega arith) q) [ inl z ↦ empty .none y z | inr z ↦ j (stays-anywhere grown z) ])
+            ];
+          };
+        };
+      }
+
+-- a restriction over another one
+module _ {g s t a b : List ℕ} {l : Layout} {w : List ℕ} {x y z : ℕ} (x-in : x < l .names) (kind : kindAt a x ≡ 4) (filler : fillerAt a x ≡ z) (has : chosen l g .has-role (roleAt a x) ≡ true) (y-in : y < l .names) (m : Marked (markSquare l) w z y) where
+  over-lost : (u : List ℕ) (p c : ℕ) → Grows (Over a b l x y) (markSquare l) w u → p ≤ l .names → c ≤ l .names → Over a b l x y u p c → Step g s t a b l u p c
+  over-lost u p c grows p-in c-in o =
+      let lost : PartnerLost b l u c (roleAt a x) z = of-filler (o .filled) (omega (arith, o .filler)) (rw (o .filler) (marks-stay grows m)) in
+      rw (o .row) (by-own (by-definition (by-row (record {
+        plain = record { not-joined = λ h e. omega (arith, o .filled .kind) };
+        row = by-role x-in kind (record { chosen-role = has; partner = rw filler lost });
+      }))))
+
+  pub over-grows : {v : List ℕ} → Grows (Over a b l x y) (markSquare l) w v → Grows (Step g s t a b l) (markSquare l) w v
+  over-grows grows = grows-as over-lost grows
 
 -- what is asked
 pub setting : {g s t a b : List ℕ} {l : Layout} {w : List ℕ} → Comparing g s t a b l w → Setting g s t a b l w
-setting c = record { places = comparing.setting c; first-shaped = comparing.first-shaped c; second-shaped = comparing.second-shaped c; first-apart = c .first-apart }
+setting {s = s} c = record { places = comparing.setting c; first-shaped = comparing.first-shaped c; second-shaped = comparing.second-shaped c; second-apart = c .second-apart; few = omega (arith, c .first-names, header-sound s (no-header-fault s (c .first-release .accepted)) .names) }
 
-pub setting-stays : {Rule : List ℕ → ℕ → ℕ → Type 0} {g s t a b : List ℕ} {l : Layout} {w v : List ℕ} → Grows Rule (markSquare l) w v → Setting g s t a b l w → Setting g s t a b l v
-setting-stays grows h = record { places = layout.setting-stays grows (h .places); first-shaped = h .first-shaped; second-shaped = h .second-shaped; first-apart = h .first-apart }
+module _ {g s t a b : List ℕ} {l : Layout} {w : List ℕ} (h : Setting g s t a b l w) where
+  pub rows : Rows g s a b l w
+  rows = record { places = h .places; shaped = h .first-shaped }
 
-pub squares-stay : {Rule : List ℕ → ℕ → ℕ → Type 0} {l : Layout} {w v : List ℕ} → Grows Rule (markSquare l) w v → Squares l w → Squares l v
-squares-stay grows h = let f = grows-frame grows in record { first = frame-room f (h .first); marks = frame-room f (h .marks); apart = h .apart }
+  pub named : Named g l w
+  named = record { signature = h .places .signature; second = h .places .second; marks = h .places .marks; apart = h .second-apart; few = h .few }
 
-pub named-stays : {Rule : List ℕ → ℕ → ℕ → Type 0} {g : List ℕ} {l : Layout} {w v : List ℕ} → Grows Rule (markSquare l) w v → Named g l w → Named g l v
-named-stays grows h = let f = grows-frame grows in record { signature = h .signature; second = frame-room f (h .second); marks = frame-room f (h .marks) }
+  pub squares : Squares l w
+  squares = record { first = h .places .first; marks = h .places .marks; few = h .few }
 
-pub named : {g s t a b : List ℕ} {l : Layout} {w : List ℕ} → Setting g s t a b l w → Named g l w
-named h = record { signature = h .places .signature; second = h .places .second; marks = h .places .marks }
+module _ {Rule : List ℕ → ℕ → ℕ → Type 0} {l : Layout} {w v : List ℕ} (grows : Grows Rule (markSquare l) w v) where
+  pub setting-stays : {g s t a b : List ℕ} → Setting g s t a b l w → Setting g s t a b l v
+  setting-stays h = record { places = layout.setting-stays grows (h .places); first-shaped = h .first-shaped; second-shaped = h .second-shaped; second-apart = h .second-apart; few = h .few }
 
-pub squares : {g s t a b : List ℕ} {l : Layout} {w : List ℕ} → Setting g s t a b l w → Squares l w
-squares h = record { first = h .places .first; marks = h .places .marks; apart = h .first-apart }
+  pub rows-stay : {g s a b : List ℕ} → Rows g s a b l w → Rows g s a b l v
+  rows-stay h = record { places = layout.setting-stays grows (h .places); shaped = h .shaped }
 
--- the byte of eight rows
-row-bytes : {l : Layout} {w : List ℕ} {x : ℕ} → Squares l w → x ≤ l .names → x * (l .names / 8 + 1) ≤ mostCells
-row-bytes h x-in = product-small (omega (arith, h .first .small .few)) (omega (arith, h .first .small .few))
+  pub named-stays : {g : List ℕ} → Named g l w → Named g l v
+  named-stays h = let f = grows-frame grows in record { signature = h .signature; second = frame-room f (h .second); marks = frame-room f (h .marks); apart = h .apart; few = h .few }
 
-place-at : (q : Square) (x z k : ℕ) → z / 8 ≡ k → place q x z ≡ q .base + (x * (q .names / 8 + 1) + k)
-unfolding place width
-place-at q x z k e = rw e
-
-pub byte-near : {l : Layout} {w : List ℕ} {x r : ℕ} → Squares l w → x ≤ l .names → r ≤ l .names → (x * (l .names / 8 + 1) + r / 8 ≤ 2 * mostCells) × (l .first ≤ farthest)
-byte-near h x-in r-in = (omega (arith, row-bytes h x-in, h .first .small .few), h .first .small .near)
-
-pub byte-inside : {l : Layout} {w : List ℕ} {x r : ℕ} → Squares l w → x ≤ l .names → r ≤ l .names → l .first + (x * (l .names / 8 + 1) + r / 8) < length w
-byte-inside {l} {x = x} {r = r} h x-in r-in = omega (arith, place-at (firstSquare l) x r (r / 8) refl, place-below (firstSquare l) x r x-in r-in, h .first .fits)
-
-pub byte-none : {l : Layout} {w : List ℕ} {x r : ℕ} → r % 8 ≡ 0 → getD w (l .first + (x * (l .names / 8 + 1) + r / 8)) 0 ≡ 0 → NoneAbove l w x r
-byte-none {l} {w} {x} {r} e zero = record { none = λ z h k m. zero-unmarked (ap (λ (i : ℕ). getD w i 0) (place-at (firstSquare l) x z (r / 8) (omega arith)) ∙ zero) m }
-
-pub handed-skip : {l : Layout} {w : List ℕ} {c k : ℕ} → NoneAbove l w c k → Below (Handed l c) k w → Below (Handed l c) (k + 8) w
-handed-skip {l} {w} {c} {k} n b = record { at = λ i h. by-place i h (decLt i k) }
-  where
-    by-place : (i : ℕ) → i < k + 8 → Dec (i < k) → Handed l c i w
-    by-place i h (yes j) = b .at i j
-    by-place i h (no j) = record { within = λ m. absurd (n .none i (omega arith) h m) }
+  pub squares-stay : Squares l w → Squares l v
+  squares-stay h = let f = grows-frame grows in record { first = frame-room f (h .first); marks = frame-room f (h .marks); few = h .few }
 
 -- the marks of a row handed on
-module _ {l : Layout} {w : List ℕ} {c x : ℕ} (h : Squares l w) (c-in : c ≤ l .names) (x-in : x ≤ l .names) (m : Marked (firstSquare l) w c x) where
-  from-below : (u : List ℕ) (z y : ℕ) → Grows (FromRow (markSquare l) c x) (markSquare l) w u → z ≤ l .names → y ≤ l .names → FromRow (markSquare l) c x u z y → FromBelow l u z y
-  from-below u z y grows i j r = record { lower = c; small = c-in; first = rw (← r .row) at (frame-marked (grows-frame grows) (inl (h .apart)) c-in x-in m); marked = r .marked }
+pub given-below : {l : Layout} {w v : List ℕ} → Grows (Giving (firstSquare l) (markSquare l)) (markSquare l) w v → Grows (FromBelow l) (markSquare l) w v
+given-below grows = grows-as (λ u x y k i j r. record { lower = r .it; small = r .inside; first = r .below; marked = r .marked }) grows
 
-  pub handed-grows : {v : List ℕ} → Grows (FromRow (markSquare l) c x) (markSquare l) w v → Grows (FromBelow l) (markSquare l) w v
-  handed-grows grows = grows-as from-below grows
-
-  pub handed-pass : {v : List ℕ} {r : Bool} → Pass (FromRow (markSquare l) c x) (markSquare l) (Within (markSquare l) c x) w v r → Pass (FromBelow l) (markSquare l) (Handed l c x) w v r
-  handed-pass p = record { grows = handed-grows (p .grows); fewer = p .fewer; same = p .same; done = λ e. record { within = λ k. p .done e } }
-
-pub handed-none : {l : Layout} {w : List ℕ} {c x : ℕ} {r : Bool} → Tells r (Marked (firstSquare l) w c x) → r ≡ false → Handed l c x w
-handed-none t e = record { within = λ m. absurd (refuted t e m) }
+pub handed-below : {l : Layout} {w v : List ℕ} {c x : ℕ} → c ≤ l .names → Marked (firstSquare l) w c x → Grows (FromRow (markSquare l) c x) (markSquare l) w v → Grows (FromBelow l) (markSquare l) w v
+handed-below {l} {w} {c = c} {x = x} c-in m grows = grows-as below grows
+  where
+    below : (u : List ℕ) (z y : ℕ) → Grows (FromRow (markSquare l) c x) (markSquare l) w u → z ≤ l .names → y ≤ l .names → FromRow (markSquare l) c x u z y → FromBelow l u z y
+    below u z y grown i j r = record { lower = c; small = c-in; first = rw (r .row) (stays-anywhere grown m); marked = r .marked }
 
 -- by the rules
 module _ {g s t a b : List ℕ} {l : Layout} where
@@ -217,16 +263,42 @@ module _ {g s t a b : List ℕ} {l : Layout} where
   pub name-grows : {w v : List ℕ} → Grows (NameLost g l) (markSquare l) w v → Grows (Step g s t a b l) (markSquare l) w v
   name-grows grows = grows-as (λ u x y k i j r. by-own (by-name r)) grows
 
-  pass-below : {D : List ℕ → Type 0} {w v : List ℕ} {r : Bool} → Pass (FromBelow l) (markSquare l) D w v r → Pass (Step g s t a b l) (markSquare l) D w v r
-  pass-below p = record { grows = below-grows (p .grows); fewer = p .fewer; same = p .same; done = p .done }
+-- what a pass has looked at: for each name its row and its column, and the row of ⊤
+pub record Looked (g s t a b : List ℕ) (l : Layout) (x : ℕ) (w : List ℕ) : Type 0 where
+  pub row : Row (PlainLost g s a b l) l x w
+  pub name : Row (NameLost g l) l x w
+  pub column : Column (PartLost t b l) l x w
 
-  module _ {u w v : List ℕ} {r o : Bool} (rows : Pass (Step g s t a b l) (markSquare l) (Below (Row g s t a b l) (suc (l .names))) u w r) (handed : Pass (FromBelow l) (markSquare l) (Below (HandedOn l) (suc (l .names))) w v o) where
-    pub quiet-changed : o ≡ true → Pass (Step g s t a b l) (markSquare l) (Quiet g s t a b l) u v true
-    quiet-changed e = pass-changed rows (pass-below handed) e
+module _ {g s t a b : List ℕ} {l : Layout} where
+  by-plain : {D : List ℕ → Type 0} {w v : List ℕ} {r : Bool} → Pass (PlainLost g s a b l) (markSquare l) D w v r → Pass (Own g s t a b l) (markSquare l) D w v r
+  by-plain p = pass-by (λ u x y k i j o. by-definition (by-row o)) p
 
-    pub quiet-unchanged : o ≡ false → Pass (Step g s t a b l) (markSquare l) (Quiet g s t a b l) u v r
-    quiet-unchanged e = pass-unchanged (λ d f. record { rows = d; handed = f }) rows (pass-below handed) e
+  pub looked : {w v u z : List ℕ} {x : ℕ} {o p q : Bool} → Pass (PlainLost g s a b l) (markSquare l) (Row (PlainLost g s a b l) l x) w v o → Pass (NameLost g l) (markSquare l) (Row (NameLost g l) l x) v u p → Pass (PartLost t b l) (markSquare l) (Column (PartLost t b l) l x) u z q → Pass (Own g s t a b l) (markSquare l) (Looked g s t a b l x) w z (o || (p || q))
+  looked {v = v} {z = z} {x = x} {p = p} {q = q} row name column =
+      let both : Pass (Own g s t a b l) (markSquare l) (λ m. Row (NameLost g l) l x m × Column (PartLost t b l) l x m) v z (p || q) = pass-both (λ d e. (d, e)) (pass-by (λ m i j k h e o. by-name o) name) (pass-by (λ m i j k h e o. by-definition (by-part o)) column) in
+      pass-both (λ d e. record { row = d; name = e .0; column = e .1 }) (by-plain row) both
 
--- pairs that need no look, since they are marked
-pub marked-cells : {g s t a b : List ℕ} {l : Layout} {w : List ℕ} {x k r : ℕ} → NextUnmarked (markSquare l) w x k r → (i : ℕ) → k ≤ i → i < r → Cell g s t a b l x i w
-marked-cells n i h j = record { marked = λ o. n .all i h j }
+  module _ {k : ℕ} {w : List ℕ} (n : l .names ≤ k) (d : Below (Looked g s t a b l) k w) (top : Row (PlainLost g s a b l) l (l .names) w) where
+    all-marked : (x y : ℕ) → x ≤ l .names → y ≤ l .names → Own g s t a b l w x y → Marked (markSquare l) w x y
+    all-marked x y x-in y-in (by-name p) = d .at x (omega (arith, comparing.chosen-below l g x (p .chosen-name))) .name .cells .at y (omega arith) .marked p
+    all-marked x y x-in y-in (by-definition (by-part p)) = d .at y (omega (arith, p .is-name)) .column .cells .at x (omega arith) .marked p
+    all-marked x y x-in y-in (by-definition (by-row p)) = elim (decLt x (l .names)) [
+      | yes h ↦ d .at x (omega arith) .row .cells .at y (omega arith) .marked p
+      | no h ↦ (let e : x ≡ l .names = omega arith in rw e (top .cells .at y (omega arith) .marked (rw e at p)))
+    ]
+
+    all-looked : Below (Row (Own g s t a b l) l) (suc (l .names)) w
+    all-looked = record { at = λ x i. record { cells = record { at = λ y j. record { marked = λ o. all-marked x y (omega arith) (omega arith) o } } } }
+
+  pub looked-end : {u w v : List ℕ} {k : ℕ} {r o : Bool} → l .names ≤ k → Pass (Own g s t a b l) (markSquare l) (Below (Looked g s t a b l) k) u w r → Pass (PlainLost g s a b l) (markSquare l) (Row (PlainLost g s a b l) l (l .names)) w v o → Pass (Own g s t a b l) (markSquare l) (Below (Row (Own g s t a b l) l) (suc (l .names))) u v (r || o)
+  looked-end n p top = pass-both (all-looked n) p (by-plain top)
+
+  module _ {u w : List ℕ} {r : Bool} (pairs : Pass (Own g s t a b l) (markSquare l) (Below (Row (Own g s t a b l) l) (suc (l .names))) u w r) where
+    by-pairs : Pass (Step g s t a b l) (markSquare l) (Below (Row (Own g s t a b l) l) (suc (l .names))) u w r
+    by-pairs = pass-by (λ z x y k i j o. by-own o) pairs
+
+    pub quiet-changed : r ≡ true → Pass (Step g s t a b l) (markSquare l) (Quiet g s t a b l) u w true
+    quiet-changed e = record { grows = by-pairs .grows; fewer = λ k. pairs .fewer e; same = λ k. not-true k; done = λ k. not-true k }
+
+    pub quiet-unchanged : {v : List ℕ} {o : Bool} → r ≡ false → Pass (Giving (firstSquare l) (markSquare l)) (markSquare l) (Below (Gives (firstSquare l) (markSquare l)) (suc (l .names))) w v o → Pass (Step g s t a b l) (markSquare l) (Quiet g s t a b l) u v o
+    quiet-unchanged e given = pass-both (λ d f. record { rows = d; handed = f }) (rw e at by-pairs) (pass-by (λ z x y k i j o. by-below (record { lower = o .it; small = o .inside; first = o .below; marked = o .marked })) given)

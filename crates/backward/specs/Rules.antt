@@ -7,47 +7,58 @@
 --   Filled b n y r            y is defined by a restriction with the role r
 --   PartnerLost b l w y r z   z is marked with the filler of such a y, which is not ⊤; for another y, with nothing
 --   RoleLost g a b l w x y    so is the filler of x, and the role of x is in the signature
---   Defined g s t a b l w x y the definitions of x and y allow the mark x, y
+--   NoRule g a l x            the definition of x allows no mark: it has none, or one with a role that is not in the signature
+--   PartLost t b l w x y      y is a conjunction, and x is marked with one of its conjuncts
+--   RowLost g s a b l w x y   the definition of x allows the mark x, y;  PlainLost g s a b l w x y: and y is a plain column
+--   Defined g s t a b l w x y the definitions of x and y allow the mark x, y: one of the two
 --   Own g s t a b l w x y     they do, or x is such a name
+--   Over a b l x y w p z      p is x, and z has its role and the filler y
 --   FromBelow l w x y         something below x by the first release is marked with y
---   NoneAbove l w x r         none of the eight rows from r on lies above row x by the first release
 --   Step g s t a b l w x y    a rule allows the mark x, y
---   Cell g s t a b l x y w    nothing is left to mark there by definitions and names;  Row g s t a b l x w: in the row x
---   Handed l c x w            if c is below x by the first release, row x has the marks of row c;  HandedOn l c w: so for all x
+--   Cell R l x y w            the rule R leaves nothing to mark there;  Row R l x w: in the row x;  Column R l y w: in the column y
 --   Quiet g s t a b l w       nothing is left to mark
 -- Not here: what the rules mean (proofs/Meaning).
 use mathlib.Core.Path.{_≡_}
-use mathlib.Core.Bool.{true}
+use mathlib.Core.Bool.{true, false}
 use mathlib.Core.List.{List}
 use mathlib.Core.Logic.{_⊎_}
 use Prim.Native.Nat.{ℕ, suc, _+_, _≤_, _<_}
 use lib.ListN.{length}
 use Rattle.release.specs.Tables.{kindAt, roleAt, fillerAt, countAt, partAt, Shaped}
-use Rattle.marks.specs.Squares.{span, Room, Marked, Within}
+use Rattle.marks.specs.Squares.{span, Room, Marked}
 use Rattle.marks.specs.Passes.{Below}
+use Rattle.marks.specs.Inclusions.{Gives}
 use Rattle.layout.specs.declared.Layout.{Layout}
 use Rattle.layout.specs.Searches.{SomeBelow, EachBelow}
 use Rattle.layout.specs.Layouts as layout
 use Rattle.layout.specs.Layouts.{firstSquare, secondSquare, markSquare, chosen}
 
--- what the functions ask: all is in its place, conjuncts too, and marks change no inclusion of the first release
+-- what the functions ask: all is in its place, conjuncts too, and marks change no inclusion of the second release
 pub record Setting (g s t a b : List ℕ) (l : Layout) (w : List ℕ) : Type 0 where
   pub places : layout.Setting g a b l w
   pub first-shaped : Shaped (l .names) s a
   pub second-shaped : Shaped (l .names) t b
-  pub first-apart : l .first + span (l .names) ≤ l .marks
+  pub second-apart : l .second + span (l .names) ≤ l .marks
+  pub few : l .names ≤ 127
+
+-- what those ask that look at rows
+pub record Rows (g s a b : List ℕ) (l : Layout) (w : List ℕ) : Type 0 where
+  pub places : layout.Setting g a b l w
+  pub shaped : Shaped (l .names) s a
 
 -- what those ask that mark names
 pub record Named (g : List ℕ) (l : Layout) (w : List ℕ) : Type 0 where
   pub signature : l .names + l .roles ≤ length g
   pub second : Room (secondSquare l) w
   pub marks : Room (markSquare l) w
+  pub apart : l .second + span (l .names) ≤ l .marks
+  pub few : l .names ≤ 127
 
 -- what those ask that hand marks on
 pub record Squares (l : Layout) (w : List ℕ) : Type 0 where
   pub first : Room (firstSquare l) w
   pub marks : Room (markSquare l) w
-  pub apart : l .first + span (l .names) ≤ l .marks
+  pub few : l .names ≤ 127
 
 pub record PlainColumn (b : List ℕ) (n y : ℕ) : Type 0 where
   pub not-joined : y < n → kindAt b y ≡ 2 → ⊥
@@ -75,15 +86,37 @@ pub record RoleLost (g a b : List ℕ) (l : Layout) (w : List ℕ) (x y : ℕ) :
   pub chosen-role : chosen l g .has-role (roleAt a x) ≡ true
   pub partner : PartnerLost b l w y (roleAt a x) (fillerAt a x)
 
+pub record NoRule (g a : List ℕ) (l : Layout) (x : ℕ) : Type 0 where
+  pub is-name : x < l .names
+  pub not-joined : kindAt a x ≡ 2 → ⊥
+  pub not-chosen : kindAt a x ≡ 4 → chosen l g .has-role (roleAt a x) ≡ false
+
+pub record PartLost (t b : List ℕ) (l : Layout) (w : List ℕ) (x y : ℕ) : Type 0 where
+  pub is-name : y < l .names
+  pub kind : kindAt b y ≡ 2
+  pub part : SomeBelow (ColumnPart t b l w x y) (countAt t b y)
+
+pub data RowLost (g s a b : List ℕ) (l : Layout) (w : List ℕ) (x y : ℕ) : Type 0 where
+  by-top : x ≡ l .names → RowLost g s a b l w x y
+  by-parts : x < l .names → kindAt a x ≡ 2 → EachBelow (RowPart s a l w x y) (countAt s a x) → RowLost g s a b l w x y
+  by-role : x < l .names → kindAt a x ≡ 4 → RoleLost g a b l w x y → RowLost g s a b l w x y
+
+pub record PlainLost (g s a b : List ℕ) (l : Layout) (w : List ℕ) (x y : ℕ) : Type 0 where
+  pub plain : PlainColumn b (l .names) y
+  pub row : RowLost g s a b l w x y
+
 pub data Defined (g s t a b : List ℕ) (l : Layout) (w : List ℕ) (x y : ℕ) : Type 0 where
-  by-part : y < l .names → kindAt b y ≡ 2 → SomeBelow (ColumnPart t b l w x y) (countAt t b y) → Defined g s t a b l w x y
-  by-top : PlainColumn b (l .names) y → x ≡ l .names → Defined g s t a b l w x y
-  by-parts : PlainColumn b (l .names) y → x < l .names → kindAt a x ≡ 2 → EachBelow (RowPart s a l w x y) (countAt s a x) → Defined g s t a b l w x y
-  by-role : PlainColumn b (l .names) y → x < l .names → kindAt a x ≡ 4 → RoleLost g a b l w x y → Defined g s t a b l w x y
+  by-part : PartLost t b l w x y → Defined g s t a b l w x y
+  by-row : PlainLost g s a b l w x y → Defined g s t a b l w x y
 
 pub data Own (g s t a b : List ℕ) (l : Layout) (w : List ℕ) (x y : ℕ) : Type 0 where
   by-definition : Defined g s t a b l w x y → Own g s t a b l w x y
   by-name : NameLost g l w x y → Own g s t a b l w x y
+
+pub record Over (a b : List ℕ) (l : Layout) (x y : ℕ) (w : List ℕ) (p z : ℕ) : Type 0 where
+  pub row : p ≡ x
+  pub filled : Filled b (l .names) z (roleAt a x)
+  pub filler : fillerAt b z ≡ y
 
 pub record FromBelow (l : Layout) (w : List ℕ) (x y : ℕ) : Type 0 where
   pub lower : ℕ
@@ -91,25 +124,19 @@ pub record FromBelow (l : Layout) (w : List ℕ) (x y : ℕ) : Type 0 where
   pub first : Marked (firstSquare l) w lower x
   pub marked : Marked (markSquare l) w lower y
 
-pub record NoneAbove (l : Layout) (w : List ℕ) (x r : ℕ) : Type 0 where
-  pub none : (z : ℕ) → r ≤ z → z < r + 8 → Marked (firstSquare l) w x z → ⊥
-
 pub data Step (g s t a b : List ℕ) (l : Layout) (w : List ℕ) (x y : ℕ) : Type 0 where
   by-own : Own g s t a b l w x y → Step g s t a b l w x y
   by-below : FromBelow l w x y → Step g s t a b l w x y
 
-pub record Cell (g s t a b : List ℕ) (l : Layout) (x y : ℕ) (w : List ℕ) : Type 0 where
-  pub marked : Own g s t a b l w x y → Marked (markSquare l) w x y
+pub record Cell (Rule : List ℕ → ℕ → ℕ → Type 0) (l : Layout) (x y : ℕ) (w : List ℕ) : Type 0 where
+  pub marked : Rule w x y → Marked (markSquare l) w x y
 
-pub record Row (g s t a b : List ℕ) (l : Layout) (x : ℕ) (w : List ℕ) : Type 0 where
-  pub cells : Below (Cell g s t a b l x) (suc (l .names)) w
+pub record Row (Rule : List ℕ → ℕ → ℕ → Type 0) (l : Layout) (x : ℕ) (w : List ℕ) : Type 0 where
+  pub cells : Below (Cell Rule l x) (suc (l .names)) w
 
-pub record Handed (l : Layout) (c x : ℕ) (w : List ℕ) : Type 0 where
-  pub within : Marked (firstSquare l) w c x → Within (markSquare l) c x w
-
-pub record HandedOn (l : Layout) (c : ℕ) (w : List ℕ) : Type 0 where
-  pub rows : Below (Handed l c) (suc (l .names)) w
+pub record Column (Rule : List ℕ → ℕ → ℕ → Type 0) (l : Layout) (y : ℕ) (w : List ℕ) : Type 0 where
+  pub cells : Below (λ x. Cell Rule l x y) (suc (l .names)) w
 
 pub record Quiet (g s t a b : List ℕ) (l : Layout) (w : List ℕ) : Type 0 where
-  pub rows : Below (Row g s t a b l) (suc (l .names)) w
-  pub handed : Below (HandedOn l) (suc (l .names)) w
+  pub rows : Below (Row (Own g s t a b l) l) (suc (l .names)) w
+  pub handed : Below (Gives (firstSquare l) (markSquare l)) (suc (l .names)) w

@@ -1,21 +1,30 @@
-// What a new mark gives: marks put at the pairs that depend on it, each as a rule allows. Where to look is read from chains that
-// are only hints, so each rule is tested at its pair.
-ghost use Prim.Native.Nat.{_≤_};
-ghost use Rattle.marks.specs.Squares.{Marked};
+// What new marks give: marks put at the pairs that depend on them, each as a rule allows. A row with a new mark waits, to be dealt with
+// in its turn. Where to look is read from chains and lines that are only hints, so each rule is tested at its pair.
+ghost use mathlib.Core.Path.{_≡_};
+ghost use mathlib.Core.Bool.{true};
+ghost use Prim.Native.Nat.{_≤_, _<_};
+ghost use Rattle.release.specs.Tables.{kindAt, roleAt, fillerAt};
+ghost use Rattle.marks.specs.Squares.{Room};
 ghost use Rattle.marks.specs.Passes.{Grows};
-ghost use Rattle.layout.specs.Layouts.{markSquare};
-ghost use Rattle.backward.specs.Rules.{Setting, Squares, FromBelow, Step};
-use crate::chains;
-use crate::chains::Chains;
+ghost use Rattle.layout.specs.Layouts.{markSquare, chosen, Rowed};
+ghost use Rattle.backward.specs.Rules.{Setting, Squares, Over, FromBelow, Step};
 use crate::rules::is_lost;
-use crate::rules::none_above;
+use classification::chains;
+use classification::chains::Chains;
 use layout::Layout;
-use layout::first_includes;
+use layout::has_role;
 use layout::is_marked;
+use layout::mark;
 use marks::Square;
-use marks::pending::Pending;
-use marks::pending::put;
+use marks::line::Line;
+use marks::rows::hand_on;
+use marks::rows::next_marked;
 use marks::rows::next_unmarked;
+use marks::rows::seems_within;
+use marks::waiting;
+use marks::waiting::Waiting;
+use marks::waiting::wait;
+use release::table;
 
 // The pair x, y, if a definition or a name allows it. A pair that is marked already is asked no rule.
 fn put_lost(
@@ -25,7 +34,7 @@ fn put_lost(
     first_table: &[u16],
     second_table: &[u16],
     work: &mut [u8],
-    pending: &mut [u16; Pending::LENGTH],
+    waiting: &mut [u8; Waiting::LENGTH],
     layout: Layout,
     x: usize,
     y: usize,
@@ -48,29 +57,20 @@ fn put_lost(
         x,
         y,
     ) {
-        put(
-            work,
-            pending,
-            Square {
-                base: layout.marks,
-                names: layout.names,
-            },
-            x,
-            y,
-        );
+        mark(work, layout, x, y);
+        wait(waiting, x);
     }
 }
 
-// What is lost in row x. The last column comes first, so that it is dealt with last: a mark with nothing gives whole rows, and
-// too many marks would wait.
-pub fn put_row(
+// What is lost in row x.
+fn put_row(
     signature: &[u8],
     first: &[u8],
     second: &[u8],
     first_table: &[u16],
     second_table: &[u16],
     work: &mut [u8],
-    pending: &mut [u16; Pending::LENGTH],
+    waiting: &mut [u8; Waiting::LENGTH],
     layout: Layout,
     x: usize,
 )
@@ -82,20 +82,8 @@ pub fn put_row(
         base: layout.marks,
         names: layout.names,
     };
-    put_lost(
-        signature,
-        first,
-        second,
-        first_table,
-        second_table,
-        work,
-        pending,
-        layout,
-        x,
-        layout.names,
-    );
     let mut y = next_unmarked(work, marks, x, 0);
-    while y < layout.names {
+    while y <= layout.names {
         put_lost(
             signature,
             first,
@@ -103,7 +91,7 @@ pub fn put_row(
             first_table,
             second_table,
             work,
-            pending,
+            waiting,
             layout,
             x,
             y,
@@ -112,34 +100,25 @@ pub fn put_row(
     }
 }
 
-// What is lost in row x, in the columns of a chain of the second release.
-fn put_columns(
+// What is lost in row x, in the columns of a line.
+fn put_line(
     signature: &[u8],
     first: &[u8],
     second: &[u8],
     first_table: &[u16],
     second_table: &[u16],
     work: &mut [u8],
-    second_chains: &[u16; Chains::LENGTH],
-    pending: &mut [u16; Pending::LENGTH],
+    waiting: &mut [u8; Waiting::LENGTH],
     layout: Layout,
+    line: &[u8; Line::LENGTH],
     x: usize,
-    kind: usize,
-    node: usize,
 )
     requires { ⌜ Setting (now signature) (now first) (now second) (now «first_table») (now «second_table») layout (now work) ⌝ }
     requires { ⌜ x ≤ layout .names ⌝ }
     ensures { λ _. ⌜ Grows (Step (now (signature .entry)) (now (first .entry)) (now (second .entry)) (now («first_table» .entry)) (now («second_table» .entry)) layout) (markSquare layout) (now (work .entry)) (now (work .exit)) ⌝ }
 {
-    let mut entry = chains::head(second_chains, kind, node);
-    let mut seen = 0;
-    while seen < Chains::ENTRIES {
-        let y = chains::name(entry);
-        seen += 1;
-        if layout.names <= y {
-            return;
-        }
-        entry = chains::next(second_chains, entry);
+    let mut y = waiting::next(line, 0);
+    while y <= layout.names {
         put_lost(
             signature,
             first,
@@ -147,58 +126,62 @@ fn put_columns(
             first_table,
             second_table,
             work,
-            pending,
+            waiting,
             layout,
             x,
             y,
         );
+        y = waiting::next(line, y + 1);
     }
 }
 
-// What is lost in column y, in the rows of the conjunctions of the first release with this conjunct.
-fn put_joining(
-    signature: &[u8],
-    first: &[u8],
-    second: &[u8],
+// Row x, a restriction whose filler is marked with y: the columns of the restrictions of the second release with its role and the
+// filler y.
+fn put_over(
     first_table: &[u16],
     second_table: &[u16],
     work: &mut [u8],
-    first_chains: &[u16; Chains::LENGTH],
-    pending: &mut [u16; Pending::LENGTH],
+    chains: &[u16; Chains::LENGTH],
+    waiting: &mut [u8; Waiting::LENGTH],
     layout: Layout,
-    part: usize,
+    x: usize,
     y: usize,
 )
-    requires { ⌜ Setting (now signature) (now first) (now second) (now «first_table») (now «second_table») layout (now work) ⌝ }
-    requires { ⌜ y ≤ layout .names ⌝ }
-    ensures { λ _. ⌜ Grows (Step (now (signature .entry)) (now (first .entry)) (now (second .entry)) (now («first_table» .entry)) (now («second_table» .entry)) layout) (markSquare layout) (now (work .entry)) (now (work .exit)) ⌝ }
+    requires { ⌜ Rowed (layout .names) (now «first_table») × Rowed (layout .names) (now «second_table») ⌝ }
+    requires { ⌜ Room (markSquare layout) (now work) ⌝ }
+    requires { ⌜ x < layout .names ⌝ }
+    ensures { λ _. ⌜ Grows (Over (now («first_table» .entry)) (now («second_table» .entry)) layout x y) (markSquare layout) (now (work .entry)) (now (work .exit)) ⌝ }
 {
-    let mut entry = chains::head(first_chains, Chains::JOINING, part);
-    let mut seen = 0;
-    while seen < Chains::ENTRIES {
-        let x = chains::name(entry);
-        seen += 1;
-        if layout.names <= x {
+    let role = table::role(first_table, x);
+    let mut entry = chains::entry(chains, Chains::FILLERS, y);
+    let mut left = Chains::ENTRIES;
+    while 0 < left {
+        left -= 1;
+        let z = entry;
+        if layout.names <= z {
             return;
         }
-        entry = chains::next(first_chains, entry);
-        put_lost(
-            signature,
-            first,
-            second,
-            first_table,
-            second_table,
-            work,
-            pending,
-            layout,
-            x,
-            y,
-        );
+        entry = chains::entry(chains, Chains::NEXT, z);
+        let kind = table::kind(second_table, z);
+        let filler = table::filler(second_table, z);
+        let own = table::role(second_table, z);
+        if kind != 4 {
+            continue;
+        }
+        if filler != y {
+            continue;
+        }
+        if own != role {
+            continue;
+        }
+        if mark(work, layout, x, z) {
+            wait(waiting, x);
+        }
     }
 }
 
-// What is lost in row x, a restriction whose filler is now marked with y: where y is nothing, in any column; else in those of the
-// restrictions with the filler y.
+// What is lost in row x, a restriction whose filler is marked with the columns of the line: where one is nothing, in any column; else
+// in those of the restrictions with such a filler.
 fn put_filled(
     signature: &[u8],
     first: &[u8],
@@ -206,17 +189,36 @@ fn put_filled(
     first_table: &[u16],
     second_table: &[u16],
     work: &mut [u8],
-    second_chains: &[u16; Chains::LENGTH],
-    pending: &mut [u16; Pending::LENGTH],
+    chains: &[u16; Chains::LENGTH],
+    waiting: &mut [u8; Waiting::LENGTH],
     layout: Layout,
+    line: &[u8; Line::LENGTH],
+    filler: usize,
     x: usize,
-    y: usize,
 )
     requires { ⌜ Setting (now signature) (now first) (now second) (now «first_table») (now «second_table») layout (now work) ⌝ }
-    requires { ⌜ x ≤ layout .names ⌝ }
+    requires { ⌜ (x < layout .names) × (kindAt (now «first_table») x ≡ 4) × (fillerAt (now «first_table») x ≡ filler) ⌝ }
+    requires { ⌜ chosen layout (now signature) .has-role (roleAt (now «first_table») x) ≡ true ⌝ }
     ensures { λ _. ⌜ Grows (Step (now (signature .entry)) (now (first .entry)) (now (second .entry)) (now («first_table» .entry)) (now («second_table» .entry)) layout) (markSquare layout) (now (work .entry)) (now (work .exit)) ⌝ }
 {
-    if layout.names <= y {
+    let mut next = waiting::next(line, 0);
+    while next < layout.names {
+        let y = next;
+        next = waiting::next(line, y + 1);
+        if is_marked(work, layout, filler, y) {
+            put_over(
+                first_table,
+                second_table,
+                work,
+                chains,
+                waiting,
+                layout,
+                x,
+                y,
+            );
+        }
+    }
+    if next == layout.names {
         put_row(
             signature,
             first,
@@ -224,30 +226,15 @@ fn put_filled(
             first_table,
             second_table,
             work,
-            pending,
+            waiting,
             layout,
             x,
         );
-        return;
     }
-    put_columns(
-        signature,
-        first,
-        second,
-        first_table,
-        second_table,
-        work,
-        second_chains,
-        pending,
-        layout,
-        x,
-        Chains::FILLING,
-        y,
-    );
 }
 
-// What is lost in the rows of the restrictions of the first release with this filler, which is marked with y.
-fn put_filling(
+// What is lost in the rows of the restrictions of the first release with this filler, which is marked with the columns of the line.
+fn put_by_filler(
     signature: &[u8],
     first: &[u8],
     second: &[u8],
@@ -256,76 +243,198 @@ fn put_filling(
     work: &mut [u8],
     first_chains: &[u16; Chains::LENGTH],
     second_chains: &[u16; Chains::LENGTH],
-    pending: &mut [u16; Pending::LENGTH],
+    waiting: &mut [u8; Waiting::LENGTH],
     layout: Layout,
+    line: &[u8; Line::LENGTH],
     filler: usize,
-    y: usize,
 )
     requires { ⌜ Setting (now signature) (now first) (now second) (now «first_table») (now «second_table») layout (now work) ⌝ }
     ensures { λ _. ⌜ Grows (Step (now (signature .entry)) (now (first .entry)) (now (second .entry)) (now («first_table» .entry)) (now («second_table» .entry)) layout) (markSquare layout) (now (work .entry)) (now (work .exit)) ⌝ }
 {
-    let mut entry = chains::head(first_chains, Chains::FILLING, filler);
-    let mut seen = 0;
-    while seen < Chains::ENTRIES {
-        let x = chains::name(entry);
-        seen += 1;
+    let mut entry = chains::entry(first_chains, Chains::FILLERS, filler);
+    let mut left = Chains::ENTRIES;
+    while 0 < left {
+        left -= 1;
+        let x = entry;
         if layout.names <= x {
             return;
         }
-        entry = chains::next(first_chains, entry);
-        put_filled(
+        entry = chains::entry(first_chains, Chains::NEXT, x);
+        let kind = table::kind(first_table, x);
+        let own = table::filler(first_table, x);
+        let role = table::role(first_table, x);
+        if kind != 4 {
+            continue;
+        }
+        if own != filler {
+            continue;
+        }
+        if has_role(signature, layout, role) {
+            put_filled(
+                signature,
+                first,
+                second,
+                first_table,
+                second_table,
+                work,
+                second_chains,
+                waiting,
+                layout,
+                line,
+                filler,
+                x,
+            );
+        }
+    }
+}
+
+// What is lost in the rows of the conjunctions of the first release with this conjunct, in the columns of the line.
+fn put_by_part(
+    signature: &[u8],
+    first: &[u8],
+    second: &[u8],
+    first_table: &[u16],
+    second_table: &[u16],
+    work: &mut [u8],
+    chains: &[u16; Chains::LENGTH],
+    waiting: &mut [u8; Waiting::LENGTH],
+    layout: Layout,
+    line: &[u8; Line::LENGTH],
+    part: usize,
+)
+    requires { ⌜ Setting (now signature) (now first) (now second) (now «first_table») (now «second_table») layout (now work) ⌝ }
+    ensures { λ _. ⌜ Grows (Step (now (signature .entry)) (now (first .entry)) (now (second .entry)) (now («first_table» .entry)) (now («second_table» .entry)) layout) (markSquare layout) (now (work .entry)) (now (work .exit)) ⌝ }
+{
+    let mut entry = chains::entry(chains, Chains::CONJUNCTS, part);
+    let mut left = Chains::ENTRIES;
+    while 0 < left {
+        left -= 1;
+        let x = entry / 16;
+        if layout.names <= x {
+            return;
+        }
+        entry = chains::entry(chains, Chains::LINKS, entry);
+        put_line(
             signature,
             first,
             second,
             first_table,
             second_table,
             work,
-            second_chains,
-            pending,
+            waiting,
             layout,
+            line,
             x,
-            y,
         );
     }
 }
 
-// The column y in each row above row x, which is marked with it.
-fn put_above(
+// What is lost in row x, in the columns of the conjunctions of the second release with the conjunct y.
+fn put_columns(
+    signature: &[u8],
+    first: &[u8],
+    second: &[u8],
+    first_table: &[u16],
+    second_table: &[u16],
     work: &mut [u8],
-    pending: &mut [u16; Pending::LENGTH],
+    chains: &[u16; Chains::LENGTH],
+    waiting: &mut [u8; Waiting::LENGTH],
     layout: Layout,
     x: usize,
     y: usize,
 )
-    requires { ⌜ Squares layout (now work) ⌝ }
-    requires { ⌜ (x ≤ layout .names) × (y ≤ layout .names) ⌝ }
-    requires { ⌜ Marked (markSquare layout) (now work) x y ⌝ }
-    ensures { λ _. ⌜ Grows (FromBelow layout) (markSquare layout) (now (work .entry)) (now (work .exit)) ⌝ }
+    requires { ⌜ Setting (now signature) (now first) (now second) (now «first_table») (now «second_table») layout (now work) ⌝ }
+    requires { ⌜ x ≤ layout .names ⌝ }
+    ensures { λ _. ⌜ Grows (Step (now (signature .entry)) (now (first .entry)) (now (second .entry)) (now («first_table» .entry)) (now («second_table» .entry)) layout) (markSquare layout) (now (work .entry)) (now (work .exit)) ⌝ }
 {
-    let mut next = 0;
-    while next <= layout.names {
-        let above = next;
-        if none_above(work, layout, x, above) {
-            next += 8;
-        } else {
-            next += 1;
-            if first_includes(work, layout, x, above) {
-                put(
-                    work,
-                    pending,
-                    Square {
-                        base: layout.marks,
-                        names: layout.names,
-                    },
-                    above,
-                    y,
-                );
-            }
+    let mut entry = chains::entry(chains, Chains::CONJUNCTS, y);
+    let mut left = Chains::ENTRIES;
+    while 0 < left {
+        left -= 1;
+        let z = entry / 16;
+        if layout.names <= z {
+            return;
         }
+        entry = chains::entry(chains, Chains::LINKS, entry);
+        put_lost(
+            signature,
+            first,
+            second,
+            first_table,
+            second_table,
+            work,
+            waiting,
+            layout,
+            x,
+            z,
+        );
     }
 }
 
-// All that the mark x, y gives.
+// The same for each column y of the line.
+fn put_all_columns(
+    signature: &[u8],
+    first: &[u8],
+    second: &[u8],
+    first_table: &[u16],
+    second_table: &[u16],
+    work: &mut [u8],
+    chains: &[u16; Chains::LENGTH],
+    waiting: &mut [u8; Waiting::LENGTH],
+    layout: Layout,
+    line: &[u8; Line::LENGTH],
+    x: usize,
+)
+    requires { ⌜ Setting (now signature) (now first) (now second) (now «first_table») (now «second_table») layout (now work) ⌝ }
+    requires { ⌜ x ≤ layout .names ⌝ }
+    ensures { λ _. ⌜ Grows (Step (now (signature .entry)) (now (first .entry)) (now (second .entry)) (now («first_table» .entry)) (now («second_table» .entry)) layout) (markSquare layout) (now (work .entry)) (now (work .exit)) ⌝ }
+{
+    let mut y = waiting::next(line, 0);
+    while y < layout.names {
+        put_columns(
+            signature,
+            first,
+            second,
+            first_table,
+            second_table,
+            work,
+            chains,
+            waiting,
+            layout,
+            x,
+            y,
+        );
+        y = waiting::next(line, y + 1);
+    }
+}
+
+// The marks of row `lower` in each row above it by the first release.
+fn put_above(work: &mut [u8], waiting: &mut [u8; Waiting::LENGTH], layout: Layout, lower: usize)
+    requires { ⌜ Squares layout (now work) ⌝ }
+    requires { ⌜ lower ≤ layout .names ⌝ }
+    ensures { λ _. ⌜ Grows (FromBelow layout) (markSquare layout) (now (work .entry)) (now (work .exit)) ⌝ }
+{
+    let inclusions = Square {
+        base: layout.first,
+        names: layout.names,
+    };
+    let marks = Square {
+        base: layout.marks,
+        names: layout.names,
+    };
+    let mut next = next_marked(work, inclusions, lower, 0);
+    while next <= layout.names {
+        let x = next;
+        next = next_marked(work, inclusions, lower, x + 1);
+        if seems_within(work, marks, lower, x) {
+            continue;
+        }
+        hand_on(work, marks, lower, x);
+        wait(waiting, x);
+    }
+}
+
+// All that the new marks of row x give.
 pub fn deal(
     signature: &[u8],
     first: &[u8],
@@ -335,45 +444,22 @@ pub fn deal(
     work: &mut [u8],
     first_chains: &[u16; Chains::LENGTH],
     second_chains: &[u16; Chains::LENGTH],
-    pending: &mut [u16; Pending::LENGTH],
+    waiting: &mut [u8; Waiting::LENGTH],
     layout: Layout,
     x: usize,
-    y: usize,
 )
     requires { ⌜ Setting (now signature) (now first) (now second) (now «first_table») (now «second_table») layout (now work) ⌝ }
-    requires { ⌜ (x ≤ layout .names) × (y ≤ layout .names) ⌝ }
-    requires { ⌜ Marked (markSquare layout) (now work) x y ⌝ }
+    requires { ⌜ x ≤ layout .names ⌝ }
     ensures { λ _. ⌜ Grows (Step (now (signature .entry)) (now (first .entry)) (now (second .entry)) (now («first_table» .entry)) (now («second_table» .entry)) layout) (markSquare layout) (now (work .entry)) (now (work .exit)) ⌝ }
 {
-    put_above(work, pending, layout, x, y);
-    put_columns(
-        signature,
-        first,
-        second,
-        first_table,
-        second_table,
-        work,
-        second_chains,
-        pending,
-        layout,
-        x,
-        Chains::JOINING,
-        y,
-    );
-    put_joining(
-        signature,
-        first,
-        second,
-        first_table,
-        second_table,
-        work,
-        first_chains,
-        pending,
-        layout,
-        x,
-        y,
-    );
-    put_filling(
+    let marks = Square {
+        base: layout.marks,
+        names: layout.names,
+    };
+    let mut line = [0u8; Line::LENGTH];
+    waiting::see(work, marks, x, waiting, x, &mut line);
+    put_above(work, waiting, layout, x);
+    put_by_filler(
         signature,
         first,
         second,
@@ -382,9 +468,35 @@ pub fn deal(
         work,
         first_chains,
         second_chains,
-        pending,
+        waiting,
         layout,
+        &line,
         x,
-        y,
+    );
+    put_by_part(
+        signature,
+        first,
+        second,
+        first_table,
+        second_table,
+        work,
+        first_chains,
+        waiting,
+        layout,
+        &line,
+        x,
+    );
+    put_all_columns(
+        signature,
+        first,
+        second,
+        first_table,
+        second_table,
+        work,
+        second_chains,
+        waiting,
+        layout,
+        &line,
+        x,
     );
 }

@@ -3,8 +3,10 @@
 ghost use Rattle.layout.specs.Comparing.{Comparing};
 ghost use Rattle.backward.specs.Backward.{Backwarded};
 use layout::Layout;
+use marks::Square;
+use marks::order;
+use marks::order::Order;
 
-mod chains;
 mod consequences;
 mod propagation;
 mod rules;
@@ -23,15 +25,18 @@ pub fn mark_lost_below(
     requires { ⌜ Comparing (now signature) (now first) (now second) (now «first_table») (now «second_table») layout (now work) ⌝ }
     ensures { λ _. ⌜ Backwarded (now (signature .entry)) (now (first .entry)) (now (second .entry)) layout (now (work .entry)) (now (work .exit)) ⌝ }
 {
-    propagation::propagate(
-        signature,
-        first,
-        second,
-        first_table,
-        second_table,
+    let mut order = [Order::NONE; Order::NODES];
+    order::sort(
         work,
-        layout,
+        Square {
+            base: layout.first,
+            names: layout.names,
+        },
+        &[Order::NONE; Order::NODES],
+        &mut order,
     );
+    propagation::mark_names(signature, work, layout);
+    propagation::hand_all_up(work, &order, layout);
     sweep::close(
         signature,
         first,
@@ -39,6 +44,7 @@ pub fn mark_lost_below(
         first_table,
         second_table,
         work,
+        &order,
         layout,
     );
 }

@@ -1,6 +1,6 @@
 // The rules by which a pair x, y is marked. What they ask is said in specs/Rules.
 ghost use mathlib.Core.Path.{_≡_};
-ghost use mathlib.Core.Bool.{true};
+ghost use mathlib.Core.Bool.{false};
 ghost use Prim.Native.Nat.{_+_, _≤_, _<_};
 ghost use lib.ListN.{length};
 ghost use Rattle.el.proofs.Tests.{Tells};
@@ -8,7 +8,7 @@ ghost use Rattle.release.specs.Tables.{kindAt, countAt, Shaped};
 ghost use Rattle.marks.specs.Squares.{Room};
 ghost use Rattle.layout.specs.Searches.{SomeBelow, EachBelow};
 ghost use Rattle.layout.specs.Layouts.{secondSquare, markSquare, Rowed};
-ghost use Rattle.backward.specs.Rules.{Setting, Squares, NoneAbove, PlainColumn, ColumnPart, RowPart, NameLost, Filled, RoleLost, Defined, Own};
+ghost use Rattle.backward.specs.Rules.{Setting, Rows, PlainColumn, ColumnPart, RowPart, NameLost, Filled, RoleLost, NoRule, RowLost, Defined, Own};
 use layout::Layout;
 use layout::has_name;
 use layout::has_role;
@@ -17,7 +17,7 @@ use layout::second_includes;
 use release::table;
 
 // Whether x is marked with a conjunct of the conjunction y of the second release.
-fn some_part_lost(
+pub fn some_part_lost(
     second: &[u8],
     table: &[u16],
     work: &[u8],
@@ -140,10 +140,9 @@ fn role_lost(
 }
 
 // Whether the definition of x allows the mark x, y, where y is not defined by a conjunction.
-fn column_lost(
+pub fn column_lost(
     signature: &[u8],
     first: &[u8],
-    second: &[u8],
     first_table: &[u16],
     second_table: &[u16],
     work: &[u8],
@@ -151,10 +150,9 @@ fn column_lost(
     x: usize,
     y: usize,
 ) -> bool
-    requires { ⌜ Setting (now signature) (now first) (now second) (now «first_table») (now «second_table») layout (now work) ⌝ }
-    requires { ⌜ PlainColumn (now «second_table») (layout .names) y ⌝ }
+    requires { ⌜ Rows (now signature) (now first) (now «first_table») (now «second_table») layout (now work) ⌝ }
     requires { ⌜ (x ≤ layout .names) × (y ≤ layout .names) ⌝ }
-    ensures { λ r. ⌜ Tells r (Defined (now (signature .entry)) (now (first .entry)) (now (second .entry)) (now («first_table» .entry)) (now («second_table» .entry)) layout (now (work .entry)) x y) ⌝ }
+    ensures { λ r. ⌜ Tells r (RowLost (now (signature .entry)) (now (first .entry)) (now («first_table» .entry)) (now («second_table» .entry)) layout (now (work .entry)) x y) ⌝ }
 {
     if layout.names <= x {
         return true;
@@ -189,7 +187,6 @@ fn defined_lost(
         return column_lost(
             signature,
             first,
-            second,
             first_table,
             second_table,
             work,
@@ -205,7 +202,6 @@ fn defined_lost(
     column_lost(
         signature,
         first,
-        second,
         first_table,
         second_table,
         work,
@@ -247,18 +243,37 @@ pub fn is_lost(
     )
 }
 
-// Whether it shows at a glance at one byte that none of the eight rows from this one on lies above row x by the first release.
-pub fn none_above(work: &[u8], layout: Layout, x: usize, row: usize) -> bool
-    requires { ⌜ Squares layout (now work) ⌝ }
-    requires { ⌜ (x ≤ layout .names) × (row ≤ layout .names) ⌝ }
-    ensures { λ r. ⌜ (r ≡ true → NoneAbove layout (now (work .entry)) x row) ⌝ }
+// Whether the definition of x may allow a mark. Where it says yes, nothing is said.
+pub fn may_be_lost(signature: &[u8], table: &[u16], layout: Layout, x: usize) -> bool
+    requires { ⌜ layout .names + layout .roles ≤ length (now signature) ⌝ }
+    requires { ⌜ Rowed (layout .names) (now table) ⌝ }
+    ensures { λ r. ⌜ (r ≡ false → NoRule (now (signature .entry)) (now (table .entry)) layout x) ⌝ }
 {
-    if row % 8 == 0 {
-        let width = layout.names / 8 + 1;
-        let place = layout.first + (x * width + row / 8);
-        if work[place] == 0 {
-            return true;
-        }
+    if layout.names <= x {
+        return true;
+    }
+    let kind = table::kind(table, x);
+    if kind == 2 {
+        return true;
+    }
+    if kind == 4 {
+        let role = table::role(table, x);
+        return has_role(signature, layout, role);
     }
     false
+}
+
+// Whether y is not defined by a conjunction.
+pub fn is_plain(table: &[u16], layout: Layout, y: usize) -> bool
+    requires { ⌜ Rowed (layout .names) (now table) ⌝ }
+    ensures { λ r. ⌜ Tells r (PlainColumn (now (table .entry)) (layout .names) y) ⌝ }
+{
+    if layout.names <= y {
+        return true;
+    }
+    let kind = table::kind(table, y);
+    if kind == 2 {
+        return false;
+    }
+    true
 }

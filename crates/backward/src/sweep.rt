@@ -1,23 +1,68 @@
 // Passes over all pairs, until one finds nothing left to mark.
-ghost use Prim.Native.Nat.{suc, _≤_};
+ghost use mathlib.Core.Path.{_≡_};
+ghost use Prim.Native.Nat.{suc, _≤_, _<_};
+ghost use Rattle.release.specs.Tables.{kindAt, Shaped};
+ghost use Rattle.marks.specs.Squares.{Room};
 ghost use Rattle.marks.specs.Passes.{Pass, Closed, Below};
 ghost use Rattle.layout.specs.Layouts.{markSquare};
-ghost use Rattle.backward.specs.Rules.{Setting, Squares, Step, FromBelow, Cell, Row, HandedOn, Quiet};
-use crate::rules::is_lost;
-use crate::rules::none_above;
+ghost use Rattle.backward.specs.Rules.{Setting, Rows, Named, NameLost, PartLost, PlainLost, Own, Step, Cell, Row, Column, Quiet};
+use crate::propagation::propagate;
+use crate::rules::column_lost;
+use crate::rules::is_plain;
+use crate::rules::may_be_lost;
+use crate::rules::some_part_lost;
+use classification::chains::Chains;
+use classification::chains::fill;
 use layout::Layout;
-use layout::first_includes;
+use layout::has_name;
 use layout::is_marked;
 use layout::mark;
 use marks::Square;
-use marks::rows::absorb;
+use marks::inclusions::give_all;
+use marks::line;
+use marks::line::Line;
+use marks::order::Order;
 use marks::rows::next_unmarked;
+use marks::waiting;
+use marks::waiting::Waiting;
+use release::table;
 
-// Marks the pair x, y if a definition or a name allows it. Whether the mark is new. A pair that is marked already is asked no rule.
+// Marks x with all that it is not below by the second release, if it is a name of the signature. Whether a mark is new.
+fn name(signature: &[u8], work: &mut [u8], layout: Layout, x: usize) -> bool
+    requires { ⌜ Named (now signature) layout (now work) ⌝ }
+    requires { ⌜ x ≤ layout .names ⌝ }
+    ensures { λ r. ⌜ Pass (NameLost (now (signature .entry)) layout) (markSquare layout) (Row (NameLost (now (signature .entry)) layout) layout x) (now (work .entry)) (now (work .exit)) r ⌝ }
+{
+    if has_name(signature, layout, x) {
+        let mut row = [0u8; Line::LENGTH];
+        line::join(
+            &mut row,
+            work,
+            Square {
+                base: layout.second,
+                names: layout.names,
+            },
+            x,
+        );
+        let names = line::absorb_missing(
+            work,
+            Square {
+                base: layout.marks,
+                names: layout.names,
+            },
+            x,
+            &row,
+        );
+        let nothing = mark(work, layout, x, layout.names);
+        return names | nothing;
+    }
+    false
+}
+
+// Marks the pair x, y if the definition of x allows it and y is not defined by a conjunction. Whether the mark is new.
 fn look(
     signature: &[u8],
     first: &[u8],
-    second: &[u8],
     first_table: &[u16],
     second_table: &[u16],
     work: &mut [u8],
@@ -25,43 +70,40 @@ fn look(
     x: usize,
     y: usize,
 ) -> bool
-    requires { ⌜ Setting (now signature) (now first) (now second) (now «first_table») (now «second_table») layout (now work) ⌝ }
+    requires { ⌜ Rows (now signature) (now first) (now «first_table») (now «second_table») layout (now work) ⌝ }
     requires { ⌜ (x ≤ layout .names) × (y ≤ layout .names) ⌝ }
-    ensures { λ r. ⌜ Pass (Step (now (signature .entry)) (now (first .entry)) (now (second .entry)) (now («first_table» .entry)) (now («second_table» .entry)) layout) (markSquare layout) (Cell (now (signature .entry)) (now (first .entry)) (now (second .entry)) (now («first_table» .entry)) (now («second_table» .entry)) layout x y) (now (work .entry)) (now (work .exit)) r ⌝ }
+    ensures { λ r. ⌜ Pass (PlainLost (now (signature .entry)) (now (first .entry)) (now («first_table» .entry)) (now («second_table» .entry)) layout) (markSquare layout) (Cell (PlainLost (now (signature .entry)) (now (first .entry)) (now («first_table» .entry)) (now («second_table» .entry)) layout) layout x y) (now (work .entry)) (now (work .exit)) r ⌝ }
 {
-    if is_marked(work, layout, x, y) {
-        return false;
-    }
-    if is_lost(
-        signature,
-        first,
-        second,
-        first_table,
-        second_table,
-        work,
-        layout,
-        x,
-        y,
-    ) {
-        return mark(work, layout, x, y);
+    if is_plain(second_table, layout, y) {
+        if column_lost(
+            signature,
+            first,
+            first_table,
+            second_table,
+            work,
+            layout,
+            x,
+            y,
+        ) {
+            return mark(work, layout, x, y);
+        }
     }
     false
 }
 
-// One pass over row x. Whether a mark is new.
+// Looks at all pairs of row x that are not marked. Whether a mark is new.
 fn row(
     signature: &[u8],
     first: &[u8],
-    second: &[u8],
     first_table: &[u16],
     second_table: &[u16],
     work: &mut [u8],
     layout: Layout,
     x: usize,
 ) -> bool
-    requires { ⌜ Setting (now signature) (now first) (now second) (now «first_table») (now «second_table») layout (now work) ⌝ }
+    requires { ⌜ Rows (now signature) (now first) (now «first_table») (now «second_table») layout (now work) ⌝ }
     requires { ⌜ x ≤ layout .names ⌝ }
-    ensures { λ r. ⌜ Pass (Step (now (signature .entry)) (now (first .entry)) (now (second .entry)) (now («first_table» .entry)) (now («second_table» .entry)) layout) (markSquare layout) (Row (now (signature .entry)) (now (first .entry)) (now (second .entry)) (now («first_table» .entry)) (now («second_table» .entry)) layout x) (now (work .entry)) (now (work .exit)) r ⌝ }
+    ensures { λ r. ⌜ Pass (PlainLost (now (signature .entry)) (now (first .entry)) (now («first_table» .entry)) (now («second_table» .entry)) layout) (markSquare layout) (Row (PlainLost (now (signature .entry)) (now (first .entry)) (now («first_table» .entry)) (now («second_table» .entry)) layout) layout x) (now (work .entry)) (now (work .exit)) r ⌝ }
 {
     let marks = Square {
         base: layout.marks,
@@ -70,10 +112,9 @@ fn row(
     let mut changed = false;
     let mut y = next_unmarked(work, marks, x, 0);
     while y <= layout.names {
-        let looked = look(
+        let new = look(
             signature,
             first,
-            second,
             first_table,
             second_table,
             work,
@@ -81,14 +122,79 @@ fn row(
             x,
             y,
         );
-        changed = changed | looked;
+        changed = changed | new;
         y = next_unmarked(work, marks, x, y + 1);
     }
     changed
 }
 
-// One pass over all rows. Whether a mark is new.
-fn rows(
+// The same, but a row is not looked at whose definition allows no mark.
+fn plain(
+    signature: &[u8],
+    first: &[u8],
+    first_table: &[u16],
+    second_table: &[u16],
+    work: &mut [u8],
+    layout: Layout,
+    x: usize,
+) -> bool
+    requires { ⌜ Rows (now signature) (now first) (now «first_table») (now «second_table») layout (now work) ⌝ }
+    requires { ⌜ x ≤ layout .names ⌝ }
+    ensures { λ r. ⌜ Pass (PlainLost (now (signature .entry)) (now (first .entry)) (now («first_table» .entry)) (now («second_table» .entry)) layout) (markSquare layout) (Row (PlainLost (now (signature .entry)) (now (first .entry)) (now («first_table» .entry)) (now («second_table» .entry)) layout) layout x) (now (work .entry)) (now (work .exit)) r ⌝ }
+{
+    if may_be_lost(signature, first_table, layout, x) {
+        return row(signature, first, first_table, second_table, work, layout, x);
+    }
+    false
+}
+
+// Marks the pair x, y, where y is a conjunction of the second release, if x is marked with a conjunct. Whether the mark is new.
+fn look_at_parts(
+    second: &[u8],
+    table: &[u16],
+    work: &mut [u8],
+    layout: Layout,
+    x: usize,
+    y: usize,
+) -> bool
+    requires { ⌜ Shaped (layout .names) (now second) (now table) ⌝ }
+    requires { ⌜ Room (markSquare layout) (now work) ⌝ }
+    requires { ⌜ (x ≤ layout .names) × (y < layout .names) × (kindAt (now table) y ≡ 2) ⌝ }
+    ensures { λ r. ⌜ Pass (PartLost (now (second .entry)) (now (table .entry)) layout) (markSquare layout) (Cell (PartLost (now (second .entry)) (now (table .entry)) layout) layout x y) (now (work .entry)) (now (work .exit)) r ⌝ }
+{
+    if is_marked(work, layout, x, y) {
+        return false;
+    }
+    if some_part_lost(second, table, work, layout, x, y) {
+        return mark(work, layout, x, y);
+    }
+    false
+}
+
+// Does so for all pairs of column y, if y is a conjunction. Whether a mark is new.
+fn joined(second: &[u8], table: &[u16], work: &mut [u8], layout: Layout, y: usize) -> bool
+    requires { ⌜ Shaped (layout .names) (now second) (now table) ⌝ }
+    requires { ⌜ Room (markSquare layout) (now work) ⌝ }
+    requires { ⌜ y < layout .names ⌝ }
+    ensures { λ r. ⌜ Pass (PartLost (now (second .entry)) (now (table .entry)) layout) (markSquare layout) (Column (PartLost (now (second .entry)) (now (table .entry)) layout) layout y) (now (work .entry)) (now (work .exit)) r ⌝ }
+{
+    let kind = table::kind(table, y);
+    if kind != 2 {
+        return false;
+    }
+    let mut changed = false;
+    let mut next = 0;
+    while next <= layout.names {
+        let x = next;
+        next += 1;
+        let new = look_at_parts(second, table, work, layout, x, y);
+        changed = changed | new;
+    }
+    changed
+}
+
+// One pass over all pairs: for each name its row and its column, and the row of ⊤. Whether a mark is new.
+fn names(
     signature: &[u8],
     first: &[u8],
     second: &[u8],
@@ -98,79 +204,31 @@ fn rows(
     layout: Layout,
 ) -> bool
     requires { ⌜ Setting (now signature) (now first) (now second) (now «first_table») (now «second_table») layout (now work) ⌝ }
-    ensures { λ r. ⌜ Pass (Step (now (signature .entry)) (now (first .entry)) (now (second .entry)) (now («first_table» .entry)) (now («second_table» .entry)) layout) (markSquare layout) (Below (Row (now (signature .entry)) (now (first .entry)) (now (second .entry)) (now («first_table» .entry)) (now («second_table» .entry)) layout) (suc (layout .names))) (now (work .entry)) (now (work .exit)) r ⌝ }
+    ensures { λ r. ⌜ Pass (Own (now (signature .entry)) (now (first .entry)) (now (second .entry)) (now («first_table» .entry)) (now («second_table» .entry)) layout) (markSquare layout) (Below (Row (Own (now (signature .entry)) (now (first .entry)) (now (second .entry)) (now («first_table» .entry)) (now («second_table» .entry)) layout) layout) (suc (layout .names))) (now (work .entry)) (now (work .exit)) r ⌝ }
 {
     let mut changed = false;
     let mut next = 0;
-    while next <= layout.names {
+    while next < layout.names {
         let x = next;
         next += 1;
-        if row(
-            signature,
-            first,
-            second,
-            first_table,
-            second_table,
-            work,
-            layout,
-            x,
-        ) {
-            changed = true;
-        }
+        let by_row = plain(signature, first, first_table, second_table, work, layout, x);
+        let by_name = name(signature, work, layout, x);
+        let by_column = joined(second, second_table, work, layout, x);
+        changed = changed | (by_row | (by_name | by_column));
     }
-    changed
+    let top = plain(
+        signature,
+        first,
+        first_table,
+        second_table,
+        work,
+        layout,
+        layout.names,
+    );
+    changed | top
 }
 
-// Hands the marks of row `lower` on to each row above it by the first release. Whether a mark is new.
-fn hand_on(work: &mut [u8], layout: Layout, lower: usize) -> bool
-    requires { ⌜ Squares layout (now work) ⌝ }
-    requires { ⌜ lower ≤ layout .names ⌝ }
-    ensures { λ r. ⌜ Pass (FromBelow layout) (markSquare layout) (HandedOn layout lower) (now (work .entry)) (now (work .exit)) r ⌝ }
-{
-    let mut changed = false;
-    let mut next = 0;
-    while next <= layout.names {
-        let x = next;
-        if none_above(work, layout, lower, x) {
-            next += 8;
-        } else {
-            next += 1;
-            if first_includes(work, layout, lower, x) {
-                if absorb(
-                    work,
-                    Square {
-                        base: layout.marks,
-                        names: layout.names,
-                    },
-                    lower,
-                    x,
-                ) {
-                    changed = true;
-                }
-            }
-        }
-    }
-    changed
-}
-
-// Hands the marks of each row on. Whether a mark is new.
-fn hand_all_on(work: &mut [u8], layout: Layout) -> bool
-    requires { ⌜ Squares layout (now work) ⌝ }
-    ensures { λ r. ⌜ Pass (FromBelow layout) (markSquare layout) (Below (HandedOn layout) (suc (layout .names))) (now (work .entry)) (now (work .exit)) r ⌝ }
-{
-    let mut changed = false;
-    let mut next = 0;
-    while next <= layout.names {
-        let lower = next;
-        next += 1;
-        if hand_on(work, layout, lower) {
-            changed = true;
-        }
-    }
-    changed
-}
-
-// One pass: over all pairs, and then over all rows with the rows above them. Whether a mark is new.
+// One pass: over all pairs, and if nothing is new there, over all rows with the rows above them. Whether a mark is new.
 fn pass(
     signature: &[u8],
     first: &[u8],
@@ -178,12 +236,13 @@ fn pass(
     first_table: &[u16],
     second_table: &[u16],
     work: &mut [u8],
+    order: &[u8; Order::NODES],
     layout: Layout,
 ) -> bool
     requires { ⌜ Setting (now signature) (now first) (now second) (now «first_table») (now «second_table») layout (now work) ⌝ }
     ensures { λ r. ⌜ Pass (Step (now (signature .entry)) (now (first .entry)) (now (second .entry)) (now («first_table» .entry)) (now («second_table» .entry)) layout) (markSquare layout) (Quiet (now (signature .entry)) (now (first .entry)) (now (second .entry)) (now («first_table» .entry)) (now («second_table» .entry)) layout) (now (work .entry)) (now (work .exit)) r ⌝ }
 {
-    let changed = rows(
+    if names(
         signature,
         first,
         second,
@@ -191,14 +250,24 @@ fn pass(
         second_table,
         work,
         layout,
-    );
-    if hand_all_on(work, layout) {
+    ) {
         return true;
     }
-    changed
+    give_all(
+        work,
+        Square {
+            base: layout.first,
+            names: layout.names,
+        },
+        Square {
+            base: layout.marks,
+            names: layout.names,
+        },
+        order,
+    )
 }
 
-// Passes until nothing is left to mark.
+// Passes until nothing is left to mark. What a pass finds is dealt with before the next one.
 pub fn close(
     signature: &[u8],
     first: &[u8],
@@ -206,11 +275,25 @@ pub fn close(
     first_table: &[u16],
     second_table: &[u16],
     work: &mut [u8],
+    order: &[u8; Order::NODES],
     layout: Layout,
 )
     requires { ⌜ Setting (now signature) (now first) (now second) (now «first_table») (now «second_table») layout (now work) ⌝ }
     ensures { λ _. ⌜ Closed (Step (now (signature .entry)) (now (first .entry)) (now (second .entry)) (now («first_table» .entry)) (now («second_table» .entry)) layout) (markSquare layout) (Quiet (now (signature .entry)) (now (first .entry)) (now (second .entry)) (now («first_table» .entry)) (now («second_table» .entry)) layout) (now (work .entry)) (now (work .exit)) ⌝ }
 {
+    let mut waiting = [0u8; Waiting::LENGTH];
+    let mut first_chains = [0u16; Chains::LENGTH];
+    let mut second_chains = [0u16; Chains::LENGTH];
+    fill(first, first_table, &mut first_chains, layout.names);
+    fill(second, second_table, &mut second_chains, layout.names);
+    waiting::see_all(
+        work,
+        Square {
+            base: layout.marks,
+            names: layout.names,
+        },
+        &mut waiting,
+    );
     while pass(
         signature,
         first,
@@ -218,6 +301,20 @@ pub fn close(
         first_table,
         second_table,
         work,
+        order,
         layout,
-    ) {}
+    ) {
+        propagate(
+            signature,
+            first,
+            second,
+            first_table,
+            second_table,
+            work,
+            &first_chains,
+            &second_chains,
+            &mut waiting,
+            layout,
+        );
+    }
 }

@@ -1,25 +1,41 @@
 use Rattle.marks.proofs.Passes.{closed-further}
-use Rattle.backward.proofs.Tested.{setting, setting-stays}
+use Rattle.backward.proofs.Tested.{setting, setting-stays, named, squares, name-grows, below-grows}
 use Rattle.backward.proofs.Meaning.{backwarded}
 use borrow.Author.Needs.{needs}
 use Rattle.backward.proofs.mark_lost_below.Statement.{statement}
 use Rattle.backward.proofs.mark_lost_below.Tie as tie
 use Rattle.backward.proofs.mark_lost_below.Reads as reads
 use Rattle.backward.proofs.mark_lost_below.Lts as lts
-use Rattle.backward.proofs.propagation.propagate.Reads as propagate-reads
+use Rattle.backward.proofs.propagation.hand_all_up.Reads as hand-all-up-reads
+use Rattle.backward.proofs.propagation.mark_names.Reads as mark-names-reads
 use Rattle.backward.proofs.sweep.close.Reads as close-reads
+use Rattle.marks.proofs.order.sort.Reads as sort-reads
 
-propagate-requires : tie.Need-propagate-requires
-propagate-requires c κs = setting (c .before .before .before .before .before .before .before .pre)
+sort-requires : tie.Need-sort-requires
+sort-requires c κs = let h = setting (c .before .before .before .before .before .before .before .before .before .pre) in (h .places .first, h .few)
+
+mark-names-requires : tie.Need-mark-names-requires
+mark-names-requires c κs = named (setting (c .before .before .before .before .before .before .before .before .before .before .before .pre))
+
+hand-all-up-requires : tie.Need-hand-all-up-requires
+hand-all-up-requires c κs = squares (setting-stays (c .before .before .before .before .mark-names .ensures) (setting (c .before .before .before .before .before .before .before .before .before .before .before .before .before .before .before .before .pre)))
 
 close-requires : tie.Need-close-requires
-close-requires c κs = setting-stays (c .before .before .before .propagate .ensures) (setting (c .before .before .before .before .before .before .before .before .before .before .before .pre))
+close-requires c κs = setting-stays (c .before .before .before .before .hand-all-up .ensures) (setting-stays (c .before .before .before .before .before .before .before .before .before .mark-names .ensures) (setting (c .before .before .before .before .before .before .before .before .before .before .before .before .before .before .before .before .before .before .before .before .before .pre)))
 
 same-length : tie.Need-same-length
 same-length c = search needs
 
 returns : tie.Need-returns
-returns c = backwarded (c .before .before .before .before .before .before .before .before .before .before .before .before .before .before .pre) (closed-further (c .before .before .before .before .before .before .propagate .ensures) (c .before .before .close .ensures))
+returns c = backwarded (c .before .before .before .before .before .before .before .before .before .before .before .before .before .before .before .before .before .before .before .before .before .before .before .before .pre) (closed-further (name-grows (c .before .before .before .before .before .before .before .before .before .before .before .before .mark-names .ensures)) (closed-further (below-grows (c .before .before .before .before .before .before .before .hand-all-up .ensures)) (c .before .before .close .ensures)))
 
 pub mark-lost-below-spec : {M : Type 1} → statement M
-mark-lost-below-spec = tie.close (tie.spec propagate-requires close-requires same-length returns)
+mark-lost-below-spec =
+    tie.close
+    (tie.spec
+    sort-requires
+    mark-names-requires
+    hand-all-up-requires
+    close-requires
+    same-length
+    returns)

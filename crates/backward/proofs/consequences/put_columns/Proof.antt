@@ -1,10 +1,9 @@
-use Prim.Native.Nat.{_≤_, _-_}
-use mathlib.Core.Path.{_≡_, refl}
-use borrow.Author.Needs.{needs}
-use lib.ListN.{length}
-use Rattle.marks.specs.Passes.{Grows, none}
-use Rattle.layout.specs.Layouts.{markSquare}
 use native.Mathlib.Omega.{arith}
+use borrow.Author.Needs.{needs}
+use mathlib.Core.Path.{_≡_, refl}
+use lib.ListN.{length}
+use Rattle.layout.specs.Layouts.{markSquare}
+use Rattle.marks.specs.Passes.{Grows, none}
 use Rattle.marks.proofs.Passes.{grows-further}
 use Rattle.backward.specs.Rules.{Step}
 use Rattle.backward.proofs.Tested.{setting-stays}
@@ -12,53 +11,48 @@ use Rattle.backward.proofs.consequences.put_columns.Statement.{statemen
 use Rattle.backward.proofs.consequences.put_columns.Tie as tie
 use Rattle.backward.proofs.consequences.put_columns.Reads as reads
 use Rattle.backward.proofs.consequences.put_columns.Lts as lts
-use Rattle.backward.proofs.chains.head.Reads as head-reads
-use Rattle.backward.proofs.chains.name.Reads as name-reads
-use Rattle.backward.proofs.chains.next.Reads as next-reads
+use Rattle.classification.proofs.chains.entry.Reads as entry-reads
 use Rattle.backward.proofs.consequences.put_lost.Reads as put-lost-reads
 
 -- marks put by the rules
 abbrev Inv-loop : tie.InvT-loop
-Inv-loop signature first second first-table second-table work₀ second-chains pending₀ layout x kind node entry₀ seen₀ work pending entry seen = (seen ≤ 2048) × (length work ≡ length work₀) × Grows (Step signature first second first-table second-table layout) (markSquare layout) work₀ work
+Inv-loop signature first second first-table second-table work₀ chains waiting₀ layout x y entry₀ left₀ work waiting entry left = (length work ≡ length work₀) × Grows (Step signature first second first-table second-table layout) (markSquare layout) work₀ work
 
 abbrev μ-loop : tie.MeasureT-loop
-μ-loop signature first second first-table second-table work₀ second-chains pending₀ layout x kind node entry₀ seen₀ work pending entry seen = 2048 - seen
+μ-loop signature first second first-table second-table work₀ chains waiting₀ layout x y entry₀ left₀ work waiting entry left = left
 
-head-requires : tie.Need-head-requires Inv-loop μ-loop
-head-requires c κs = search needs
+entry-requires : tie.Need-entry-requires Inv-loop μ-loop
+entry-requires c κs = search needs
 
 loop-holds : tie.Need-loop-holds Inv-loop μ-loop
-loop-holds c = (search needs, refl, none)
+loop-holds c = (refl, none)
 
-name-requires : tie.Need-name-requires Inv-loop μ-loop
-name-requires c κs = search needs
-
-add-seen : tie.Need-add-seen Inv-loop μ-loop
-add-seen c = search needs
+sub-left : tie.Need-sub-left Inv-loop μ-loop
+sub-left c = search needs
 
 same-length : tie.Need-same-length Inv-loop μ-loop
 same-length c = search needs
 
 returns : tie.Need-returns Inv-loop μ-loop
-returns c = c .before .before .before .before .loop .inv .2
+returns c = c .before .before .before .loop .inv .1
 
-next-requires : tie.Need-next-requires Inv-loop μ-loop
-next-requires c κs = search needs
+entry-requires-2 : tie.Need-entry-requires-2 Inv-loop μ-loop
+entry-requires-2 c κs = search needs
 
 put-lost-requires : tie.Need-put-lost-requires Inv-loop μ-loop
-put-lost-requires c κs = (setting-stays (c .before .before .before .before .before .before .before .loop .inv .2) (c .before .before .before .before .before .before .before .before .before .before .before .before .before .before .before .pre .0), (c .before .before .before .before .before .before .before .before .before .before .before .before .before .before .before .pre .1, omega (arith, c .before .before .before .if1 .left)))
+put-lost-requires c κs = (setting-stays (c .before .before .before .before .before .before .loop .inv .1) (c .before .before .before .before .before .before .before .before .before .before .before .before .before .before .pre .0), (c .before .before .before .before .before .before .before .before .before .before .before .before .before .before .pre .1, omega (arith, c .before .before .before .if1 .left)))
 
 loop-less : tie.Need-loop-less Inv-loop μ-loop
 loop-less c = search needs
 
 loop-again : tie.Need-loop-again Inv-loop μ-loop
-loop-again c = (search needs, search needs, grows-further (c .before .before .before .before .before .before .before .before .before .before .loop .inv .2) (c .before .before .put-lost .ensures))
+loop-again c = (search needs, grows-further (c .before .before .before .before .before .before .before .before .before .loop .inv .1) (c .before .before .put-lost .ensures))
 
 same-length-2 : tie.Need-same-length-2 Inv-loop μ-loop
 same-length-2 c = search needs
 
 returns-2 : tie.Need-returns-2 Inv-loop μ-loop
-returns-2 c = c .before .loop .inv .2
+returns-2 c = c .before .loop .inv .1
 
 pub put-columns-spec : {M : Type 1} → statement M
 put-columns-spec =
@@ -66,13 +60,12 @@ put-columns-spec =
     (tie.spec
     Inv-loop
     μ-loop
-    head-requires
+    entry-requires
     loop-holds
-    name-requires
-    add-seen
+    sub-left
     same-length
     returns
-    next-requires
+    entry-requires-2
     put-lost-requires
     loop-less
     loop-again

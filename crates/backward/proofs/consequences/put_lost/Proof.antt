@@ -1,14 +1,15 @@
+use borrow.Author.Needs.{needs}
 use Rattle.marks.specs.Passes.{none}
 use Rattle.marks.proofs.Passes.{put-grows}
 use Rattle.backward.specs.Rules.{by-own}
-use borrow.Author.Needs.{needs}
 use Rattle.backward.proofs.consequences.put_lost.Statement.{statement}
 use Rattle.backward.proofs.consequences.put_lost.Tie as tie
 use Rattle.backward.proofs.consequences.put_lost.Reads as reads
 use Rattle.backward.proofs.consequences.put_lost.Lts as lts
 use Rattle.backward.proofs.rules.is_lost.Reads as is-lost-reads
 use Rattle.layout.proofs.is_marked.Reads as is-marked-reads
-use Rattle.marks.proofs.pending.put.Reads as put-reads
+use Rattle.layout.proofs.mark.Reads as mark-reads
+use Rattle.marks.proofs.waiting.wait.Reads as wait-reads
 
 is-marked-requires : tie.Need-is-marked-requires
 is-marked-requires c κs = search needs
@@ -22,14 +23,17 @@ returns c = none
 is-lost-requires : tie.Need-is-lost-requires
 is-lost-requires c κs = search needs
 
-put-requires : tie.Need-put-requires
-put-requires c κs = search needs
+mark-requires : tie.Need-mark-requires
+mark-requires c κs = search needs
+
+wait-requires : tie.Need-wait-requires
+wait-requires c κs = search needs
 
 same-length-2 : tie.Need-same-length-2
 same-length-2 c = search needs
 
 returns-2 : tie.Need-returns-2
-returns-2 c = put-grows (c .before .before .put .ensures) (by-own (c .before .before .before .before .before .before .is-lost .ensures .sound (c .before .before .before .before .before .if2 .taken)))
+returns-2 c = put-grows (c .before .before .before .before .mark .ensures) (by-own (c .before .before .before .before .before .before .before .is-lost .ensures .sound (c .before .before .before .before .before .before .if2 .taken)))
 
 same-length-3 : tie.Need-same-length-3
 same-length-3 c = search needs
@@ -45,7 +49,8 @@ put-lost-spec =
     same-length
     returns
     is-lost-requires
-    put-requires
+    mark-requires
+    wait-requires
     same-length-2
     returns-2
     same-length-3

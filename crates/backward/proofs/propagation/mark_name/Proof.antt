@@ -1,69 +1,57 @@
-use Prim.Native.Nat.{_≤_, _-_, _+_}
-use mathlib.Core.Path.{_≡_, refl}
+use native.Mathlib.Omega.{arith}
+use mathlib.Core.Path.{refl, sym, _∙_}
+use mathlib.Core.Logic.{inl}
+use Rattle.marks.specs.Passes.{none}
+use Rattle.marks.proofs.Lines.{empty-zeros}
+use Rattle.marks.proofs.Passes.{grows-further, put-grows, room-stays}
+use Rattle.backward.proofs.Tested.{missing-grows}
 use borrow.Author.Needs.{needs}
-use lib.ListN.{length}
-use Rattle.marks.specs.Passes.{Grows, none}
-use Rattle.layout.specs.Layouts.{markSquare}
-use Rattle.marks.proofs.Passes.{grows-further, put-grows}
-use Rattle.backward.specs.Rules.{NameLost}
-use Rattle.backward.proofs.Tested.{named-stays}
 use Rattle.backward.proofs.propagation.mark_name.Statement.{statement}
 use Rattle.backward.proofs.propagation.mark_name.Tie as tie
 use Rattle.backward.proofs.propagation.mark_name.Reads as reads
 use Rattle.backward.proofs.propagation.mark_name.Lts as lts
-use Rattle.backward.proofs.rules.name_lost.Reads as name-lost-reads
+use Rattle.layout.proofs.has_name.Reads as has-name-reads
 use Rattle.layout.proofs.mark.Reads as mark-reads
+use Rattle.marks.proofs.line.join.Reads as join-reads
+use Rattle.marks.proofs.line.mark_missing.Reads as mark-missing-reads
 
--- marks put by names
-abbrev Inv-loop : tie.InvT-loop
-Inv-loop signature work₀ layout x next₀ work next = (next ≤ layout .names + 1) × (length work ≡ length work₀) × Grows (NameLost signature layout) (markSquare layout) work₀ work
+has-name-requires : tie.Need-has-name-requires
+has-name-requires c κs = c .before .before .pre .0 .signature
 
-abbrev μ-loop : tie.MeasureT-loop
-μ-loop signature work₀ layout x next₀ work next = layout .names + 1 - next
+slice-aggregate-join : tie.Need-slice-aggregate-join
+slice-aggregate-join c = search needs
 
-loop-holds : tie.Need-loop-holds Inv-loop μ-loop
-loop-holds c = (search needs, refl, none)
+join-requires : tie.Need-join-requires
+join-requires c κs = (c .before .before .before .before .before .before .pre .0 .second, (c .before .before .before .before .before .before .pre .1, record { inside = search needs }))
 
-add-next : tie.Need-add-next Inv-loop μ-loop
-add-next c = search needs
+slice-aggregate-mark-missing : tie.Need-slice-aggregate-mark-missing
+slice-aggregate-mark-missing c = search needs
 
-name-lost-requires : tie.Need-name-lost-requires Inv-loop μ-loop
-name-lost-requires c κs = let h = named-stays (c .before .before .before .loop .inv .2) (c .before .before .before .before .before .before .pre .0) in (h .signature, (h .second, (c .before .before .before .before .before .before .pre .1, c .before .if1 .taken)))
+mark-missing-requires : tie.Need-mark-missing-requires
+mark-missing-requires c κs = (c .before .before .before .before .before .before .before .before .before .before .pre .0 .marks, (c .before .before .before .before .before .before .before .before .before .before .pre .1, record { inside = omega (arith, c .before .before .before .before .before .before .before .before .before .before .pre .0 .few, c .before .before .before .join .ensures .long) }))
 
-mark-requires : tie.Need-mark-requires Inv-loop μ-loop
-mark-requires c κs = (named-stays (c .before .before .before .before .before .before .loop .inv .2) (c .before .before .before .before .before .before .before .before .before .pre .0) .marks, (c .before .before .before .before .before .before .before .before .before .pre .1, c .before .before .before .before .if1 .taken))
+mark-requires : tie.Need-mark-requires
+mark-requires c κs = (room-stays (c .before .before .before .mark-missing .ensures) (c .before .before .before .before .before .before .before .before .before .before .before .before .before .before .pre .0 .marks), (c .before .before .before .before .before .before .before .before .before .before .before .before .before .before .pre .1, omega arith))
 
-loop-less : tie.Need-loop-less Inv-loop μ-loop
-loop-less c = search needs
-
-loop-again : tie.Need-loop-again Inv-loop μ-loop
-loop-again c = (search needs, search needs, grows-further (c .before .before .before .before .before .before .before .before .before .loop .inv .2) (put-grows (c .before .before .mark .ensures) (c .before .before .before .before .before .name-lost .ensures .sound (c .before .before .before .before .if2 .taken))))
-
-loop-less-2 : tie.Need-loop-less-2 Inv-loop μ-loop
-loop-less-2 c = search needs
-
-loop-again-2 : tie.Need-loop-again-2 Inv-loop μ-loop
-loop-again-2 c = (search needs, search needs, c .before .before .before .before .before .loop .inv .2)
-
-same-length : tie.Need-same-length Inv-loop μ-loop
+same-length : tie.Need-same-length
 same-length c = search needs
 
-returns : tie.Need-returns Inv-loop μ-loop
-returns c = c .before .before .loop .inv .2
+returns : tie.Need-returns
+returns c = let has = sym (c .before .before .before .before .before .before .before .before .before .before .before .before .before .before .has-name .ensures) ∙ c .before .before .before .before .before .before .before .before .before .before .before .before .before .if1 .taken in grows-further (missing-grows (c .before .before .before .before .before .before .before .before .before .before .before .before .before .before .before .before .before .pre .0) (c .before .before .before .before .before .before .before .before .before .before .before .before .before .before .before .before .before .pre .1) has (empty-zeros 16) (c .before .before .before .before .before .before .before .before .before .before .join .ensures) (c .before .before .before .before .before .before .mark-missing .ensures)) (put-grows (c .before .before .mark .ensures) (record { chosen-name = has; not-second = inl refl }))
+
+returns-2 : tie.Need-returns-2
+returns-2 c = none
 
 pub mark-name-spec : {M : Type 1} → statement M
 mark-name-spec =
     tie.close
     (tie.spec
-    Inv-loop
-    μ-loop
-    loop-holds
-    add-next
-    name-lost-requires
+    has-name-requires
+    slice-aggregate-join
+    join-requires
+    slice-aggregate-mark-missing
+    mark-missing-requires
     mark-requires
-    loop-less
-    loop-again
-    loop-less-2
-    loop-again-2
     same-length
-    returns)
+    returns
+    returns-2)

@@ -1,44 +1,74 @@
+use native.Mathlib.Omega.{arith}
 use borrow.Author.Needs.{needs}
+use mathlib.Core.Path.{_≡_, refl}
+use lib.ListN.{length}
+use Rattle.layout.specs.Layouts.{markSquare}
+use Rattle.marks.specs.Passes.{Grows, none}
 use Rattle.marks.proofs.Passes.{grows-further}
-use Rattle.backward.proofs.Tested.{setting-stays, named, squares, name-grows, below-grows}
+use Rattle.backward.specs.Rules.{Step}
+use Rattle.backward.proofs.Tested.{setting-stays}
 use Rattle.backward.proofs.propagation.propagate.Statement.{statement}
 use Rattle.backward.proofs.propagation.propagate.Tie as tie
 use Rattle.backward.proofs.propagation.propagate.Reads as reads
 use Rattle.backward.proofs.propagation.propagate.Lts as lts
-use Rattle.backward.proofs.chains.fill.Reads as fill-reads
-use Rattle.backward.proofs.propagation.hand_names_up.Reads as hand-names-up-reads
-use Rattle.backward.proofs.propagation.look_at_rows.Reads as look-at-rows-reads
-use Rattle.backward.proofs.propagation.mark_names.Reads as mark-names-reads
+use Rattle.backward.proofs.consequences.deal.Reads as deal-reads
+use Rattle.marks.proofs.waiting.take.Reads as take-reads
+use Rattle.marks.proofs.waiting.wait_for_new.Reads as wait-for-new-reads
 
-mark-names-requires : tie.Need-mark-names-requires
-mark-names-requires c κs = named (c .before .before .before .before .before .before .before .pre)
+-- marks put by the rules
+abbrev Inv-loop : tie.InvT-loop
+Inv-loop signature first second first-table second-table work₀ first-chains second-chains waiting₀ layout left₀ work waiting left = (length work ≡ length work₀) × Grows (Step signature first second first-table second-table layout) (markSquare layout) work₀ work
 
-hand-names-up-requires : tie.Need-hand-names-up-requires
-hand-names-up-requires c κs = (c .before .before .before .before .before .before .before .before .before .before .before .pre .places .signature, squares (setting-stays (c .before .before .before .mark-names .ensures) (c .before .before .before .before .before .before .before .before .before .before .before .pre)))
+abbrev μ-loop : tie.MeasureT-loop
+μ-loop signature first second first-table second-table work₀ first-chains second-chains waiting₀ layout left₀ work waiting left = left
 
-fill-requires : tie.Need-fill-requires
-fill-requires c κs = c .before .before .before .before .before .before .before .before .before .before .before .before .before .before .before .pre .first-shaped
+wait-for-new-requires : tie.Need-wait-for-new-requires Inv-loop μ-loop
+wait-for-new-requires c κs = (c .before .before .before .before .before .before .before .before .pre .places .marks, c .before .before .before .before .before .before .before .before .pre .few)
 
-fill-requires-2 : tie.Need-fill-requires-2
-fill-requires-2 c κs = c .before .before .before .before .before .before .before .before .before .before .before .before .before .before .before .before .before .pre .second-shaped
+loop-holds : tie.Need-loop-holds Inv-loop μ-loop
+loop-holds c = (refl, none)
 
-look-at-rows-requires : tie.Need-look-at-rows-requires
-look-at-rows-requires c κs = setting-stays (c .before .before .before .before .before .before .before .before .before .before .hand-names-up .ensures) (setting-stays (c .before .before .before .before .before .before .before .before .before .before .before .before .before .before .mark-names .ensures) (c .before .before .before .before .before .before .before .before .before .before .before .before .before .before .before .before .before .before .before .before .before .before .pre))
+sub-left : tie.Need-sub-left Inv-loop μ-loop
+sub-left c = search needs
 
-same-length : tie.Need-same-length
+take-requires : tie.Need-take-requires Inv-loop μ-loop
+take-requires c κs = search needs
+
+same-length : tie.Need-same-length Inv-loop μ-loop
 same-length c = search needs
 
-returns : tie.Need-returns
-returns c = grows-further (name-grows (c .before .before .before .before .before .before .before .before .before .before .before .before .before .before .before .before .before .mark-names .ensures)) (grows-further (below-grows (c .before .before .before .before .before .before .before .before .before .before .before .before .before .hand-names-up .ensures)) (c .before .before .look-at-rows .ensures))
+returns : tie.Need-returns Inv-loop μ-loop
+returns c = c .before .before .before .before .before .loop .inv .1
+
+deal-requires : tie.Need-deal-requires Inv-loop μ-loop
+deal-requires c κs = (setting-stays (c .before .before .before .before .before .before .before .loop .inv .1) (c .before .before .before .before .before .before .before .before .before .before .before .before .before .before .before .before .before .pre), omega (arith, c .before .before .if1 .left))
+
+loop-less : tie.Need-loop-less Inv-loop μ-loop
+loop-less c = search needs
+
+loop-again : tie.Need-loop-again Inv-loop μ-loop
+loop-again c = (search needs, grows-further (c .before .before .before .before .before .before .before .before .before .before .loop .inv .1) (c .before .before .deal .ensures))
+
+same-length-2 : tie.Need-same-length-2 Inv-loop μ-loop
+same-length-2 c = search needs
+
+returns-2 : tie.Need-returns-2 Inv-loop μ-loop
+returns-2 c = c .before .loop .inv .1
 
 pub propagate-spec : {M : Type 1} → statement M
 propagate-spec =
     tie.close
     (tie.spec
-    mark-names-requires
-    hand-names-up-requires
-    fill-requires
-    fill-requires-2
-    look-at-rows-requires
+    Inv-loop
+    μ-loop
+    wait-for-new-requires
+    loop-holds
+    sub-left
+    take-requires
     same-length
-    returns)
+    returns
+    deal-requires
+    loop-less
+    loop-again
+    same-length-2
+    returns-2)

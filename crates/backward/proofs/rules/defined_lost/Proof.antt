@@ -1,6 +1,6 @@
 use mathlib.Core.Path.{sym, _∙_}
 use native.Mathlib.Omega.{arith}
-use Rattle.backward.proofs.Tested.{part-step}
+use Rattle.backward.proofs.Tested.{part-step, row-step, rows}
 use borrow.Author.Needs.{needs}
 use Rattle.backward.proofs.rules.defined_lost.Statement.{statement}
 use Rattle.backward.proofs.rules.defined_lost.Tie as tie
@@ -11,10 +11,10 @@ use Rattle.backward.proofs.rules.some_part_lost.Reads as some-part-lost
 use Rattle.release.proofs.table.kind.Reads as kind-reads
 
 column-lost-requires : tie.Need-column-lost-requires
-column-lost-requires c κs = let p = c .before .before .before .before .before .before .before .before .pre in (p .0, (record { not-joined = λ h. absurd (omega (arith, c .if1 .taken)) }, p .1))
+column-lost-requires c κs = (rows (c .before .before .before .before .before .before .before .before .pre .0), c .before .before .before .before .before .before .before .before .pre .1)
 
 returns : tie.Need-returns
-returns c = c .column-lost .ensures
+returns c = row-step (record { not-joined = λ h. absurd (omega (arith, c .before .if1 .taken)) }) (c .column-lost .ensures)
 
 kind-requires : tie.Need-kind-requires
 kind-requires c κs = search needs
@@ -26,10 +26,10 @@ returns-2 : tie.Need-returns-2
 returns-2 c = part-step (c .before .before .before .if1 .left) (sym (c .before .before .kind .ensures) ∙ c .before .if2 .taken) (c .some-part-lost .ensures)
 
 column-lost-requires-2 : tie.Need-column-lost-requires-2
-column-lost-requires-2 c κs = let p = c .before .before .before .before .before .before .before .before .before .before .pre in (p .0, (record { not-joined = λ h e. c .if2 .left (c .before .kind .ensures ∙ e) }, p .1))
+column-lost-requires-2 c κs = (rows (c .before .before .before .before .before .before .before .before .before .before .pre .0), c .before .before .before .before .before .before .before .before .before .before .pre .1)
 
 returns-3 : tie.Need-returns-3
-returns-3 c = c .column-lost2 .ensures
+returns-3 c = row-step (record { not-joined = λ h e. c .before .if2 .left (c .before .before .kind .ensures ∙ e) }) (c .column-lost2 .ensures)
 
 pub defined-lost-spec : {M : Type 1} → statement M
 defined-lost-spec =

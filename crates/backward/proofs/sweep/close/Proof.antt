@@ -1,36 +1,52 @@
-use mathlib.Core.Path.{_≡_, refl}
+use native.Mathlib.Omega.{arith}
 use borrow.Author.Needs.{needs}
+use mathlib.Core.Path.{_≡_, refl}
 use lib.ListN.{length}
-use Rattle.marks.specs.Passes.{Grows, none}
-use Rattle.marks.specs.Squares.{unset}
-use Rattle.marks.proofs.Passes.{grows-further, pass-closed}
 use Rattle.layout.specs.Layouts.{markSquare}
+use Rattle.marks.specs.Squares.{unset}
+use Rattle.marks.specs.Passes.{Grows, none}
+use Rattle.marks.proofs.Passes.{grows-further, unset-falls, pass-closed}
 use Rattle.backward.specs.Rules.{Step}
 use Rattle.backward.proofs.Tested.{setting-stays}
 use Rattle.backward.proofs.sweep.close.Statement.{statement}
 use Rattle.backward.proofs.sweep.close.Tie as tie
 use Rattle.backward.proofs.sweep.close.Reads as reads
 use Rattle.backward.proofs.sweep.close.Lts as lts
+use Rattle.classification.proofs.chains.fill.Reads as fill-reads
+use Rattle.backward.proofs.propagation.propagate.Reads as propagate-reads
 use Rattle.backward.proofs.sweep.pass.Reads as pass-reads
+use Rattle.marks.proofs.waiting.see_all.Reads as see-all-reads
 
 -- marks put by the rules
 abbrev Inv-loop : tie.InvT-loop
-Inv-loop signature first second first-table second-table work₀ layout work = (length work ≡ length work₀) × Grows (Step signature first second first-table second-table layout) (markSquare layout) work₀ work
+Inv-loop signature first second first-table second-table work₀ order layout waiting₀ first-chains second-chains work waiting = (length work ≡ length work₀) × Grows (Step signature first second first-table second-table layout) (markSquare layout) work₀ work
 
 abbrev μ-loop : tie.MeasureT-loop
-μ-loop signature first second first-table second-table work₀ layout work = unset work
+μ-loop signature first second first-table second-table work₀ order layout waiting₀ first-chains second-chains work waiting = unset work
+
+fill-requires : tie.Need-fill-requires Inv-loop μ-loop
+fill-requires c κs = (c .before .before .before .before .before .before .before .pre .first-shaped, omega (arith, c .before .before .before .before .before .before .before .pre .few))
+
+fill-requires-2 : tie.Need-fill-requires-2 Inv-loop μ-loop
+fill-requires-2 c κs = (c .before .before .before .before .before .before .before .before .before .pre .second-shaped, omega (arith, c .before .before .before .before .before .before .before .before .before .pre .few))
+
+see-all-requires : tie.Need-see-all-requires Inv-loop μ-loop
+see-all-requires c κs = (c .before .before .before .before .before .before .before .before .before .before .before .before .pre .places .marks, c .before .before .before .before .before .before .before .before .before .before .before .before .pre .few)
 
 loop-holds : tie.Need-loop-holds Inv-loop μ-loop
 loop-holds c = (refl, none)
 
 pass-requires : tie.Need-pass-requires Inv-loop μ-loop
-pass-requires c κs = setting-stays (c .before .loop .inv .1) (c .before .before .before .before .before .before .before .before .pre)
+pass-requires c κs = setting-stays (c .before .loop .inv .1) (c .before .before .before .before .before .before .before .before .before .before .before .before .before .before .before .pre)
+
+propagate-requires : tie.Need-propagate-requires Inv-loop μ-loop
+propagate-requires c κs = setting-stays (c .before .before .before .before .before .before .before .pass .ensures .grows) (setting-stays (c .before .before .before .before .before .before .before .before .before .loop .inv .1) (c .before .before .before .before .before .before .before .before .before .before .before .before .before .before .before .before .before .before .before .before .before .before .before .pre))
 
 loop-less : tie.Need-loop-less Inv-loop μ-loop
-loop-less c = c .before .before .before .pass .ensures .fewer (c .if1 .taken)
+loop-less c = omega (arith, unset-falls (c .before .before .propagate .ensures), c .before .before .before .before .before .before .before .before .before .before .pass .ensures .fewer (c .before .before .before .before .before .before .before .if1 .taken))
 
 loop-again : tie.Need-loop-again Inv-loop μ-loop
-loop-again c = (search needs, grows-further (c .before .before .before .before .before .loop .inv .1) (c .before .before .before .pass .ensures .grows))
+loop-again c = (search needs, grows-further (c .before .before .before .before .before .before .before .before .before .before .before .before .loop .inv .1) (grows-further (c .before .before .before .before .before .before .before .before .before .before .pass .ensures .grows) (c .before .before .propagate .ensures)))
 
 same-length : tie.Need-same-length Inv-loop μ-loop
 same-length c = search needs
@@ -41,4 +57,16 @@ returns c = pass-closed (c .before .before .before .before .before .loop .inv .1
 pub close-spec : {M : Type 1} → statement M
 close-spec =
     tie.close
-    (tie.spec Inv-loop μ-loop loop-holds pass-requires loop-less loop-again same-length returns)
+    (tie.spec
+    Inv-loop
+    μ-loop
+    fill-requires
+    fill-requires-2
+    see-all-requires
+    loop-holds
+    pass-requires
+    propagate-requires
+    loop-less
+    loop-again
+    same-length
+    returns)
