@@ -79,37 +79,9 @@ pub record InBefore (q : Square) (w : List ℕ) (x : ℕ) (k : List ℕ) (from y
   pub after : from ≤ y
   pub has : (z : ℕ) → from ≤ z → z < y → z ≤ q .names → Marked q w x z → Has k z
 
--- what the byte i of w has and the line k has not, at the column y
-abbrev rest : List ℕ → List ℕ → ℕ → ℕ → ℕ
-rest w k i y = bitXor (bitOr (getD w i 0) (getD k (y / 8) 0)) (getD k (y / 8) 0)
-
 module _ {q : Square} {w : List ℕ} {x : ℕ} {k : List ℕ} {from : ℕ} where
   pub out-start : (y : ℕ) → y ≡ from → InBefore q w x k from y
   out-start y e = record { after = omega arith; has = λ z h l b m. absurd (omega arith) }
-
-  pub out-here : {y i : ℕ} → y ≤ q .names → InBefore q w x k from y → Place q x y i → rest w k i y / 2 ^ (y % 8) % 2 ≡ 1 → NextOutside q w x k from y
-  unfolding bit
-  out-here {y} {i} l n p e = record { after = n .after; inside = omega arith; none = λ z h b m. n .has z h b (omega arith) m; found = λ h. record { is = rw (← p .is) (outside-bit (getD w i 0) (getD k (y / 8) 0) (y % 8) e) } }
-
-  pub out-one : {y i : ℕ} → InBefore q w x k from y → Place q x y i → (rest w k i y / 2 ^ (y % 8) % 2 ≡ 1 → ⊥) → InBefore q w x k from (y + 1)
-  unfolding bit
-  out-one {y} {i} n p e = record { after = omega (arith, n .after); has = λ z h l b m. by-place z h l b m (ℕ-discrete z y) }
-    where
-      by-place : (z : ℕ) → from ≤ z → z < y + 1 → z ≤ q .names → Marked q w x z → Dec (z ≡ y) → Has k z
-      by-place z h l b m (yes g) = let c : Marked q w x y = rw g at m in rw g (record { is = not-outside (getD w i 0) (getD k (y / 8) 0) (y % 8) e (rw (p .is) (c .is)) })
-      by-place z h l b m (no g) = n .has z h (omega arith) b m
-
-  pub out-byte : {y i : ℕ} → InBefore q w x k from y → Place q x y i → rest w k i y / 2 ^ (y % 8) ≡ 0 → InBefore q w x k from (8 * (y / 8) + 8)
-  out-byte {y} {i} n p e = record { after = omega (arith, n .after); has = λ z h l b m. by-place z h l b m (decLt z y) }
-    where
-      by-place : (z : ℕ) → from ≤ z → z < 8 * (y / 8) + 8 → z ≤ q .names → Marked q w x z → Dec (z < y) → Has k z
-      by-place z h l b m (yes g) = n .has z h g b m
-      by-place z h l b m (no g) =
-          let same : z / 8 ≡ y / 8 = omega arith in
-          let there : place q x z ≡ i = sym (place-column q x z) ∙ ap (λ (b : ℕ). place q x 0 + b) same ∙ place-column q x y ∙ sym (p .is) in
-          let has : bit (getD w i 0) (z % 8) ≡ 1 = rw there at (m .is) in
-          let not : bit (rest w k i y) (z % 8) ≡ 1 → ⊥ = λ f. omega (arith, no-high-bit (rest w k i y) (y % 8) (z % 8) (omega arith) e) in
-          record { is = rw same (not-outside (getD w i 0) (getD k (y / 8) 0) (z % 8) not has) }
 
   pub out-none : {y : ℕ} → from ≤ suc (q .names) → InBefore q w x k from y → q .names < y → NextOutside q w x k from (q .names + 1)
   out-none f n l = record { after = omega arith; inside = omega arith; none = λ z h b m. n .has z h (omega arith) (omega arith) m; found = λ h. absurd (omega arith) }

@@ -192,56 +192,10 @@ pub record AllBefore (q : Square) (w : List ℕ) (x from y : ℕ) : Type 0 where
   pub after : from ≤ y
   pub all : (z : ℕ) → from ≤ z → z < y → z ≤ q .names → Marked q w x z
 
--- bytes of one row seen in another
-pub record SeenWithin (w : List ℕ) (source target i missing : ℕ) : Type 0 where
-  pub byte : missing ≡ 0 → (j : ℕ) → j < i → bitXor (bitOr (getD w (source + j) 0) (getD w (target + j) 0)) (getD w (target + j) 0) ≡ 0
-
-pub seen-none : {w : List ℕ} {source target missing : ℕ} → SeenWithin w source target 0 missing
-seen-none = record { byte = λ e j l. absurd (omega arith) }
-
-pub seen-more : {w : List ℕ} {source target i missing : ℕ} → SeenWithin w source target i missing → SeenWithin w source target (i + 1) (bitOr missing (bitXor (bitOr (getD w (source + i) 0) (getD w (target + i) 0)) (getD w (target + i) 0)))
-seen-more {w} {source} {target} {i} {missing} seen = record { byte = λ e j l. let z = both-zero missing _ e in by-place j l (z .0) (z .1) (ℕ-discrete j i) }
-  where
-    by-place : (j : ℕ) → j < i + 1 → missing ≡ 0 → bitXor (bitOr (getD w (source + i) 0) (getD w (target + i) 0)) (getD w (target + i) 0) ≡ 0 → Dec (j ≡ i) → bitXor (bitOr (getD w (source + j) 0) (getD w (target + j) 0)) (getD w (target + j) 0) ≡ 0
-    by-place j l e h (yes z) = rw z h
-    by-place j l e h (no z) = seen .byte e j (omega arith)
-
-pub seen-within : {q : Square} {w : List ℕ} {from to source target i missing : ℕ} → source ≡ place q from 0 → target ≡ place q to 0 → (i ≤ q .names / 8 → ⊥) → SeenWithin w source target i missing → missing ≡ 0 → Within q from to w
-seen-within {q} {w} {from} {to} {source} {target} s t h seen e = record {
-  marked = λ y l m.
-      let a : source + y / 8 ≡ place q from y = ap (λ (z : ℕ). z + y / 8) s ∙ place-column q from y in
-      let b : target + y / 8 ≡ place q to y = ap (λ (z : ℕ). z + y / 8) t ∙ place-column q to y in
-      let has : bit (getD w (source + y / 8) 0) (y % 8) ≡ 1 = rw a (m .is) in
-      record { is = rw (← b) (within-byte (getD w (source + y / 8) 0) (getD w (target + y / 8) 0) (y % 8) (seen .byte e (y / 8) (omega arith)) has) };
-}
-
 -- the next mark of a row
 module _ {q : Square} {w : List ℕ} {x from : ℕ} where
   pub next-start : (y : ℕ) → y ≡ from → NoneBefore q w x from y
   next-start y e = record { after = omega arith; none = λ z h l k m. absurd (omega arith) }
-
-  pub next-here : {y i : ℕ} → y ≤ q .names → NoneBefore q w x from y → Place q x y i → getD w i 0 / 2 ^ (y % 8) % 2 ≡ 1 → NextMarked q w x from y
-  unfolding bit
-  next-here l n p e = record { after = n .after; inside = omega arith; none = λ z h k m. n .none z h k (omega arith) m; found = λ h. record { is = rw (← p .is) e } }
-
-  pub next-one : {y i : ℕ} → NoneBefore q w x from y → Place q x y i → (getD w i 0 / 2 ^ (y % 8) % 2 ≡ 1 → ⊥) → NoneBefore q w x from (y + 1)
-  unfolding bit
-  next-one {y} {i} n p e = record { after = omega (arith, n .after); none = λ z h l k m. by-place z h l k m (ℕ-discrete z y) }
-    where
-      by-place : (z : ℕ) → from ≤ z → z < y + 1 → z ≤ q .names → Marked q w x z → Dec (z ≡ y) → ⊥
-      by-place z h l k m (yes g) = let c : Marked q w x y = rw g at m in e (rw (p .is) (c .is))
-      by-place z h l k m (no g) = n .none z h (omega arith) k m
-
-  pub next-byte : {y i : ℕ} → NoneBefore q w x from y → Place q x y i → getD w i 0 / 2 ^ (y % 8) ≡ 0 → NoneBefore q w x from (8 * (y / 8) + 8)
-  next-byte {y} {i} n p e = record { after = omega (arith, n .after); none = λ z h l k m. by-place z h l k m (decLt z y) }
-    where
-      by-place : (z : ℕ) → from ≤ z → z < 8 * (y / 8) + 8 → z ≤ q .names → Marked q w x z → Dec (z < y) → ⊥
-      by-place z h l k m (yes g) = n .none z h g k m
-      by-place z h l k m (no g) =
-          let same : z / 8 ≡ y / 8 = omega arith in
-          let there : place q x z ≡ i = sym (place-column q x z) ∙ ap (λ (b : ℕ). place q x 0 + b) same ∙ place-column q x y ∙ sym (p .is) in
-          let has : bit (getD w i 0) (z % 8) ≡ 1 = rw there at (m .is) in
-          omega (arith, no-high-bit (getD w i 0) (y % 8) (z % 8) (omega arith) e)
 
   pub next-none : {y : ℕ} → from ≤ suc (q .names) → NoneBefore q w x from y → q .names < y → NextMarked q w x from (q .names + 1)
   next-none f n l = record { after = omega arith; inside = omega arith; none = λ z h k m. n .none z h (omega arith) (omega arith) m; found = λ h. absurd (omega arith) }

@@ -1,5 +1,6 @@
 -- Squares of marks, passes over them, and lines. To be read in this order.
 pub mod Squares
 pub mod Passes
+pub mod Words
 pub mod Lines
 pub mod Inclusions

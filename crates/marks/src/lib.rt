@@ -12,6 +12,7 @@ pub mod order;
 pub mod rows;
 pub mod turned;
 pub mod waiting;
+pub mod words;
 
 // The place of a square: names + 1 rows and as many columns, row after row from `base` on. A row begins with a byte of its own.
 pub struct Square {

@@ -10,6 +10,10 @@ ghost use Rattle.marks.specs.Lines.{Has, Spans, Added, Joined, NextOutsi
 use crate::Square;
 use crate::mark;
 use crate::place;
+use crate::words::block_end;
+use crate::words::first_bit;
+use crate::words::or_none;
+use crate::words::rest;
 
 // The bytes of a line for all nodes that there can be.
 pub struct Line {}
@@ -66,19 +70,17 @@ pub fn next_outside(work: &[u8], square: Square, x: usize, line: &[u8], from: us
     requires { ⌜ Spans (square .names) (now line) ⌝ }
     ensures { λ r. ⌜ NextOutside square (now (work .entry)) x (now (line .entry)) from r ⌝ }
 {
+    let row = place(square, x, 0);
     let mut y = from;
     while y <= square.names {
-        let i = place(square, x, y);
-        let byte = work[i];
-        let out = line[y / 8];
-        let rest = ((byte | out) ^ out) >> (y % 8);
-        if rest == 0 {
-            y = 8 * (y / 8) + 8;
-        } else if rest % 2 == 1 {
-            return y;
-        } else {
-            y += 1;
+        let out = rest(line, 0, square.names, y);
+        let all = rest(work, row, square.names, y);
+        let rest = (all | out) ^ out;
+        if 0 < rest {
+            let found = y + first_bit(rest);
+            return or_none(square.names, found);
         }
+        y = block_end(square.names, y);
     }
     square.names + 1
 }

@@ -1,16 +1,39 @@
 // Whole rows of marks, eight cells at a time.
 ghost use mathlib.Core.Path.{_≡_};
 ghost use mathlib.Core.Bool.{true};
-ghost use Prim.Native.Nat.{suc, _≤_};
+ghost use Prim.Native.Nat.{suc, _%_, _≤_};
 ghost use Rattle.marks.specs.Squares.{Room, Within, NextMarked, NextUnmarked};
 ghost use Rattle.marks.specs.Passes.{Grows, Pass, FromRow};
 use crate::Square;
 use crate::mark;
 use crate::place;
+use crate::words::block_end;
+use crate::words::first_bit;
+use crate::words::or_none;
+use crate::words::rest;
+use crate::words::word;
 
-// Whether row `to` has the marks of row `from`. Where it says no, nothing is said. No byte is skipped, so that the machine can
-// look at many at a time.
-pub fn seems_within(work: &[u8], square: Square, from: usize, to: usize) -> bool
+// Whether row `to` has the marks of row `from`, by words, of which the row has a whole number. Where it says no, nothing is said.
+fn words_within(work: &[u8], square: Square, from: usize, to: usize) -> bool
+    requires { ⌜ Room square (now work) ⌝ }
+    requires { ⌜ (from ≤ square .names) × (to ≤ square .names) × (56 ≤ square .names % 64) ⌝ }
+    ensures { λ r. ⌜ (r ≡ true → Within square from to (now (work .entry))) ⌝ }
+{
+    let source = place(square, from, 0);
+    let target = place(square, to, 0);
+    let mut missing: u64 = 0;
+    let mut i = 0;
+    while i <= square.names / 8 {
+        let given = word(work, source + i);
+        let had = word(work, target + i);
+        i += 8;
+        missing = missing | ((given | had) ^ had);
+    }
+    missing == 0
+}
+
+// The same by bytes. No byte is skipped, so that the machine can look at many at a time.
+fn bytes_within(work: &[u8], square: Square, from: usize, to: usize) -> bool
     requires { ⌜ Room square (now work) ⌝ }
     requires { ⌜ (from ≤ square .names) × (to ≤ square .names) ⌝ }
     ensures { λ r. ⌜ (r ≡ true → Within square from to (now (work .entry))) ⌝ }
@@ -28,24 +51,33 @@ pub fn seems_within(work: &[u8], square: Square, from: usize, to: usize) -> bool
     missing == 0
 }
 
-// The first column of row x from `from` on that is marked, or the number after the last column. Bytes without marks are skipped.
+// The same for any row.
+pub fn seems_within(work: &[u8], square: Square, from: usize, to: usize) -> bool
+    requires { ⌜ Room square (now work) ⌝ }
+    requires { ⌜ (from ≤ square .names) × (to ≤ square .names) ⌝ }
+    ensures { λ r. ⌜ (r ≡ true → Within square from to (now (work .entry))) ⌝ }
+{
+    if 56 <= square.names % 64 {
+        return words_within(work, square, from, to);
+    }
+    bytes_within(work, square, from, to)
+}
+
+// The first column of row x from `from` on that is marked, or the number after the last column. Words without marks are skipped.
 pub fn next_marked(work: &[u8], square: Square, x: usize, from: usize) -> usize
     requires { ⌜ Room square (now work) ⌝ }
     requires { ⌜ (x ≤ square .names) × (from ≤ suc (square .names)) ⌝ }
     ensures { λ r. ⌜ NextMarked square (now (work .entry)) x from r ⌝ }
 {
+    let row = place(square, x, 0);
     let mut y = from;
     while y <= square.names {
-        let i = place(square, x, y);
-        let byte = work[i];
-        let rest = byte >> (y % 8);
-        if rest == 0 {
-            y = 8 * (y / 8) + 8;
-        } else if rest % 2 == 1 {
-            return y;
-        } else {
-            y += 1;
+        let rest = rest(work, row, square.names, y);
+        if 0 < rest {
+            let found = y + first_bit(rest);
+            return or_none(square.names, found);
         }
+        y = block_end(square.names, y);
     }
     square.names + 1
 }

@@ -6,6 +6,9 @@ ghost use Rattle.marks.specs.Squares.{Room};
 use crate::Square;
 use crate::line::Line;
 use crate::place;
+use crate::words::block_end;
+use crate::words::first_bit;
+use crate::words::rest;
 
 // One array holds for each of ROWS keys a line, what was seen of a row; whether a row waits; the rows that wait, in a ring; where the
 // ring begins, and how many wait.
@@ -163,14 +166,11 @@ pub fn next(line: &[u8; Line::LENGTH], from: usize) -> usize
 {
     let mut y = from;
     while y < Line::COLUMNS {
-        let rest = line[y / 8] >> (y % 8);
-        if rest == 0 {
-            y = 8 * (y / 8) + 8;
-        } else if rest % 2 == 1 {
-            return y;
-        } else {
-            y += 1;
+        let rest = rest(line, 0, Line::COLUMNS - 1, y);
+        if 0 < rest {
+            return y + first_bit(rest);
         }
+        y = block_end(Line::COLUMNS - 1, y);
     }
     Line::COLUMNS
 }
