@@ -1,5 +1,6 @@
 -- Laws of marking by the rules: what a function is given, and what each of its turns and exits has done.
 --   ..-stays, ..-at, pair                 what is asked holds after marks are put, too, and at other cells
+--   noted-stays, zeros-..                 what is asked of the memory of what was noted; a memory of zeros
 --   part-pass, gather-pass, fill-pass     a mark put by a rule is a pass
 --   ..-grows                              the same where only the growth is asked, for new marks that are dealt with
 --   restriction-of, over-of               what new marks ask of restrictions, from the tests made on them
@@ -8,8 +9,10 @@
 use mathlib.Core.Path.{_≡_, refl, sym, _∙_}
 use mathlib.Core.Bool.{Bool, true, false, false≢true}
 use mathlib.Core.List.{List}
-use Prim.Native.Nat.{ℕ, suc, _≤_, _<_}
+use Prim.Native.Nat.{ℕ, suc, _+_, _/_, _≤_, _<_}
+use native.Mathlib.Nat.{mul-le-mul}
 use native.Mathlib.Omega.{arith}
+use lib.ListN.{length, replicate, length-replicate, getD-replicate}
 use borrow.Author.Tests.{ne-eqb}
 use Rattle.el.proofs.Tests.{Tells, tells-as, never, always}
 use Rattle.el.proofs.Derivations.{Serves}
@@ -17,12 +20,12 @@ use Rattle.release.specs.Files.{joins, restricts}
 use Rattle.release.specs.Tables.{kindAt, roleAt, fillerAt, countAt, partAt, HasRow, Conjunctive, Shaped}
 use Rattle.release.proofs.Faults.{restricts-not-joins}
 use Rattle.marks.specs.declared.Square.{Square}
-use Rattle.marks.specs.Squares.{Room, Marked, Put}
+use Rattle.marks.specs.Squares.{span, width, Room, Marked, Unmarked, Put}
 use Rattle.marks.specs.Passes.{Grows, Pass, Below, Due, FromRow}
 use Rattle.marks.specs.Inclusions.{Taking}
-use Rattle.marks.proofs.Squares.{refuted}
+use Rattle.marks.proofs.Squares.{refuted, zeroed-unmarked}
 use Rattle.marks.proofs.Passes.{room-stays, marks-stay, below-end, pass-none, pass-as, pass-changed, pass-unchanged, pass-both, pass-by, grows-as, put-pass, put-grows, due-as}
-use Rattle.classification.specs.Steps.{PartMarked, Gathers, Fills, Step, to-itself, to-top, to-part, to-gathered, to-filled, through, Gathered, Seeds, GatheredAt, FilledAt, AxiomSettled, Setting, SeededSetting, InRow, Source, Pair, Restriction, Over}
+use Rattle.classification.specs.Steps.{PartMarked, Gathers, Fills, Step, to-itself, to-top, to-part, to-gathered, to-filled, through, Gathered, Seeds, GatheredAt, FilledAt, AxiomSettled, Setting, SeededSetting, InRow, Source, Pair, Restriction, Over, Noted}
 
 not-both : {A : Type 0} (k : ℕ) → joins k ≡ true → restricts k ≡ true → A
 not-both k j r = absurd (false≢true (sym (restricts-not-joins k r) ∙ j))
@@ -43,6 +46,17 @@ module _ {s t : List ℕ} {q : Square} where
 
   pub source-stays : {w v : List ℕ} {x b : ℕ} → Grows (Step s t q) q w v → Source s t q w x b → Source s t q v x b
   source-stays g h = record { in-row = record { setting = setting-stays g (h .in-row .setting); row = h .in-row .row; name = h .in-row .name }; marked = marks-stay g (h .marked) }
+
+-- what was noted may change, where there is room for it
+pub noted-stays : {n : ℕ} {u v : List ℕ} → length v ≡ length u → Noted n u → Noted n v
+noted-stays e h = record { room = record { small = h .room .small; fits = omega (arith, h .room .fits) }; few = h .few }
+
+pub zeros-noted : {n : ℕ} → n ≤ 127 → Noted n (replicate 2048 0)
+unfolding span width
+zeros-noted {n} h = record { room = record { small = record { few = omega arith; near = omega arith }; fits = omega (arith, length-replicate {A = ℕ} 2048 0, mul-le-mul {n₁ = suc n} {m₁ = n / 8 + 1} {n₂ = 128} {m₂ = 16} (omega arith) (omega arith)) }; few = h }
+
+pub zeros-unmarked : {q : Square} → Room q (replicate 2048 0) → Unmarked q (replicate 2048 0)
+zeros-unmarked r = zeroed-unmarked {w = replicate 2048 0} (record { long = refl; zero = λ i h. getD-replicate {A = ℕ} 2048 i 0 0 h; past = λ i h. refl }) (omega (arith, r .fits, length-replicate {A = ℕ} 2048 0))
 
 module _ {s t : List ℕ} {q : Square} {w : List ℕ} {x b : ℕ} (h : InRow s t q w x b) where
   pub name-row : HasRow t b

@@ -145,3 +145,8 @@ pub record Over (s t : List ℕ) (q : Square) (w : List ℕ) (b y : ℕ) : Type 
   pub itself : Marked q w b b
   pub is-restriction : restricts (kindAt t b) ≡ true
   pub marked : Marked q w (fillerAt t b) y
+
+-- what a memory u with the square of what was noted below each node asks, a hint where to look: the square lies in it
+pub record Noted (n : ℕ) (u : List ℕ) : Type 0 where
+  pub room : Room (record { base = 0; names = n }) u
+  pub few : n ≤ 127

@@ -4,7 +4,7 @@ ghost use Prim.Native.Nat.{_≤_};
 ghost use Rattle.marks.specs.Squares.{Room};
 ghost use Rattle.marks.specs.Passes.{Grows, FromRow};
 ghost use Rattle.marks.specs.Inclusions.{Taking};
-ghost use Rattle.classification.specs.Steps.{Step, Setting, InRow, MarkedCell, Restriction, Over};
+ghost use Rattle.classification.specs.Steps.{Step, Setting, InRow, MarkedCell, Restriction, Over, Noted};
 use crate::chains;
 use crate::chains::Chains;
 use crate::rules::gathers;
@@ -13,6 +13,7 @@ use marks::is_marked;
 use marks::line::Line;
 use marks::mark;
 use marks::rows::hand_on;
+use marks::rows::next_marked;
 use marks::rows::seems_within;
 use marks::waiting;
 use marks::waiting::Waiting;
@@ -209,16 +210,44 @@ fn put_by_fillers(
     }
 }
 
-// Hands row x on to each row that x is marked in.
-fn hand_down(work: &mut [u8], waiting: &mut [u8; Waiting::LENGTH], square: Square, x: usize)
+// Notes that x lies below each y of the line, so that `hand_down` of y finds x without a look at all rows.
+fn note_below(under: &mut [u8], names: usize, line: &[u8; Line::LENGTH], x: usize)
+    requires { ⌜ Noted names (now under) ⌝ }
+    requires { ⌜ x ≤ names ⌝ }
+{
+    let lower = Square {
+        base: 0,
+        names: names,
+    };
+    let mut next = waiting::next(line, 0);
+    while next <= names {
+        let y = next;
+        next = waiting::next(line, y + 1);
+        mark(under, lower, y, x);
+    }
+}
+
+// Hands row x on to each row that x is marked in, as far as it is noted.
+fn hand_down(
+    work: &mut [u8],
+    under: &[u8],
+    waiting: &mut [u8; Waiting::LENGTH],
+    square: Square,
+    x: usize,
+)
     requires { ⌜ Room square (now work) ⌝ }
+    requires { ⌜ Noted (square .names) (now under) ⌝ }
     requires { ⌜ x ≤ square .names ⌝ }
     ensures { λ _. ⌜ Grows (Taking square square) square (now (work .entry)) (now (work .exit)) ⌝ }
 {
-    let mut next = 0;
+    let lower = Square {
+        base: 0,
+        names: square.names,
+    };
+    let mut next = next_marked(under, lower, x, 0);
     while next <= square.names {
         let b = next;
-        next += 1;
+        next = next_marked(under, lower, x, b + 1);
         if is_marked(work, square, b, x) {
             hand_over(work, waiting, square, x, b);
         }
@@ -230,18 +259,21 @@ pub fn deal(
     file: &[u8],
     table: &[u16],
     work: &mut [u8],
+    under: &mut [u8],
     chains: &[u16; Chains::LENGTH],
     waiting: &mut [u8; Waiting::LENGTH],
     square: Square,
     x: usize,
 )
     requires { ⌜ Setting (now file) (now table) square (now work) ⌝ }
+    requires { ⌜ Noted (square .names) (now under) ⌝ }
     requires { ⌜ x ≤ square .names ⌝ }
     ensures { λ _. ⌜ Grows (Step (now (file .entry)) (now (table .entry)) square) square (now (work .entry)) (now (work .exit)) ⌝ }
 {
     let mut line = [0u8; Line::LENGTH];
     waiting::see(work, square, x, waiting, x, &mut line);
+    note_below(under, square.names, &line, x);
     put_above(file, table, work, chains, waiting, square, &line, x);
     put_by_fillers(file, table, work, chains, waiting, square, &line, x);
-    hand_down(work, waiting, square, x);
+    hand_down(work, under, waiting, square, x);
 }

@@ -2,7 +2,7 @@
 // (sweep) find what it missed. They find nothing, as a rule.
 ghost use Prim.Native.Nat.{_≤_};
 ghost use Rattle.marks.specs.Passes.{Grows};
-ghost use Rattle.classification.specs.Steps.{Step, Setting};
+ghost use Rattle.classification.specs.Steps.{Step, Setting, Noted};
 use crate::chains::Chains;
 use crate::consequences::deal;
 use crate::rules::mark_parts;
@@ -12,6 +12,8 @@ use marks::is_marked;
 use marks::order;
 use marks::order::Order;
 use marks::rows::hand_on;
+use marks::turned::Turning;
+use marks::turned::turn;
 use marks::waiting;
 use marks::waiting::Waiting;
 use release::table::is_conjunction;
@@ -101,7 +103,32 @@ pub fn begin(
     hand_on_rows(file, table, work, square, order);
 }
 
-// Deals with the rows that are not as they were seen, and with those that get marks by that, until none waits.
+// Deals with the rows that wait, and with those that get marks by that, until none does. Row y of `under` has the x that lie below y.
+fn deal_with_all(
+    file: &[u8],
+    table: &[u16],
+    work: &mut [u8],
+    under: &mut [u8],
+    chains: &[u16; Chains::LENGTH],
+    waiting: &mut [u8; Waiting::LENGTH],
+    square: Square,
+)
+    requires { ⌜ Setting (now file) (now table) square (now work) ⌝ }
+    requires { ⌜ Noted (square .names) (now under) ⌝ }
+    ensures { λ _. ⌜ Grows (Step (now (file .entry)) (now (table .entry)) square) square (now (work .entry)) (now (work .exit)) ⌝ }
+{
+    let mut left = Waiting::TURNS;
+    while 0 < left {
+        left -= 1;
+        let x = waiting::take(waiting);
+        if square.names < x {
+            return;
+        }
+        deal(file, table, work, under, chains, waiting, square, x);
+    }
+}
+
+// Does so with the rows that are not as they were seen.
 pub fn propagate(
     file: &[u8],
     table: &[u16],
@@ -113,14 +140,16 @@ pub fn propagate(
     requires { ⌜ Setting (now file) (now table) square (now work) ⌝ }
     ensures { λ _. ⌜ Grows (Step (now (file .entry)) (now (table .entry)) square) square (now (work .entry)) (now (work .exit)) ⌝ }
 {
+    let mut under = [0u8; Turning::LENGTH];
+    turn(
+        work,
+        square,
+        &mut under,
+        Square {
+            base: 0,
+            names: square.names,
+        },
+    );
     waiting::wait_for_new(work, square, waiting);
-    let mut left = Waiting::TURNS;
-    while 0 < left {
-        left -= 1;
-        let x = waiting::take(waiting);
-        if square.names < x {
-            return;
-        }
-        deal(file, table, work, chains, waiting, square, x);
-    }
+    deal_with_all(file, table, work, &mut under, chains, waiting, square);
 }

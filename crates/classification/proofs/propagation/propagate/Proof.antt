@@ -1,72 +1,43 @@
+use mathlib.Core.Path.{refl}
+use Rattle.classification.proofs.Marking.{zeros-noted, zeros-unmarked}
 use borrow.Author.Needs.{needs}
-use mathlib.Core.Path.{_≡_, refl}
-use lib.ListN.{length}
-use Rattle.marks.specs.Passes.{Grows, none}
-use Rattle.marks.proofs.Passes.{grows-further}
-use Rattle.classification.specs.Steps.{Step}
-use Rattle.classification.proofs.Marking.{setting-stays}
 use Rattle.classification.proofs.propagation.propagate.Statement.{statement}
 use Rattle.classification.proofs.propagation.propagate.Tie as tie
 use Rattle.classification.proofs.propagation.propagate.Reads as reads
 use Rattle.classification.proofs.propagation.propagate.Lts as lts
-use Rattle.classification.proofs.consequences.deal.Reads as deal-reads
-use Rattle.marks.proofs.waiting.take.Reads as take-reads
+use Rattle.classification.proofs.propagation.deal_with_all.Reads as deal-with-all-reads
+use Rattle.marks.proofs.turned.turn.Reads as turn-reads
 use Rattle.marks.proofs.waiting.wait_for_new.Reads as wait-for-new-reads
 
--- marks put by the rules
-abbrev Inv-loop : tie.InvT-loop
-Inv-loop file table work₀ chains waiting₀ square left₀ work waiting left = (length work ≡ length work₀) × Grows (Step file table square) square work₀ work
+slice-aggregate-turn : tie.Need-slice-aggregate-turn
+slice-aggregate-turn c = search needs
 
-abbrev μ-loop : tie.MeasureT-loop
-μ-loop file table work₀ chains waiting₀ square left₀ work waiting left = left
+turn-requires : tie.Need-turn-requires
+turn-requires c κs = let zeros = zeros-noted (c .before .before .before .before .before .pre .few) .room in ((c .before .before .before .before .before .pre .room, zeros), (refl, zeros-unmarked zeros))
 
-wait-for-new-requires : tie.Need-wait-for-new-requires Inv-loop μ-loop
-wait-for-new-requires c κs = (c .before .before .before .before .before .pre .room, c .before .before .before .before .before .pre .few)
+wait-for-new-requires : tie.Need-wait-for-new-requires
+wait-for-new-requires c κs = (c .before .before .before .before .before .before .before .before .before .pre .room, c .before .before .before .before .before .before .before .before .before .pre .few)
 
-loop-holds : tie.Need-loop-holds Inv-loop μ-loop
-loop-holds c = (refl, none)
+slice-aggregate-deal-with-all : tie.Need-slice-aggregate-deal-with-all
+slice-aggregate-deal-with-all c = search needs
 
-sub-left : tie.Need-sub-left Inv-loop μ-loop
-sub-left c = search needs
+deal-with-all-requires : tie.Need-deal-with-all-requires
+deal-with-all-requires c κs = (c .before .before .before .before .before .before .before .before .before .before .before .before .before .pre, record { room = c .before .before .before .before .before .before .before .turn .ensures .1; few = c .before .before .before .before .before .before .before .before .before .before .before .before .before .pre .few })
 
-take-requires : tie.Need-take-requires Inv-loop μ-loop
-take-requires c κs = search needs
-
-same-length : tie.Need-same-length Inv-loop μ-loop
+same-length : tie.Need-same-length
 same-length c = search needs
 
-returns : tie.Need-returns Inv-loop μ-loop
-returns c = c .before .before .before .before .before .loop .inv .1
-
-deal-requires : tie.Need-deal-requires Inv-loop μ-loop
-deal-requires c κs = (setting-stays (c .before .before .before .before .before .before .before .loop .inv .1) (c .before .before .before .before .before .before .before .before .before .before .before .before .before .before .pre), c .before .before .if1 .left)
-
-loop-less : tie.Need-loop-less Inv-loop μ-loop
-loop-less c = search needs
-
-loop-again : tie.Need-loop-again Inv-loop μ-loop
-loop-again c = (search needs, grows-further (c .before .before .before .before .before .before .before .before .before .before .loop .inv .1) (c .before .before .deal .ensures))
-
-same-length-2 : tie.Need-same-length-2 Inv-loop μ-loop
-same-length-2 c = search needs
-
-returns-2 : tie.Need-returns-2 Inv-loop μ-loop
-returns-2 c = c .before .loop .inv .1
+returns : tie.Need-returns
+returns c = c .before .before .before .deal-with-all .ensures
 
 pub propagate-spec : {M : Type 1} → statement M
 propagate-spec =
     tie.close
     (tie.spec
-    Inv-loop
-    μ-loop
+    slice-aggregate-turn
+    turn-requires
     wait-for-new-requires
-    loop-holds
-    sub-left
-    take-requires
+    slice-aggregate-deal-with-all
+    deal-with-all-requires
     same-length
-    returns
-    deal-requires
-    loop-less
-    loop-again
-    same-length-2
-    returns-2)
+    returns)
