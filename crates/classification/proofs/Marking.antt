@@ -24,8 +24,8 @@ use Rattle.marks.specs.Squares.{span, width, Room, Marked, Unmarked, Put}
 use Rattle.marks.specs.Passes.{Grows, Pass, Below, Due, FromRow}
 use Rattle.marks.specs.Inclusions.{Taking}
 use Rattle.marks.proofs.Squares.{refuted, zeroed-unmarked}
-use Rattle.marks.proofs.Passes.{room-stays, marks-stay, below-end, pass-none, pass-as, pass-changed, pass-unchanged, pass-both, pass-by, grows-as, put-pass, put-grows, due-as}
-use Rattle.classification.specs.Steps.{PartMarked, Gathers, Fills, Step, to-itself, to-top, to-part, to-gathered, to-filled, through, Gathered, Seeds, GatheredAt, FilledAt, AxiomSettled, Setting, SeededSetting, InRow, Source, Pair, Restriction, Over, Noted}
+use Rattle.marks.proofs.Passes.{room-stays, marks-stay, below-end, pass-none, pass-as, pass-changed, pass-unchanged, pass-by, grows-as, put-pass, put-grows, due-not, due-as}
+use Rattle.classification.specs.Steps.{PartMarked, Gathers, Fills, Step, to-itself, to-top, to-part, to-gathered, to-filled, through, Gathered, Seeds, GatheredAt, FilledAt, AxiomSettled, Setting, SeededSetting, InRow, Source, DefinedConjunction, DefinedRestriction, Pair, Restriction, Over, Noted}
 
 not-both : {A : Type 0} (k : ℕ) → joins k ≡ true → restricts k ≡ true → A
 not-both k j r = absurd (false≢true (sym (restricts-not-joins k r) ∙ j))
@@ -68,8 +68,13 @@ module _ {s t : List ℕ} {q : Square} {w : List ℕ} {x b : ℕ} (h : InRow s t
   pub part-small : {i y : ℕ} → joins (kindAt t b) ≡ true → i < countAt s t b → y ≡ partAt s t b i → y ≤ q .names
   part-small {i} j l e = omega (arith, e, h .setting .shaped .part b i (h .name) j l)
 
-  pub pair : {y : ℕ} → restricts (kindAt t b) ≡ true → y < q .names → Pair t q w x b y
-  pair r l = record { rows = h .setting .shaped .rows; room = h .setting .room; fillers = h .setting .shaped .filler; row = h .row; left = h .name; is-restriction = r; right = l }
+-- a definition, for a whole column
+module _ {s t : List ℕ} {q : Square} {w : List ℕ} {y : ℕ} (h : Setting s t q w) (l : y < q .names) where
+  pub defined-parts : kindAt t y ≡ 2 → Conjunctive (q .names) s t y
+  defined-parts e = record { shaped = h .shaped; is-name = l; is-conjunction = joined refl e }
+
+  pub pair : {b r f : ℕ} → b < q .names → restricts (kindAt t b) ≡ true → DefinedRestriction t y r f → Pair t q w b y r f
+  pair i k d = record { rows = h .shaped .rows; room = h .room; fillers = h .shaped .filler; left = i; is-restriction = k; right = l; defined = d }
 
 -- conjuncts and fillers of a marked name
 module _ {s t : List ℕ} {q : Square} {w v : List ℕ} {x b : ℕ} {r : Bool} (h : Source s t q w x b) where
@@ -80,12 +85,17 @@ module _ {s t : List ℕ} {q : Square} {w v : List ℕ} {x b : ℕ} {r : Bool} (
   fill-pass k l f p = put-pass p (to-filled b (h .in-row .name) k (h .marked) l f)
 
 -- the fillers of two names
-module _ {t : List ℕ} {q : Square} {w : List ℕ} {x b y : ℕ} (h : Pair t q w x b y) where
-  pub fillers-small : {k under over : ℕ} → k ≡ kindAt t y → k ≡ 4 → under ≡ fillerAt t b → over ≡ fillerAt t y → (under ≤ q .names) × (over ≤ q .names)
-  fillers-small e f g i = let z : restricts (kindAt t y) ≡ true = rw (← e, f) refl in (rw g (h .fillers b (h .left) (h .is-restriction)), rw i (h .fillers y (h .right) z))
+module _ {t : List ℕ} {q : Square} {w : List ℕ} {b y r f : ℕ} (h : Pair t q w b y r f) where
+  pub fillers-small : {under : ℕ} → under ≡ fillerAt t b → (under ≤ q .names) × (f ≤ q .names)
+  fillers-small e =
+      let z : restricts (kindAt t y) ≡ true = rw (h .defined .kind) refl in
+      (rw e (h .fillers b (h .left) (h .is-restriction)), rw (h .defined .filler) (h .fillers y (h .right) z))
 
-pub due-fill : {t : List ℕ} {q : Square} {w : List ℕ} {x b y k role role-y under over : ℕ} {r : Bool} → k ≡ kindAt t y → k ≡ 4 → role ≡ roleAt t b → role-y ≡ roleAt t y → Serves role role-y → under ≡ fillerAt t b → over ≡ fillerAt t y → Tells r (Marked q w under over) → Due r (Fills t q b y w) (Marked q w x y)
-due-fill e four f g same i j m = due-as (tells-as (λ z. record { kind = sym e ∙ four; role = sym f ∙ same ∙ g; filler = rw (← i, ← j) z }) (λ z. rw (i, j) (z .filler)) m)
+pub not-due : {t : List ℕ} {q : Square} {w : List ℕ} {b y r f role : ℕ} → DefinedRestriction t y r f → role ≡ roleAt t b → (role ≡ r → ⊥) → Due false (Fills t q b y w) (Marked q w b y)
+not-due d e n = due-not (λ g. n (e ∙ g .role ∙ sym (d .role)))
+
+pub due-fill : {t : List ℕ} {q : Square} {w : List ℕ} {b y r f role under : ℕ} {a : Bool} → DefinedRestriction t y r f → role ≡ roleAt t b → Serves role r → under ≡ fillerAt t b → Tells a (Marked q w under f) → Due a (Fills t q b y w) (Marked q w b y)
+due-fill d e same i m = due-as (tells-as (λ z. record { kind = d .kind; role = sym e ∙ same ∙ d .role; filler = rw (← i, ← d .filler) z }) (λ z. rw (i, d .filler) (z .filler)) m)
 
 -- the conjuncts of a name, all marked or one not
 module _ {s t : List ℕ} {q : Square} {w : List ℕ} {x y : ℕ} where
@@ -95,8 +105,8 @@ module _ {s t : List ℕ} {q : Square} {w : List ℕ} {x y : ℕ} where
   pub not-gathers : {i z : ℕ} {r : Bool} → z ≡ partAt s t y i → i < countAt s t y → Tells r (Marked q w x z) → r ≡ false → Tells false (Gathers s t q x y w)
   not-gathers {i} e l m k = never (λ g. refuted m k (rw e (g .parts .at i l .is)))
 
-  pub gathers-all : {i count kind : ℕ} → kind ≡ kindAt t y → kind ≡ 2 → count ≡ countAt s t y → count ≤ i → Below (PartMarked s t q x y) i w → Tells true (Gathers s t q x y w)
-  gathers-all e two f l b = always (record { kind = sym e ∙ two; parts = below-end (omega arith) b })
+  pub gathers-all : {i count : ℕ} → DefinedConjunction s t y count → count ≤ i → Below (PartMarked s t q x y) i w → Tells true (Gathers s t q x y w)
+  gathers-all d l b = always (record { kind = d .kind; parts = below-end (omega (arith, d .count)) b })
 
 -- a defined conjunction in a row
 module _ {s t : List ℕ} {q : Square} {w : List ℕ} {x b : ℕ} where

@@ -115,15 +115,25 @@ pub record Source (s t : List ℕ) (q : Square) (w : List ℕ) (x b : ℕ) : Typ
   pub in-row : InRow s t q w x b
   pub marked : Marked q w x b
 
--- two names whose fillers are compared, the first of them a restriction, in row x
-pub record Pair (t : List ℕ) (q : Square) (w : List ℕ) (x b y : ℕ) : Type 0 where
+-- what is read of a definition once for a whole column: the number of its conjuncts; its role and filler
+pub record DefinedConjunction (s t : List ℕ) (y k : ℕ) : Type 0 where
+  pub kind : kindAt t y ≡ 2
+  pub count : k ≡ countAt s t y
+
+pub record DefinedRestriction (t : List ℕ) (y r f : ℕ) : Type 0 where
+  pub kind : kindAt t y ≡ 4
+  pub role : r ≡ roleAt t y
+  pub filler : f ≡ fillerAt t y
+
+-- two names whose fillers are compared, restrictions both, the second of them defined
+pub record Pair (t : List ℕ) (q : Square) (w : List ℕ) (b y r f : ℕ) : Type 0 where
   pub rows : 4 * q .names ≤ length t
   pub room : Room q w
   pub fillers : (z : ℕ) → z < q .names → restricts (kindAt t z) ≡ true → fillerAt t z ≤ q .names
-  pub row : x ≤ q .names
   pub left : b < q .names
   pub is-restriction : restricts (kindAt t b) ≡ true
   pub right : y < q .names
+  pub defined : DefinedRestriction t y r f
 
 -- what dealing with new marks asks: a marked cell; a restriction b with the filler x; one whose filler lies below y
 pub record MarkedCell (s t : List ℕ) (q : Square) (w : List ℕ) (x y : ℕ) : Type 0 where

@@ -7,7 +7,7 @@ ghost use Rattle.release.specs.Files.{joins};
 ghost use Rattle.release.specs.Tables.{kindAt, countAt};
 ghost use Rattle.marks.specs.Squares.{Room, Marked};
 ghost use Rattle.marks.specs.Passes.{Pass, Below, Due};
-ghost use Rattle.classification.specs.Steps.{Step, PartMarked, Gathers, Fills, Gathered, Seeds, InRow, Source, Pair};
+ghost use Rattle.classification.specs.Steps.{Step, PartMarked, Gathers, Fills, Gathered, Seeds, InRow, Source, Pair, DefinedConjunction};
 use marks::Square;
 use marks::is_marked;
 use marks::mark;
@@ -52,36 +52,44 @@ pub fn mark_parts(
     changed
 }
 
-// Whether y is not marked in row x yet, and is a defined ∃r.B that b serves for. The cell is looked at first, since most are
-// marked or not asked for.
-pub fn fills(table: &[u16], work: &[u8], square: Square, x: usize, b: usize, y: usize) -> bool
-    requires { ⌜ Pair (now table) square (now work) x b y ⌝ }
-    ensures { λ r. ⌜ Due r (Fills (now (table .entry)) square b y (now (work .entry))) (Marked square (now (work .entry)) x y) ⌝ }
+// Whether y, a defined restriction with this role and filler, is not marked in row b yet, and the restriction b serves for it. The
+// cell is looked at first, since most are marked or not asked for.
+pub fn fills(
+    table: &[u16],
+    work: &[u8],
+    square: Square,
+    b: usize,
+    y: usize,
+    role: usize,
+    filler: usize,
+) -> bool
+    requires { ⌜ Pair (now table) square (now work) b y role filler ⌝ }
+    ensures { λ r. ⌜ Due r (Fills (now (table .entry)) square b y (now (work .entry))) (Marked square (now (work .entry)) b y) ⌝ }
 {
-    if is_marked(work, square, x, y) {
+    if is_marked(work, square, b, y) {
         return false;
     }
-    if table::kind(table, y) != 4 {
-        return false;
-    }
-    let role = table::role(table, b);
-    if role != table::role(table, y) {
+    if table::role(table, b) != role {
         return false;
     }
     let under = table::filler(table, b);
-    let over = table::filler(table, y);
-    is_marked(work, square, under, over)
+    is_marked(work, square, under, filler)
 }
 
-// Whether y is a defined conjunction, and all its conjuncts are marked in row x.
-pub fn gathers(file: &[u8], table: &[u16], work: &[u8], square: Square, x: usize, y: usize) -> bool
+// Whether all conjuncts of the defined conjunction y, which has `count` of them, are marked in row x.
+fn has_parts(
+    file: &[u8],
+    table: &[u16],
+    work: &[u8],
+    square: Square,
+    x: usize,
+    y: usize,
+    count: usize,
+) -> bool
     requires { ⌜ InRow (now file) (now table) square (now work) x y ⌝ }
+    requires { ⌜ DefinedConjunction (now file) (now table) y count ⌝ }
     ensures { λ r. ⌜ Tells r (Gathers (now (file .entry)) (now (table .entry)) square x y (now (work .entry))) ⌝ }
 {
-    if table::kind(table, y) != 2 {
-        return false;
-    }
-    let count = table::count(file, table, y);
     let mut i = 0;
     while i < count {
         let part = table::part(file, table, y, i);
@@ -94,7 +102,19 @@ pub fn gathers(file: &[u8], table: &[u16], work: &[u8], square: Square, x: usize
     true
 }
 
-// Marks a defined conjunction y in row x if all its conjuncts are marked there. Whether the mark is new.
+// Whether y is a defined conjunction, and all its conjuncts are marked in row x.
+pub fn gathers(file: &[u8], table: &[u16], work: &[u8], square: Square, x: usize, y: usize) -> bool
+    requires { ⌜ InRow (now file) (now table) square (now work) x y ⌝ }
+    ensures { λ r. ⌜ Tells r (Gathers (now (file .entry)) (now (table .entry)) square x y (now (work .entry))) ⌝ }
+{
+    if table::kind(table, y) != 2 {
+        return false;
+    }
+    let count = table::count(file, table, y);
+    has_parts(file, table, work, square, x, y, count)
+}
+
+// Marks the defined conjunction y, which has `count` conjuncts, in row x if all of them are marked there. Whether the mark is new.
 pub fn gather(
     file: &[u8],
     table: &[u16],
@@ -102,17 +122,16 @@ pub fn gather(
     square: Square,
     x: usize,
     y: usize,
+    count: usize,
 ) -> bool
     requires { ⌜ InRow (now file) (now table) square (now work) x y ⌝ }
+    requires { ⌜ DefinedConjunction (now file) (now table) y count ⌝ }
     ensures { λ r. ⌜ Pass (Step (now (file .entry)) (now (table .entry)) square) square (Gathered (now (file .entry)) (now (table .entry)) square x y) (now (work .entry)) (now (work .exit)) r ⌝ }
 {
-    if table::kind(table, y) != 2 {
-        return false;
-    }
     if is_marked(work, square, x, y) {
         return false;
     }
-    if gathers(file, table, work, square, x, y) {
+    if has_parts(file, table, work, square, x, y, count) {
         return mark(work, square, x, y);
     }
     false

@@ -1,5 +1,7 @@
 // Passes over the whole square, until one finds nothing left to mark.
+ghost use mathlib.Core.Path.{_≡_};
 ghost use Prim.Native.Nat.{suc, _<_};
+ghost use Rattle.release.specs.Tables.{kindAt};
 ghost use Rattle.marks.specs.Passes.{Pass, Closed, Below};
 ghost use Rattle.classification.specs.Steps.{Step, Seeded, Settled, GatheredAt, FilledAt, AxiomSettled, Setting, SeededSetting};
 use crate::chains::Chains;
@@ -37,12 +39,14 @@ fn seed_all(file: &[u8], table: &[u16], work: &mut [u8], square: Square) -> bool
 fn gather_column(file: &[u8], table: &[u16], work: &mut [u8], square: Square, y: usize) -> bool
     requires { ⌜ Setting (now file) (now table) square (now work) ⌝ }
     requires { ⌜ y < square .names ⌝ }
+    requires { ⌜ kindAt (now table) y ≡ 2 ⌝ }
     ensures { λ r. ⌜ Pass (Step (now (file .entry)) (now (table .entry)) square) square (Below (GatheredAt (now (file .entry)) (now (table .entry)) square y) (suc (square .names))) (now (work .entry)) (now (work .exit)) r ⌝ }
 {
+    let count = table::count(file, table, y);
     let mut changed = false;
     let mut x = 0;
     while x <= square.names {
-        let gathered = gather(file, table, work, square, x, y);
+        let gathered = gather(file, table, work, square, x, y, count);
         changed = changed | gathered;
         x += 1;
     }
@@ -53,15 +57,18 @@ fn gather_column(file: &[u8], table: &[u16], work: &mut [u8], square: Square, y:
 fn fill_column(file: &[u8], table: &[u16], work: &mut [u8], square: Square, y: usize) -> bool
     requires { ⌜ SeededSetting (now file) (now table) square (now work) ⌝ }
     requires { ⌜ y < square .names ⌝ }
+    requires { ⌜ kindAt (now table) y ≡ 4 ⌝ }
     ensures { λ r. ⌜ Pass (Step (now (file .entry)) (now (table .entry)) square) square (Below (FilledAt (now (table .entry)) square y) (square .names)) (now (work .entry)) (now (work .exit)) r ⌝ }
 {
+    let role = table::role(table, y);
+    let filler = table::filler(table, y);
     let mut changed = false;
     let mut next = 0;
     while next < square.names {
         let b = next;
         next += 1;
         if table::is_restriction(table, b) {
-            if fills(table, work, square, b, b, y) {
+            if fills(table, work, square, b, y, role, filler) {
                 let new = mark(work, square, b, y);
                 changed = changed | new;
             }

@@ -1,3 +1,4 @@
+use mathlib.Core.Path.{sym, _∙_}
 use Rattle.marks.proofs.Passes.{pass-none, pass-as, pass-both}
 use Rattle.classification.proofs.Marking.{shaped-row, joined, joined-1, seeded-stays, seeded-source, axiom-filled, axiom-gathered, axiom-parts, axiom-none}
 use borrow.Author.Needs.{needs}
@@ -14,7 +15,7 @@ kind-requires : tie.Need-kind-requires
 kind-requires c κs = shaped-row (c .before .before .before .pre .0 .setting .shaped) (c .before .before .before .pre .1)
 
 fill-column-requires : tie.Need-fill-column-requires
-fill-column-requires c κs = c .before .before .before .before .before .before .pre
+fill-column-requires c κs = (c .before .before .before .before .before .before .pre .0, (c .before .before .before .before .before .before .pre .1, sym (c .before .before .kind .ensures) ∙ c .before .if1 .taken))
 
 same-length : tie.Need-same-length
 same-length c = search needs
@@ -23,7 +24,7 @@ returns : tie.Need-returns
 returns c = pass-as (axiom-filled (c .before .before .before .before .before .kind .ensures) (c .before .before .before .before .if1 .taken)) (c .before .before .fill-column .ensures)
 
 gather-column-requires : tie.Need-gather-column-requires
-gather-column-requires c κs = (c .before .before .before .before .before .before .before .pre .0 .setting, c .before .before .before .before .before .before .before .pre .1)
+gather-column-requires c κs = (c .before .before .before .before .before .before .before .pre .0 .setting, (c .before .before .before .before .before .before .before .pre .1, sym (c .before .before .before .kind .ensures) ∙ c .before .if2 .taken))
 
 mark-parts-requires : tie.Need-mark-parts-requires
 mark-parts-requires c κs = (seeded-source (seeded-stays (c .before .before .before .gather-column .ensures .grows) (c .before .before .before .before .before .before .before .before .before .before .before .pre .0)) (c .before .before .before .before .before .before .before .before .before .before .before .pre .1), joined (c .before .before .before .before .before .before .before .kind .ensures) (c .before .before .before .before .before .if2 .taken))

@@ -13,14 +13,22 @@ use Rattle.classification.proofs.sweep.fill_column.Reads as reads
 use Rattle.classification.proofs.sweep.fill_column.Lts as lts
 use Rattle.classification.proofs.rules.fills.Reads as fills-reads
 use Rattle.marks.proofs.mark.Reads as mark-reads
+use Rattle.release.proofs.table.filler.Reads as filler-reads
 use Rattle.release.proofs.table.is_restriction.Reads as is-restriction-reads
+use Rattle.release.proofs.table.role.Reads as role-reads
 
 -- a pass that has finished the rows before next
 abbrev Inv-loop : tie.InvT-loop
-Inv-loop file table work₀ square y changed₀ next₀ work changed next = (next ≤ square .names) × (length work ≡ length work₀) × Pass (Step file table square) square (Below (FilledAt table square y) next) work₀ work changed
+Inv-loop file table work₀ square y role filler changed₀ next₀ work changed next = (next ≤ square .names) × (length work ≡ length work₀) × Pass (Step file table square) square (Below (FilledAt table square y) next) work₀ work changed
 
 abbrev μ-loop : tie.MeasureT-loop
-μ-loop file table work₀ square y changed₀ next₀ work changed next = square .names - next
+μ-loop file table work₀ square y role filler changed₀ next₀ work changed next = square .names - next
+
+role-requires : tie.Need-role-requires Inv-loop μ-loop
+role-requires c κs = shaped-row (c .before .before .before .pre .0 .setting .shaped) (c .before .before .before .pre .1 .0)
+
+filler-requires : tie.Need-filler-requires Inv-loop μ-loop
+filler-requires c κs = shaped-row (c .before .before .before .before .pre .0 .setting .shaped) (c .before .before .before .before .pre .1 .0)
 
 loop-holds : tie.Need-loop-holds Inv-loop μ-loop
 loop-holds c = (search needs, refl, turns-none)
@@ -29,13 +37,13 @@ add-next : tie.Need-add-next Inv-loop μ-loop
 add-next c = search needs
 
 is-restriction-requires : tie.Need-is-restriction-requires Inv-loop μ-loop
-is-restriction-requires c κs = shaped-row (c .before .before .before .before .before .before .pre .0 .setting .shaped) (c .if1 .taken)
+is-restriction-requires c κs = shaped-row (c .before .before .before .before .before .before .before .before .pre .0 .setting .shaped) (c .if1 .taken)
 
 fills-requires : tie.Need-fills-requires Inv-loop μ-loop
-fills-requires c κs = pair (seeded-source (seeded-stays (c .before .before .before .before .before .loop .inv .2 .grows) (c .before .before .before .before .before .before .before .before .before .pre .0)) (c .before .before .before .if1 .taken) .in-row) (sym (c .before .before .is-restriction .ensures) ∙ c .before .if2 .taken) (c .before .before .before .before .before .before .before .before .before .pre .1)
+fills-requires c κs = pair (seeded-stays (c .before .before .before .before .before .loop .inv .2 .grows) (c .before .before .before .before .before .before .before .before .before .before .before .pre .0) .setting) (c .before .before .before .before .before .before .before .before .before .before .before .pre .1 .0) (c .before .before .before .if1 .taken) (sym (c .before .before .is-restriction .ensures) ∙ c .before .if2 .taken) (record { kind = c .before .before .before .before .before .before .before .before .before .before .before .pre .1 .1; role = c .before .before .before .before .before .before .before .role .ensures; filler = c .before .before .before .before .before .before .filler .ensures })
 
 mark-requires : tie.Need-mark-requires Inv-loop μ-loop
-mark-requires c κs = let h = seeded-source (seeded-stays (c .before .before .before .before .before .before .before .before .loop .inv .2 .grows) (c .before .before .before .before .before .before .before .before .before .before .before .before .pre .0)) (c .before .before .before .before .before .before .if1 .taken) .in-row in (h .setting .room, (h .row, omega (arith, c .before .before .before .before .before .before .before .before .before .before .before .before .pre .1)))
+mark-requires c κs = (seeded-stays (c .before .before .before .before .before .before .before .before .loop .inv .2 .grows) (c .before .before .before .before .before .before .before .before .before .before .before .before .before .before .pre .0) .setting .room, (omega (arith, c .before .before .before .before .before .before .if1 .taken), omega (arith, c .before .before .before .before .before .before .before .before .before .before .before .before .before .before .pre .1 .0)))
 
 loop-less : tie.Need-loop-less Inv-loop μ-loop
 loop-less c = omega (arith, c .before .before .before .before .before .before .before .before .before .if1 .taken)
@@ -43,7 +51,7 @@ loop-less c = omega (arith, c .before .before .before .before .before .before .b
 loop-again : tie.Need-loop-again Inv-loop μ-loop
 loop-again c =
     let p = c .before .before .before .before .before .before .before .before .before .before .before .loop .inv .2 in
-    (omega (arith, c .before .before .before .before .before .before .before .before .before .if1 .taken), search needs, turn-both p (filled-at (fill-pass (seeded-source (seeded-stays (p .grows) (c .before .before .before .before .before .before .before .before .before .before .before .before .before .before .before .pre .0)) (c .before .before .before .before .before .before .before .before .before .if1 .taken)) (sym (c .before .before .before .before .before .before .before .before .is-restriction .ensures) ∙ c .before .before .before .before .before .before .before .if2 .taken) (c .before .before .before .before .before .before .before .before .before .before .before .before .before .before .before .pre .1) (c .before .before .before .before .before .fills .ensures .allowed (c .before .before .before .before .if3 .taken)) (c .before .before .mark .ensures))))
+    (omega (arith, c .before .before .before .before .before .before .before .before .before .if1 .taken), search needs, turn-both p (filled-at (fill-pass (seeded-source (seeded-stays (p .grows) (c .before .before .before .before .before .before .before .before .before .before .before .before .before .before .before .before .before .pre .0)) (c .before .before .before .before .before .before .before .before .before .if1 .taken)) (sym (c .before .before .before .before .before .before .before .before .is-restriction .ensures) ∙ c .before .before .before .before .before .before .before .if2 .taken) (c .before .before .before .before .before .before .before .before .before .before .before .before .before .before .before .before .before .pre .1 .0) (c .before .before .before .before .before .fills .ensures .allowed (c .before .before .before .before .if3 .taken)) (c .before .before .mark .ensures))))
 
 loop-less-2 : tie.Need-loop-less-2 Inv-loop μ-loop
 loop-less-2 c = omega (arith, c .before .before .before .before .before .if1 .taken)
@@ -69,6 +77,8 @@ fill-column-spec =
     (tie.spec
     Inv-loop
     μ-loop
+    role-requires
+    filler-requires
     loop-holds
     add-next
     is-restriction-requires
