@@ -3,8 +3,9 @@
 ghost use Prim.Native.Nat.{_≤_, _<_};
 ghost use Rattle.marks.specs.Passes.{Grows};
 ghost use Rattle.marks.specs.Squares.{Room};
-ghost use Rattle.layout.specs.Layouts.{firstSquare, markSquare};
-ghost use Rattle.forward.specs.Rules.{Setting, Under, Edge, FromAbove, Step};
+ghost use Rattle.marks.specs.Lines.{Spans};
+ghost use Rattle.layout.specs.Layouts.{Rowed, firstSquare, markSquare};
+ghost use Rattle.forward.specs.Rules.{belowSquare, Setting, Under, Edge, FromAbove, Step};
 use crate::kept::keep;
 use crate::partner::Partners;
 use crate::partner::has_partner;
@@ -20,11 +21,21 @@ use marks::line;
 use marks::line::Line;
 use marks::rows::hand_on;
 use marks::rows::next_marked;
-use marks::rows::next_unmarked;
 use marks::rows::seems_within;
+use marks::waiting;
 use marks::waiting::Waiting;
 use marks::waiting::wait;
 use release::table;
+
+// What is few: up to so many bytes of a row with something new, it is worth while to look for the nodes that can lose a partner by it;
+// up to so many of these, each is tested for itself.
+pub struct Few {}
+
+impl Few {
+    pub const BYTES: usize = 2;
+
+    pub const NODES: usize = 4;
+}
 
 // Marks the pairs of x that its edge loses, for all nodes at once. Whether there can be new ones.
 pub fn lose_row(
@@ -62,7 +73,7 @@ fn lose(
     second: &[u16],
     work: &mut [u8],
     below: &[u8],
-    partners: &mut [u8; Partners::LENGTH],
+    partners: &mut [u8; Partners::NODES],
     waiting: &mut [u8; Waiting::LENGTH],
     layout: Layout,
     x: usize,
@@ -83,28 +94,110 @@ fn lose(
     wait(waiting, x);
 }
 
-// The edge of x, for each node that it is not marked with.
-fn lose_left(
+// Adds to the line what lies below the restrictions of the second release with this role and this filler.
+fn touch_by(
+    second: &[u16],
+    below: &[u8],
+    second_edges: &[u16; Chains::LENGTH],
+    touched: &mut [u8],
+    layout: Layout,
+    role: usize,
+    filler: usize,
+)
+    requires { ⌜ Rowed (layout .names) (now second) ⌝ }
+    requires { ⌜ Room (belowSquare layout) (now below) ⌝ }
+    requires { ⌜ Spans (layout .names) (now touched) ⌝ }
+{
+    let mut entry = chains::entry(second_edges, Chains::FILLERS, filler);
+    let mut left = Chains::ENTRIES;
+    while 0 < left {
+        left -= 1;
+        let name = entry;
+        if layout.names <= name {
+            return;
+        }
+        entry = chains::entry(second_edges, Chains::NEXT, name);
+        let own = table::role(second, name);
+        if own == role {
+            line::join(
+                touched,
+                below,
+                Square {
+                    base: 0,
+                    names: layout.names,
+                },
+                name,
+            );
+        }
+    }
+}
+
+// Does so for each filler among the new columns. A node that is not in the line has no partner with such a filler, so the new marks take
+// none from it.
+fn touch(
+    second: &[u16],
+    below: &[u8],
+    second_edges: &[u16; Chains::LENGTH],
+    new: &[u8; Line::LENGTH],
+    touched: &mut [u8],
+    layout: Layout,
+    role: usize,
+)
+    requires { ⌜ Rowed (layout .names) (now second) ⌝ }
+    requires { ⌜ Room (belowSquare layout) (now below) ⌝ }
+    requires { ⌜ Spans (layout .names) (now touched) ⌝ }
+    requires { ⌜ layout .names ≤ 127 ⌝ }
+{
+    let mut next = waiting::next(new, 0);
+    while next <= layout.names {
+        let filler = next;
+        next = waiting::next(new, filler + 1);
+        touch_by(second, below, second_edges, touched, layout, role, filler);
+    }
+}
+
+// How many nodes of the line x is not marked with. Where that is more than a few, the rest is not counted.
+fn count_left(work: &[u8], layout: Layout, touched: &[u8; Line::LENGTH], x: usize) -> usize
+    requires { ⌜ Room (markSquare layout) (now work) ⌝ }
+    requires { ⌜ (x ≤ layout .names) × (layout .names ≤ 127) ⌝ }
+{
+    let mut count = 0;
+    let mut next = waiting::next(touched, 0);
+    while next <= layout.names {
+        let y = next;
+        next = waiting::next(touched, y + 1);
+        if is_marked(work, layout, x, y) {
+            continue;
+        }
+        count += 1;
+        if Few::NODES < count {
+            return count;
+        }
+    }
+    count
+}
+
+// The edge of x, for each node of the line.
+fn lose_each(
     signature: &[u8],
     first: &[u16],
     second: &[u16],
     work: &mut [u8],
     below: &[u8],
-    partners: &mut [u8; Partners::LENGTH],
+    partners: &mut [u8; Partners::NODES],
     waiting: &mut [u8; Waiting::LENGTH],
     layout: Layout,
+    touched: &[u8; Line::LENGTH],
     x: usize,
 )
     requires { ⌜ Setting (now signature) (now first) (now second) (now below) layout (now work) ⌝ }
     requires { ⌜ Edge (now signature) (now first) layout x ⌝ }
     ensures { λ _. ⌜ Grows (Step (now (signature .entry)) (now (first .entry)) (now (second .entry)) layout) (markSquare layout) (now (work .entry)) (now (work .exit)) ⌝ }
 {
-    let marks = Square {
-        base: layout.marks,
-        names: layout.names,
-    };
-    let mut y = next_unmarked(work, marks, x, 0);
-    while y <= layout.names {
+    let mut next = waiting::next(touched, 0);
+    while next <= layout.names {
+        let y = next;
+        next = waiting::next(touched, y + 1);
         lose(
             signature,
             first,
@@ -117,66 +210,127 @@ fn lose_left(
             x,
             y,
         );
-        y = next_unmarked(work, marks, x, y + 1);
     }
 }
 
-// Whether x is marked with all nodes but two at most.
-fn are_few_left(work: &[u8], layout: Layout, x: usize) -> bool
-    requires { ⌜ Room (markSquare layout) (now work) ⌝ }
-    requires { ⌜ x ≤ layout .names ⌝ }
-{
-    let marks = Square {
-        base: layout.marks,
-        names: layout.names,
-    };
-    let first = next_unmarked(work, marks, x, 0);
-    if layout.names <= first {
-        return true;
-    }
-    let second = next_unmarked(work, marks, x, first + 1);
-    if layout.names <= second {
-        return true;
-    }
-    layout.names < next_unmarked(work, marks, x, second + 1)
-}
-
-// The edge of x, whose end has new marks: where few nodes are left, for each of them, else for all nodes at once.
-fn lose_edge(
+// The edge of x, which only the nodes of the line can lose: where x is not marked with a few of them, for each, and where it is not
+// marked with more, for all nodes at once.
+fn lose_touched(
     signature: &[u8],
     first: &[u16],
     second: &[u16],
     work: &mut [u8],
     below: &[u8],
-    partners: &mut [u8; Partners::LENGTH],
+    partners: &mut [u8; Partners::NODES],
     waiting: &mut [u8; Waiting::LENGTH],
     layout: Layout,
+    touched: &[u8; Line::LENGTH],
     x: usize,
 )
     requires { ⌜ Setting (now signature) (now first) (now second) (now below) layout (now work) ⌝ }
     requires { ⌜ Edge (now signature) (now first) layout x ⌝ }
     ensures { λ _. ⌜ Grows (Step (now (signature .entry)) (now (first .entry)) (now (second .entry)) layout) (markSquare layout) (now (work .entry)) (now (work .exit)) ⌝ }
 {
-    if are_few_left(work, layout, x) {
-        lose_left(
-            signature,
-            first,
-            second,
-            work,
-            below,
-            partners,
-            waiting,
-            layout,
-            x,
-        );
+    let count = count_left(work, layout, touched, x);
+    if count == 0 {
         return;
     }
-    if lose_row(signature, first, second, work, below, layout, x) {
-        wait(waiting, x);
+    if Few::NODES < count {
+        if lose_row(signature, first, second, work, below, layout, x) {
+            wait(waiting, x);
+        }
+        return;
     }
+    lose_each(
+        signature,
+        first,
+        second,
+        work,
+        below,
+        partners,
+        waiting,
+        layout,
+        touched,
+        x,
+    );
 }
 
-// The edges that end at the node.
+// The edge of x, whose end has new marks in the columns of a line: looks which nodes can lose it by these.
+fn lose_by_new(
+    signature: &[u8],
+    first: &[u16],
+    second: &[u16],
+    work: &mut [u8],
+    below: &[u8],
+    second_edges: &[u16; Chains::LENGTH],
+    partners: &mut [u8; Partners::NODES],
+    waiting: &mut [u8; Waiting::LENGTH],
+    layout: Layout,
+    new: &[u8; Line::LENGTH],
+    x: usize,
+)
+    requires { ⌜ Setting (now signature) (now first) (now second) (now below) layout (now work) ⌝ }
+    requires { ⌜ Edge (now signature) (now first) layout x ⌝ }
+    ensures { λ _. ⌜ Grows (Step (now (signature .entry)) (now (first .entry)) (now (second .entry)) layout) (markSquare layout) (now (work .entry)) (now (work .exit)) ⌝ }
+{
+    let mut touched = [0u8; Line::LENGTH];
+    let role = table::role(first, x);
+    touch(second, below, second_edges, new, &mut touched, layout, role);
+    lose_touched(
+        signature,
+        first,
+        second,
+        work,
+        below,
+        partners,
+        waiting,
+        layout,
+        &touched,
+        x,
+    );
+}
+
+// The same, given in how many bytes something is new: where these are more than a few, for all nodes at once.
+fn lose_edge(
+    signature: &[u8],
+    first: &[u16],
+    second: &[u16],
+    work: &mut [u8],
+    below: &[u8],
+    second_edges: &[u16; Chains::LENGTH],
+    partners: &mut [u8; Partners::NODES],
+    waiting: &mut [u8; Waiting::LENGTH],
+    layout: Layout,
+    new: &[u8; Line::LENGTH],
+    fresh: usize,
+    x: usize,
+)
+    requires { ⌜ Setting (now signature) (now first) (now second) (now below) layout (now work) ⌝ }
+    requires { ⌜ Edge (now signature) (now first) layout x ⌝ }
+    ensures { λ _. ⌜ Grows (Step (now (signature .entry)) (now (first .entry)) (now (second .entry)) layout) (markSquare layout) (now (work .entry)) (now (work .exit)) ⌝ }
+{
+    if Few::BYTES < fresh {
+        if lose_row(signature, first, second, work, below, layout, x) {
+            wait(waiting, x);
+        }
+        return;
+    }
+    lose_by_new(
+        signature,
+        first,
+        second,
+        work,
+        below,
+        second_edges,
+        partners,
+        waiting,
+        layout,
+        new,
+        x,
+    );
+}
+
+// The edges that end at the node, which has new marks in the columns of a line.
 fn lose_edges(
     signature: &[u8],
     first: &[u16],
@@ -184,9 +338,12 @@ fn lose_edges(
     work: &mut [u8],
     below: &[u8],
     edges: &[u16; Chains::LENGTH],
-    partners: &mut [u8; Partners::LENGTH],
+    second_edges: &[u16; Chains::LENGTH],
+    partners: &mut [u8; Partners::NODES],
     waiting: &mut [u8; Waiting::LENGTH],
     layout: Layout,
+    new: &[u8; Line::LENGTH],
+    fresh: usize,
     end: usize,
 )
     requires { ⌜ Setting (now signature) (now first) (now second) (now below) layout (now work) ⌝ }
@@ -208,9 +365,12 @@ fn lose_edges(
                 second,
                 work,
                 below,
+                second_edges,
                 partners,
                 waiting,
                 layout,
+                new,
+                fresh,
                 x,
             );
         }
@@ -261,7 +421,8 @@ pub fn deal(
     under: &[u8],
     below: &[u8],
     edges: &[u16; Chains::LENGTH],
-    partners: &mut [u8; Partners::LENGTH],
+    second_edges: &[u16; Chains::LENGTH],
+    partners: &mut [u8; Partners::NODES],
     waiting: &mut [u8; Waiting::LENGTH],
     layout: Layout,
     x: usize,
@@ -271,6 +432,12 @@ pub fn deal(
     requires { ⌜ x ≤ layout .names ⌝ }
     ensures { λ _. ⌜ Grows (Step (now (signature .entry)) (now (first .entry)) (now (second .entry)) layout) (markSquare layout) (now (work .entry)) (now (work .exit)) ⌝ }
 {
+    let marks = Square {
+        base: layout.marks,
+        names: layout.names,
+    };
+    let mut new = [0u8; Line::LENGTH];
+    let fresh = waiting::see(work, marks, x, waiting, x, &mut new);
     hand_down(work, under, waiting, layout, x);
     lose_edges(
         signature,
@@ -279,9 +446,12 @@ pub fn deal(
         work,
         below,
         edges,
+        second_edges,
         partners,
         waiting,
         layout,
+        &new,
+        fresh,
         x,
     );
 }

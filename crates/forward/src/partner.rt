@@ -13,14 +13,12 @@ use marks::Square;
 use marks::rows::next_marked;
 use release::table;
 
-// The partner found last, a byte for each pair. Those before it are none any more, since a node that is marked stays so: as it is
-// only a hint, the search begins with it, and then looks at all.
+// The partner found last for each node, of whatever edge: many edges have the same partner there. As it is only a hint, the search
+// begins with it, and then looks at all.
 pub struct Partners {}
 
 impl Partners {
     pub const NODES: usize = 128;
-
-    pub const LENGTH: usize = 16384;
 }
 
 fn wide(x: u8) -> usize
@@ -37,31 +35,27 @@ fn narrow(x: usize) -> u8
 }
 
 // The partner noted last, or a number out of range.
-fn noted(partners: &[u8; Partners::LENGTH], x: usize, y: usize) -> usize {
-    if x < Partners::NODES {
-        if y < Partners::NODES {
-            return wide(partners[x * Partners::NODES + y]);
-        }
+fn noted(partners: &[u8; Partners::NODES], y: usize) -> usize {
+    if y < Partners::NODES {
+        return wide(partners[y]);
     }
     Partners::NODES
 }
 
 // Notes a partner. Out of range nothing happens.
-fn note(partners: &mut [u8; Partners::LENGTH], x: usize, y: usize, name: usize) {
-    if x < Partners::NODES {
-        if y < Partners::NODES {
-            if name < Partners::NODES {
-                partners[x * Partners::NODES + y] = narrow(name);
-            }
+fn note(partners: &mut [u8; Partners::NODES], y: usize, name: usize) {
+    if y < Partners::NODES {
+        if name < Partners::NODES {
+            partners[y] = narrow(name);
         }
     }
 }
 
 // Where the search begins.
-fn begin(partners: &[u8; Partners::LENGTH], names: usize, x: usize, y: usize) -> usize
+fn begin(partners: &[u8; Partners::NODES], names: usize, y: usize) -> usize
     ensures { λ r. ⌜ r ≤ names ⌝ }
 {
-    let name = noted(partners, x, y);
+    let name = noted(partners, y);
     if name <= names {
         return name;
     }
@@ -74,7 +68,7 @@ pub fn has_partner(
     first: &[u16],
     second: &[u16],
     work: &[u8],
-    partners: &mut [u8; Partners::LENGTH],
+    partners: &mut [u8; Partners::NODES],
     layout: Layout,
     x: usize,
     y: usize,
@@ -92,13 +86,13 @@ pub fn has_partner(
         names: layout.names,
     };
     let mut found = false;
-    let mut from = begin(partners, layout.names, x, y);
+    let mut from = begin(partners, layout.names, y);
     let mut turn: usize = 0;
     'search: while turn < 2 {
         let mut name = next_marked(work, above, y, from);
         while name < layout.names {
             if serves(second, work, layout, end, role, name) {
-                note(partners, x, y, name);
+                note(partners, y, name);
                 found = true;
                 break 'search;
             }

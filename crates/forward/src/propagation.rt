@@ -267,8 +267,10 @@ fn deal_with_all(
     ensures { λ _. ⌜ Grows (Step (now (signature .entry)) (now (first .entry)) (now (second .entry)) layout) (markSquare layout) (now (work .entry)) (now (work .exit)) ⌝ }
 {
     let mut edges = [0u16; Chains::LENGTH];
-    let mut partners = [0u8; Partners::LENGTH];
+    let mut second_edges = [0u16; Chains::LENGTH];
+    let mut partners = [0u8; Partners::NODES];
     list_fillers(first, &mut edges, layout.names);
+    list_fillers(second, &mut second_edges, layout.names);
     let mut left = Waiting::TURNS;
     while 0 < left {
         left -= 1;
@@ -284,6 +286,7 @@ fn deal_with_all(
             under,
             below,
             &edges,
+            &second_edges,
             &mut partners,
             waiting,
             layout,

@@ -7,18 +7,23 @@ use Rattle.forward.proofs.consequences.deal.Reads as reads
 use Rattle.forward.proofs.consequences.deal.Lts as lts
 use Rattle.forward.proofs.consequences.hand_down.Reads as hand-down-reads
 use Rattle.forward.proofs.consequences.lose_edges.Reads as lose-edges-reads
+use Rattle.marks.proofs.waiting.see.Reads as see-reads
+
+see-requires : tie.Need-see-requires
+see-requires c κs = search needs
 
 hand-down-requires : tie.Need-hand-down-requires
-hand-down-requires c κs = ((c .before .before .before .before .before .before .before .before .pre .0 .places .first, c .before .before .before .before .before .before .before .before .pre .0 .places .marks), (c .before .before .before .before .before .before .before .before .pre .1 .0, c .before .before .before .before .before .before .before .before .pre .1 .1))
+hand-down-requires c κs = search needs
 
 lose-edges-requires : tie.Need-lose-edges-requires
-lose-edges-requires c κs = setting-stays (c .before .before .before .before .before .hand-down .ensures) (c .before .before .before .before .before .before .before .before .before .before .before .before .before .before .pre .0)
+lose-edges-requires c κs = setting-stays (c .before .before .before .before .before .before .hand-down .ensures) (c .before .before .before .before .before .before .before .before .before .before .before .before .before .before .before .before .before .before .before .pre .0)
 
 same-length : tie.Need-same-length
 same-length c = search needs
 
 returns : tie.Need-returns
-returns c = grows-further (above-grows (c .before .before .before .before .before .before .before .before .hand-down .ensures)) (c .before .before .lose-edges .ensures)
+returns c = grows-further (above-grows (c .before .before .before .before .before .before .before .before .before .hand-down .ensures)) (c .before .before .lose-edges .ensures)
 
 pub deal-spec : {M : Type 1} → statement M
-deal-spec = tie.close (tie.spec hand-down-requires lose-edges-requires same-length returns)
+deal-spec =
+    tie.close (tie.spec see-requires hand-down-requires lose-edges-requires same-length returns)

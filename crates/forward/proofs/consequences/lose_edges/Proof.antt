@@ -16,10 +16,10 @@ use Rattle.forward.proofs.consequences.lose_edge.Reads as lose-edge-rea
 use Rattle.forward.proofs.rules.has_edge.Reads as has-edge-reads
 
 abbrev Inv-loop : tie.InvT-loop
-Inv-loop signature first second work₀ below edges partners₀ waiting₀ layout end entry₀ left₀ work partners waiting entry left = (length work ≡ length work₀) × Setting signature first second below layout work × Grows (Step signature first second layout) (markSquare layout) work₀ work
+Inv-loop signature first second work₀ below edges second-edges partners₀ waiting₀ layout new fresh end entry₀ left₀ work partners waiting entry left = (length work ≡ length work₀) × Setting signature first second below layout work × Grows (Step signature first second layout) (markSquare layout) work₀ work
 
 abbrev μ-loop : tie.MeasureT-loop
-μ-loop signature first second work₀ below edges partners₀ waiting₀ layout end entry₀ left₀ work partners waiting entry left = left
+μ-loop signature first second work₀ below edges second-edges partners₀ waiting₀ layout new fresh end entry₀ left₀ work partners waiting entry left = left
 
 entry-requires : tie.Need-entry-requires Inv-loop μ-loop
 entry-requires c κs = search needs

@@ -1,0 +1,70 @@
+use native.Mathlib.Omega.{arith}
+use borrow.Author.Needs.{needs}
+use Prim.Native.Nat.{suc, _≤_, _-_}
+use Rattle.forward.proofs.consequences.count_left.Statement.{statement}
+use Rattle.forward.proofs.consequences.count_left.Tie as tie
+use Rattle.forward.proofs.consequences.count_left.Reads as reads
+use Rattle.forward.proofs.consequences.count_left.Lts as lts
+use Rattle.layout.proofs.is_marked.Reads as is-marked-reads
+use Rattle.marks.proofs.waiting.next.Reads as next-reads
+
+abbrev Inv-loop : tie.InvT-loop
+Inv-loop work layout touched x count₀ next₀ count next = count ≤ 4
+
+abbrev μ-loop : tie.MeasureT-loop
+μ-loop work layout touched x count₀ next₀ count next = suc (layout .names) - next
+
+next-requires : tie.Need-next-requires Inv-loop μ-loop
+next-requires c κs = search needs
+
+loop-holds : tie.Need-loop-holds Inv-loop μ-loop
+loop-holds c = omega arith
+
+add-next : tie.Need-add-next Inv-loop μ-loop
+add-next c = omega (arith, c .if1 .taken, c .before .before .before .before .before .pre .1 .1)
+
+next-requires-2 : tie.Need-next-requires-2 Inv-loop μ-loop
+next-requires-2 c κs = omega (arith, c .if1 .taken, c .before .before .before .before .before .pre .1 .1)
+
+is-marked-requires : tie.Need-is-marked-requires Inv-loop μ-loop
+is-marked-requires c κs = (c .before .before .before .before .before .before .pre .0, (c .before .before .before .before .before .before .pre .1 .0, c .before .if1 .taken))
+
+loop-less : tie.Need-loop-less Inv-loop μ-loop
+loop-less c = omega (arith, c .before .before .before .if1 .taken, c .before .before .next2 .ensures)
+
+loop-again : tie.Need-loop-again Inv-loop μ-loop
+loop-again c = c .before .before .before .before .before .loop .inv
+
+add-count : tie.Need-add-count Inv-loop μ-loop
+add-count c = omega (arith, c .before .before .before .before .before .loop .inv)
+
+returns : tie.Need-returns Inv-loop μ-loop
+returns c = search needs
+
+loop-less-2 : tie.Need-loop-less-2 Inv-loop μ-loop
+loop-less-2 c = omega (arith, c .before .before .before .before .if1 .taken, c .before .before .before .next2 .ensures)
+
+loop-again-2 : tie.Need-loop-again-2 Inv-loop μ-loop
+loop-again-2 c = omega (arith, c .if3 .left)
+
+returns-2 : tie.Need-returns-2 Inv-loop μ-loop
+returns-2 c = search needs
+
+pub count-left-spec : {M : Type 1} → statement M
+count-left-spec =
+    tie.close
+    (tie.spec
+    Inv-loop
+    μ-loop
+    next-requires
+    loop-holds
+    add-next
+    next-requires-2
+    is-marked-requires
+    loop-less
+    loop-again
+    add-count
+    returns
+    loop-less-2
+    loop-again-2
+    returns-2)
