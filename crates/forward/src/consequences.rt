@@ -27,8 +27,8 @@ use marks::waiting::Waiting;
 use marks::waiting::wait;
 use release::table;
 
-// What is few: up to so many bytes of a row with something new, it is worth while to look for the nodes that can lose a partner by it;
-// up to so many of these, each is tested for itself.
+// What is few. Where more bytes of a row have something new, the nodes that can lose a partner by it are not looked for; where more
+// such nodes are left, they are not tested one by one. To test all nodes at once is then quicker.
 pub struct Few {}
 
 impl Few {
@@ -213,8 +213,8 @@ fn lose_each(
     }
 }
 
-// The edge of x, which only the nodes of the line can lose: where x is not marked with a few of them, for each, and where it is not
-// marked with more, for all nodes at once.
+// The edge of x, which only nodes of the line can lose: where a few are left that x is not marked with, for each node of the line;
+// where more are left, for all nodes at once.
 fn lose_touched(
     signature: &[u8],
     first: &[u16],
@@ -255,7 +255,7 @@ fn lose_touched(
     );
 }
 
-// The edge of x, whose end has new marks in the columns of a line: looks which nodes can lose it by these.
+// The edge of x, whose end has new marks in the columns of a line: for the nodes that can lose it by these.
 fn lose_by_new(
     signature: &[u8],
     first: &[u16],

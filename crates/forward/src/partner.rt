@@ -13,8 +13,8 @@ use marks::Square;
 use marks::rows::next_marked;
 use release::table;
 
-// The partner found last for each node, of whatever edge: many edges have the same partner there. As it is only a hint, the search
-// begins with it, and then looks at all.
+// The partner found last for each node, a byte, of whatever edge it was one: that it often is one of the next edge too is only a hint,
+// so the search begins with it, and then looks at all.
 pub struct Partners {}
 
 impl Partners {
