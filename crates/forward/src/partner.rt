@@ -62,8 +62,18 @@ fn begin(partners: &[u8; Partners::NODES], names: usize, y: usize) -> usize
     0
 }
 
+// The turn that the search begins with. One from the first name on is the turn through all.
+fn first_turn(from: usize) -> usize
+    ensures { λ r. ⌜ (r ≤ 1) × (1 ≤ r → from ≡ 0) ⌝ }
+{
+    if from == 0 {
+        return 1;
+    }
+    0
+}
+
 // Whether y has an edge by the second release that is a partner of the edge of x. The names above y are looked through twice, first
-// from the one noted last on; the first one found ends both loops, and is noted.
+// from the one noted last on, if there is one; the first one found ends both loops, and is noted.
 pub fn has_partner(
     first: &[u16],
     second: &[u16],
@@ -87,7 +97,7 @@ pub fn has_partner(
     };
     let mut found = false;
     let mut from = begin(partners, layout.names, y);
-    let mut turn: usize = 0;
+    let mut turn = first_turn(from);
     'search: while turn < 2 {
         let mut name = next_marked(work, above, y, from);
         while name < layout.names {
