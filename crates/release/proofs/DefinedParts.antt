@@ -7,8 +7,9 @@ use native.Mathlib.Omega.{arith}
 use lib.ListN.{length}
 use borrow.Author.Count.{below-more}
 use Rattle.el.proofs.Tests.{Tells, never, always}
-use Rattle.release.specs.Files.{joins}
+use Rattle.release.specs.Files.{joins, widthOf}
 use Rattle.release.specs.Tables.{kindAt, countAt, partAt, HasRow, HasCount, HasPart, Shaped, Conjunctive, PartDefined, SomePartDefined}
+use Rattle.release.proofs.Numbers.{step-within}
 
 pub has-row : (n : ℕ) (s t : List ℕ) (x : ℕ) → Shaped n s t → x < n → HasRow t x
 has-row n s t x h l = record { row = omega (arith, h .rows) }
@@ -18,7 +19,7 @@ module _ (n : ℕ) (s t : List ℕ) (x : ℕ) (h : Conjunctive n s t x) where
   has-count = record { row = has-row n s t x (h .shaped) (h .is-name) .row; inside = omega (arith, h .shaped .inside x (h .is-name) (h .is-conjunction)) }
 
   pub has-part : (i : ℕ) → i < countAt s t x → HasPart s t x i
-  has-part i l = record { row = has-row n s t x (h .shaped) (h .is-name) .row; inside = omega (arith, h .shaped .inside x (h .is-name) (h .is-conjunction)) }
+  has-part i l = record { version = h .shaped .version; row = has-row n s t x (h .shaped) (h .is-name) .row; inside = omega (arith, step-within (widthOf s) i (countAt s t x) l, h .shaped .inside x (h .is-name) (h .is-conjunction)) }
 
   pub part-row : (i p : ℕ) → i < countAt s t x → p ≡ partAt s t x i → HasRow t p
   part-row i p l e = has-row n s t p (h .shaped) (rw e (h .shaped .part x i (h .is-name) (h .is-conjunction) l))

@@ -11,90 +11,96 @@ use native.Mathlib.Omega.{arith}
 use borrow.Author.Tests.{lt-ltb, le-ltb, le-leb, lt-leb, eq-eqb, ne-eqb}
 use lib.Dec.{eqb, ltb, leb}
 use lib.ListN.{length, getD}
-use Rattle.release.specs.Files.{partsFault, conjunctionFault, restrictionFault, mostConjuncts, topByte, isFiller, joins, restricts}
+use Rattle.release.specs.Files.{number, partsFault, conjunctionFault, restrictionFault, mostConjuncts, topNumber, isFiller, joins, restricts}
 
 -- a run of names
-pub parts-none : (n k least : ℕ) (s : List ℕ) (p : ℕ) → k ≤ 0 → partsFault n k least s p ≡ 0
+pub parts-none : (w n k least : ℕ) (s : List ℕ) (p : ℕ) → k ≤ 0 → partsFault w n k least s p ≡ 0
 unfolding partsFault
-parts-none n k least s p h = let e : k ≡ 0 = omega arith in rw e
+parts-none w n k least s p h = let e : k ≡ 0 = omega arith in rw e
 
-module _ (n k least : ℕ) (s : List ℕ) (p : ℕ) (more : 0 < k) where
-  one-more : partsFault n k least s p ≡ partsFault n (suc (k - 1)) least s p
-  one-more = let e : k ≡ suc (k - 1) = omega arith in ap (λ (j : ℕ). partsFault n j least s p) e
+module _ (w n k least : ℕ) (s : List ℕ) (p : ℕ) (more : 0 < k) where
+  one-more : partsFault w n k least s p ≡ partsFault w n (suc (k - 1)) least s p
+  one-more = let e : k ≡ suc (k - 1) = omega arith in ap (λ (j : ℕ). partsFault w n j least s p) e
 
-  pub parts-7 : length s ≤ p → partsFault n k least s p ≡ 7
+  pub parts-7 : length s < p + w → partsFault w n k least s p ≡ 7
   unfolding partsFault
-  parts-7 h = one-more ∙ simp (partsFault, le-leb _ _ h)
+  parts-7 h = one-more ∙ simp (partsFault, lt-ltb _ _ h)
 
-  module _ (within : p < length s) (x : ℕ) (e : x ≡ getD s p 0) where
-    pub parts-9 : n ≤ x → partsFault n k least s p ≡ 9
+  module _ (within : p + w ≤ length s) (x : ℕ) (e : x ≡ number w s p) where
+    pub parts-9 : n ≤ x → partsFault w n k least s p ≡ 9
     unfolding partsFault
-    parts-9 h = one-more ∙ simp (partsFault, ← e, lt-leb _ _ within, le-leb _ _ h)
+    parts-9 h = one-more ∙ simp (partsFault, ← e, le-ltb _ _ within, le-leb _ _ h)
 
     module _ (small : x < n) where
-      pub parts-13 : x < least → partsFault n k least s p ≡ 13
+      pub parts-13 : x < least → partsFault w n k least s p ≡ 13
       unfolding partsFault
-      parts-13 h = one-more ∙ simp (partsFault, ← e, lt-leb _ _ within, lt-leb _ _ small, lt-ltb _ _ h)
+      parts-13 h = one-more ∙ simp (partsFault, ← e, le-ltb _ _ within, lt-leb _ _ small, lt-ltb _ _ h)
 
-      pub parts-next : least ≤ x → partsFault n k least s p ≡ partsFault n (k - 1) (x + 1) s (p + 1)
+      pub parts-next : least ≤ x → partsFault w n k least s p ≡ partsFault w n (k - 1) (x + 1) s (p + w)
       unfolding partsFault
-      parts-next h = one-more ∙ simp (partsFault, ← e, lt-leb _ _ within, lt-leb _ _ small, le-ltb _ _ h, add-one)
+      parts-next h = one-more ∙ simp (partsFault, ← e, le-ltb _ _ within, lt-leb _ _ small, le-ltb _ _ h, add-one)
 
 -- the tails: a conjunction's
-module _ (n : ℕ) (s : List ℕ) (p : ℕ) where
-  pub conjunction-7 : length s ≤ p → conjunctionFault n s p ≡ 7
+module _ (w n : ℕ) (s : List ℕ) (p : ℕ) where
+  pub conjunction-7 : length s ≤ p → conjunctionFault w n s p ≡ 7
   unfolding conjunctionFault
-  conjunction-7 h = simp (conjunctionFault, le-leb _ _ h)
+  conjunction-7 h = let l : length s < p + 1 = omega arith in simp (conjunctionFault, lt-ltb _ _ l)
 
-  module _ (within : p < length s) (x : ℕ) (e : x ≡ getD s p 0) where
-    pub conjunction-none : x ≡ 0 → conjunctionFault n s p ≡ 12
+  module _ (in-file : p < length s) (x : ℕ) (e : x ≡ getD s p 0) where
+    within : p + 1 ≤ length s
+    within = omega arith
+
+    pub conjunction-none : x ≡ 0 → conjunctionFault w n s p ≡ 12
     unfolding conjunctionFault
-    conjunction-none h = simp (conjunctionFault, ← e, lt-leb _ _ within, eq-eqb _ _ h)
+    conjunction-none h = simp (conjunctionFault, ← e, le-ltb _ _ within, eq-eqb _ _ h)
 
     module _ (some : x ≡ 0 → ⊥) where
-      pub conjunction-many : mostConjuncts < x → conjunctionFault n s p ≡ 12
+      pub conjunction-many : mostConjuncts < x → conjunctionFault w n s p ≡ 12
       unfolding conjunctionFault
-      conjunction-many h = simp (conjunctionFault, ← e, lt-leb _ _ within, ne-eqb _ _ some, lt-ltb _ _ h)
+      conjunction-many h = simp (conjunctionFault, ← e, le-ltb _ _ within, ne-eqb _ _ some, lt-ltb _ _ h)
 
-      pub conjunction-parts : x ≤ mostConjuncts → conjunctionFault n s p ≡ partsFault n x 0 s (p + 1)
+      pub conjunction-parts : x ≤ mostConjuncts → conjunctionFault w n s p ≡ partsFault w n x 0 s (p + 1)
       unfolding conjunctionFault
-      conjunction-parts h = simp (conjunctionFault, ← e, lt-leb _ _ within, ne-eqb _ _ some, le-ltb _ _ h)
+      conjunction-parts h = simp (conjunctionFault, ← e, le-ltb _ _ within, ne-eqb _ _ some, le-ltb _ _ h)
 
 -- and a restriction's
-module _ (n m : ℕ) (s : List ℕ) (p : ℕ) where
-  pub restriction-7 : length s ≤ p → restrictionFault n m s p ≡ 7
+module _ (w n m : ℕ) (s : List ℕ) (p : ℕ) where
+  pub restriction-7 : length s ≤ p → restrictionFault w n m s p ≡ 7
   unfolding restrictionFault
-  restriction-7 h = simp (restrictionFault, le-leb _ _ h)
+  restriction-7 h = let l : length s < p + 1 = omega arith in simp (restrictionFault, lt-ltb _ _ l)
 
-  module _ (within : p < length s) (x : ℕ) (e : x ≡ getD s p 0) where
-    pub restriction-11 : m ≤ x → restrictionFault n m s p ≡ 11
+  module _ (in-file : p < length s) (x : ℕ) (e : x ≡ getD s p 0) where
+    role-within : p + 1 ≤ length s
+    role-within = omega arith
+
+    pub restriction-11 : m ≤ x → restrictionFault w n m s p ≡ 11
     unfolding restrictionFault
-    restriction-11 h = simp (restrictionFault, ← e, lt-leb _ _ within, le-leb _ _ h)
+    restriction-11 h = simp (restrictionFault, ← e, le-ltb _ _ role-within, le-leb _ _ h)
 
     module _ (small : x < m) where
-      pub restriction-short : length s ≤ p + 1 → restrictionFault n m s p ≡ 7
+      pub restriction-short : length s < p + 1 + w → restrictionFault w n m s p ≡ 7
       unfolding restrictionFault
-      restriction-short h = simp (restrictionFault, ← e, lt-leb _ _ within, lt-leb _ _ small, le-leb _ _ h)
+      restriction-short h = simp (restrictionFault, ← e, le-ltb _ _ role-within, lt-leb _ _ small, lt-ltb _ _ h)
 
-      module _ (two : p + 1 < length s) where
-        pub restriction-9 : isFiller n (getD s (p + 1) 0) ≡ false → restrictionFault n m s p ≡ 9
+      module _ (within : p + 1 + w ≤ length s) (f : ℕ) (i : f ≡ number w s (p + 1)) where
+        pub restriction-9 : isFiller w n f ≡ false → restrictionFault w n m s p ≡ 9
         unfolding restrictionFault
-        restriction-9 h = simp (restrictionFault, ← e, lt-leb _ _ within, lt-leb _ _ small, lt-leb _ _ two, h)
+        restriction-9 h = simp (restrictionFault, ← e, ← i, le-ltb _ _ role-within, lt-leb _ _ small, le-ltb _ _ within, h)
 
-        pub restriction-none : isFiller n (getD s (p + 1) 0) ≡ true → restrictionFault n m s p ≡ 0
+        pub restriction-none : isFiller w n f ≡ true → restrictionFault w n m s p ≡ 0
         unfolding restrictionFault
-        restriction-none h = simp (restrictionFault, ← e, lt-leb _ _ within, lt-leb _ _ small, lt-leb _ _ two, h)
+        restriction-none h = simp (restrictionFault, ← e, ← i, le-ltb _ _ role-within, lt-leb _ _ small, le-ltb _ _ within, h)
 
-pub is-filler : (n b : ℕ) → (b < n) ⊎ (b ≡ topByte) → isFiller n b ≡ true
-is-filler n b (inl h) = rw (lt-ltb _ _ h)
-is-filler n b (inr e) = rw e (or-true (ltb topByte n))
+pub is-filler : (w n b : ℕ) → (b < n) ⊎ (b ≡ topNumber w) → isFiller w n b ≡ true
+is-filler w n b (inl h) = rw (lt-ltb _ _ h)
+is-filler w n b (inr e) = rw (eq-eqb _ _ e) (or-true (ltb b n))
   where
     or-true : (t : Bool) → t || true ≡ true
     or-true true = refl
     or-true false = refl
 
-pub no-filler : (n b : ℕ) → n ≤ b → (b ≡ topByte → ⊥) → isFiller n b ≡ false
-no-filler n b h d = simp (le-ltb _ _ h, ne-eqb _ _ d)
+pub no-filler : (w n b : ℕ) → n ≤ b → (b ≡ topNumber w → ⊥) → isFiller w n b ≡ false
+no-filler w n b h d = simp (le-ltb _ _ h, ne-eqb _ _ d)
 
 -- the kinds
 pub kind-joins : (k : ℕ) → 1 ≤ k → k < 3 → joins k ≡ true

@@ -10,7 +10,7 @@ use lib.Dec.{eqb, ltb}
 use lib.ListN.{length, getD, drop, drop-of-length-le}
 use lib.Seq.{drop-cons}
 use Rattle.el.specs.Lists.{pick}
-use Rattle.release.specs.Files.{mark, startsWith, versionOf, namesOf, rolesOf, countOf, header, mostNames, mostRoles, headerFault}
+use Rattle.release.specs.Files.{mark, startsWith, isVersion, versionOf, widthOf, namesOf, rolesOf, countOf, headerLength, firstPlace, mostNamesOf, mostRoles, headerFault}
 
 -- the mark, byte by byte
 pub record Marked (xs s : List ℕ) (i : ℕ) : Type 0 where
@@ -33,36 +33,48 @@ module _ (xs s : List ℕ) (i : ℕ) (h : Marked xs s i) where
     pub mark-next : getD s i 0 ≡ getD xs i 0 → Marked xs s (i + 1)
     mark-next e = record { rest = rw add-one (opened ∙ rw (eq-eqb _ _ e)) }
 
+-- the version
+pub version-1 : (v : ℕ) → v ≡ 1 → false ≡ not (isVersion v)
+version-1 v e = rw e
+
+pub version-known : (v : ℕ) → (v ≡ 1 → ⊥) → not (eqb v 2) ≡ not (isVersion v)
+version-known v d = simp (ne-eqb _ _ d)
+
 module _ (s : List ℕ) where
-  pub header-1 : length s < header → headerFault s ≡ 1
+  pub header-1 : length s < headerLength 1 → headerFault s ≡ 1
   unfolding headerFault
   header-1 h = simp (headerFault, lt-ltb _ _ h)
 
-  module _ (long : header ≤ length s) where
+  module _ (long : headerLength 1 ≤ length s) where
     pub header-2 : not (startsWith mark s) ≡ true → headerFault s ≡ 2
     unfolding headerFault
     header-2 h = simp (headerFault, le-ltb _ _ long, h)
 
     module _ (marked : not (startsWith mark s) ≡ false) where
-      pub header-3 : (versionOf s ≡ 1 → ⊥) → headerFault s ≡ 3
+      pub header-3 : not (isVersion (versionOf s)) ≡ true → headerFault s ≡ 3
       unfolding headerFault
-      header-3 h = simp (headerFault, le-ltb _ _ long, marked, ne-eqb _ _ h)
+      header-3 h = simp (headerFault, le-ltb _ _ long, marked, h)
 
-      module _ (version : versionOf s ≡ 1) where
-        pub header-4 : mostNames < namesOf s → headerFault s ≡ 4
+      module _ (version : not (isVersion (versionOf s)) ≡ false) where
+        pub header-short : length s < firstPlace s → headerFault s ≡ 1
         unfolding headerFault
-        header-4 h = simp (headerFault, le-ltb _ _ long, marked, eq-eqb _ _ version, lt-ltb _ _ h)
+        header-short h = simp (headerFault, le-ltb _ _ long, marked, version, lt-ltb _ _ h)
 
-        module _ (names : namesOf s ≤ mostNames) where
-          pub header-5 : mostRoles < rolesOf s → headerFault s ≡ 5
+        module _ (whole : firstPlace s ≤ length s) where
+          pub header-4 : mostNamesOf (widthOf s) < namesOf s → headerFault s ≡ 4
           unfolding headerFault
-          header-5 h = simp (headerFault, le-ltb _ _ long, marked, eq-eqb _ _ version, le-ltb _ _ names, lt-ltb _ _ h)
+          header-4 h = simp (headerFault, le-ltb _ _ long, marked, version, le-ltb _ _ whole, lt-ltb _ _ h)
 
-          module _ (roles : rolesOf s ≤ mostRoles) where
-            pub header-6 : namesOf s < countOf s → headerFault s ≡ 6
+          module _ (names : namesOf s ≤ mostNamesOf (widthOf s)) where
+            pub header-5 : mostRoles < rolesOf s → headerFault s ≡ 5
             unfolding headerFault
-            header-6 h = simp (headerFault, le-ltb _ _ long, marked, eq-eqb _ _ version, le-ltb _ _ names, le-ltb _ _ roles, lt-ltb _ _ h)
+            header-5 h = simp (headerFault, le-ltb _ _ long, marked, version, le-ltb _ _ whole, le-ltb _ _ names, lt-ltb _ _ h)
 
-            pub header-none : countOf s ≤ namesOf s → headerFault s ≡ 0
-            unfolding headerFault
-            header-none h = simp (headerFault, le-ltb _ _ long, marked, eq-eqb _ _ version, le-ltb _ _ names, le-ltb _ _ roles, le-ltb _ _ h)
+            module _ (roles : rolesOf s ≤ mostRoles) where
+              pub header-6 : namesOf s < countOf s → headerFault s ≡ 6
+              unfolding headerFault
+              header-6 h = simp (headerFault, le-ltb _ _ long, marked, version, le-ltb _ _ whole, le-ltb _ _ names, le-ltb _ _ roles, lt-ltb _ _ h)
+
+              pub header-none : countOf s ≤ namesOf s → headerFault s ≡ 0
+              unfolding headerFault
+              header-none h = simp (headerFault, le-ltb _ _ long, marked, version, le-ltb _ _ whole, le-ltb _ _ names, le-ltb _ _ roles, le-ltb _ _ h)

@@ -1,4 +1,5 @@
 -- Laws of the release file's definitions.
+pub mod Numbers
 pub mod Headers
 pub mod Faults
 pub mod Readings

@@ -4,16 +4,16 @@ use mathlib.Core.Bool.{Bool, true, false, true≢false, false≢true}
 use mathlib.Core.List.{List, [], _∷_}
 use Prim.Native.Nat.{ℕ, zero, suc, _+_, _≤_, _<_}
 use native.Mathlib.Omega.{arith}
-use lib.ListN.{length, getD, take, drop, length-drop}
-use lib.Seq.{getD-drop}
+use lib.ListN.{length, getD}
 use Rattle.el.specs.Lists.{In}
 use Rattle.el.specs.Axioms.{Axiom, isConjunction, partsOf}
 use Rattle.el.proofs.Lists.{Some}
 use Rattle.el.proofs.Tests.{Tells, tells-as, tells-true, tells-eq, tells-and, tells-any}
-use Rattle.release.specs.Files.{header, joins, defines, axiomsFault, axiomAt, axiomsFrom, conjunctDefined}
+use Rattle.release.specs.Files.{number, widthOf, firstPlace, joins, defines, axiomsFault, axiomAt, axiomsFrom, conjunctDefined}
 use Rattle.release.specs.Tables.{kindAt, countAt, partAt, Stands, Origin, blank, of-axiom, Decoded, PartDefined, SomePartDefined}
 use Rattle.release.proofs.Faults.{high-not-joins}
-use Rattle.release.proofs.Decoding.{holds, count-is, part-is, sound, conjuncts, shaped, Place, stands-in, in-stands, axiom-joins, axiom-parts, axiom-no-parts, in-take, At, take-at}
+use Rattle.release.proofs.Decoding.{holds, count-is, part-is, sound, conjuncts, shaped, Place, stands-in, in-stands, axiom-joins, axiom-parts, axiom-no-parts}
+use Rattle.release.proofs.Numbers.{in-numbers, numbers-at}
 
 -- the two tests that say kind 2
 kind-2 : (k : ℕ) → joins k ≡ true → defines k ≡ true → k ≡ 2
@@ -25,13 +25,13 @@ kind-2 (suc (suc (suc k))) j d = absurd (true≢false (sym j ∙ high-not-joins 
 abbrev pub Defines : ℕ → Axiom → Type 0
 Defines x b = (b .left ≡ x) × ((b .defined ≡ true) × (isConjunction b ≡ true))
 
-defines-2 : (s : List ℕ) (q x : ℕ) → getD s q 0 ≡ x → getD s (q + 1) 0 ≡ 2 → Defines x (axiomAt s q)
+defines-2 : (s : List ℕ) (q x : ℕ) → number (widthOf s) s q ≡ x → getD s (q + widthOf s) 0 ≡ 2 → Defines x (axiomAt (widthOf s) s q)
 unfolding axiomAt
-defines-2 s q x e k = (e, (rw k, axiom-joins s q ∙ rw k))
+defines-2 s q x e k = (e, (rw k, axiom-joins (widthOf s) s q ∙ rw k))
 
-is-2 : (s : List ℕ) (q x : ℕ) → Defines x (axiomAt s q) → (getD s q 0 ≡ x) × (getD s (q + 1) 0 ≡ 2)
+is-2 : (s : List ℕ) (q x : ℕ) → Defines x (axiomAt (widthOf s) s q) → (number (widthOf s) s q ≡ x) × (getD s (q + widthOf s) 0 ≡ 2)
 unfolding axiomAt
-is-2 s q x w = (w .0, kind-2 (getD s (q + 1) 0) (sym (axiom-joins s q) ∙ w .1 .1) (w .1 .0))
+is-2 s q x w = (w .0, kind-2 (getD s (q + widthOf s) 0) (sym (axiom-joins (widthOf s) s q) ∙ w .1 .1) (w .1 .0))
 
 -- by the axioms
 abbrev pub Listed : List Axiom → Type 0
@@ -41,63 +41,58 @@ pub tells-listed : (al : List Axiom) → Tells (conjunctDefined al) (Listed al)
 unfolding conjunctDefined
 tells-listed al = tells-any _ al (λ a _. tells-any _ (partsOf a) (λ x _. tells-any _ al (λ b _. tells-and (tells-eq (b .left) x) (λ _. tells-and (tells-true (b .defined)) (λ _. tells-true (isConjunction b))))))
 
-module _ (m : ℕ) {n c : ℕ} {s t : List ℕ} (d : Decoded n c s t) (none : axiomsFault n m c 0 s header ≡ 0) where
+module _ (m : ℕ) {n c : ℕ} {s t : List ℕ} (d : Decoded n c s t) (none : axiomsFault (widthOf s) n m c 0 s (firstPlace s) ≡ 0) (long : firstPlace s ≤ length s) where
   -- from the table to the axioms
-  part-in : {q : ℕ} → Stands c s header q → joins (kindAt t (getD s q 0)) ≡ true → (j : ℕ) → j < countAt s t (getD s q 0) → In (partsOf (axiomAt s q)) (partAt s t (getD s q 0) j)
-  part-in {q} i e j l =
-      let k = conjuncts m d none i e in
-      let h : j < getD s (q + 2) 0 = omega (arith, l, count-is d i) in
-      let w : j < length (drop (q + 3) s) = rw length-drop (omega (arith, k .parts .within)) in
-      let z : In (take (getD s (q + 2) 0) (drop (q + 3) s)) (getD (drop (q + 3) s) j 0) = in-take (drop (q + 3) s) (getD s (q + 2) 0) j h w in
-      rw (axiom-parts s q (rw (holds d i .kind) at e), part-is d i j) (rw getD-drop at z)
+  part-in : {q : ℕ} → Stands c s (firstPlace s) q → joins (kindAt t (number (widthOf s) s q)) ≡ true → (j : ℕ) → j < countAt s t (number (widthOf s) s q) → In (partsOf (axiomAt (widthOf s) s q)) (partAt s t (number (widthOf s) s q) j)
+  part-in {q} i e j l = rw (axiom-parts (widthOf s) s q (rw (holds d i .kind) at e), part-is d i j) (in-numbers (widthOf s) _ s _ j (omega (arith, l, count-is d i)))
 
-  listed-of : {q : ℕ} → Stands c s header q → joins (kindAt t (getD s q 0)) ≡ true → PartDefined s t (getD s q 0) → Listed (axiomsFrom c s header)
+  listed-of : {q : ℕ} → Stands c s (firstPlace s) q → joins (kindAt t (number (widthOf s) s q)) ≡ true → PartDefined s t (number (widthOf s) s q) → Listed (axiomsFrom c s (firstPlace s))
   listed-of {q} i e w =
-      let x : ℕ = partAt s t (getD s q 0) (w .at) in
-      elim (d .origin x (shaped m d none .part (getD s q 0) (w .at) (sound m d none i .left) e (w .among))) [
+      let x : ℕ = partAt s t (number (widthOf s) s q) (w .at) in
+      elim (d .origin x (shaped m d none long .part (number (widthOf s) s q) (w .at) (sound m d none i .left) e (w .among))) [
         | blank z ↦ absurd (omega (arith, z, w .is-defined))
         | of-axiom {q = p} k z ↦ record {
-          it = axiomAt s q;
+          it = axiomAt (widthOf s) s q;
           member = stands-in i;
           holds = record {
             it = x;
             member = part-in i e (w .at) (w .among);
-            holds = record { it = axiomAt s p; member = stands-in k; holds = defines-2 s p x z (sym (holds d k .kind) ∙ (ap (kindAt t) z ∙ w .is-defined)) };
+            holds = record { it = axiomAt (widthOf s) s p; member = stands-in k; holds = defines-2 s p x z (sym (holds d k .kind) ∙ (ap (kindAt t) z ∙ w .is-defined)) };
           };
         }
       ]
 
-  to-listed : SomePartDefined n s t → Listed (axiomsFrom c s header)
+  to-listed : SomePartDefined n s t → Listed (axiomsFrom c s (firstPlace s))
   to-listed w = elim (d .origin (w .left) (w .is-name)) [
     | blank z ↦ absurd (false≢true (rw z at (w .is-conjunction)))
     | of-axiom i z ↦ listed-of i (rw (← z) at (w .is-conjunction)) (rw (← z) at (w .part))
   ]
 
   -- and back
-  joins-of : (q : ℕ) {x : ℕ} → In (partsOf (axiomAt s q)) x → joins (getD s (q + 1) 0) ≡ true
-  joins-of q h = by-kind (joins (getD s (q + 1) 0)) refl
+  joins-of : (q : ℕ) {x : ℕ} → In (partsOf (axiomAt (widthOf s) s q)) x → joins (getD s (q + widthOf s) 0) ≡ true
+  joins-of q h = by-kind (joins (getD s (q + widthOf s) 0)) refl
     where
-      by-kind : (b : Bool) → joins (getD s (q + 1) 0) ≡ b → joins (getD s (q + 1) 0) ≡ true
+      by-kind : (b : Bool) → joins (getD s (q + widthOf s) 0) ≡ b → joins (getD s (q + widthOf s) 0) ≡ true
       by-kind true e = e
-      by-kind false e = elim (rw (axiom-no-parts s q e) at h) [ ]
+      by-kind false e = elim (rw (axiom-no-parts (widthOf s) s q e) at h) [ ]
 
-  defined-at : {q p x : ℕ} → Stands c s header q → Stands c s header p → In (partsOf (axiomAt s q)) x → Defines x (axiomAt s p) → SomePartDefined n s t
+  defined-at : {q p x : ℕ} → Stands c s (firstPlace s) q → Stands c s (firstPlace s) p → In (partsOf (axiomAt (widthOf s) s q)) x → Defines x (axiomAt (widthOf s) s p) → SomePartDefined n s t
   defined-at {q} {p} {x} i k h w =
       let e = joins-of q h in
-      let r = take-at (drop (q + 3) s) (getD s (q + 2) 0) (rw (axiom-parts s q e) at h) in
+      let r = numbers-at (widthOf s) (getD s (q + widthOf s + 1) 0) s (q + widthOf s + 1 + 1) (rw (axiom-parts (widthOf s) s q e) at h) in
       let y = is-2 s p x w in
-      let z : partAt s t (getD s q 0) (r .place) ≡ getD s p 0 = part-is d i (r .place) ∙ (sym (getD-drop (q + 3) s (r .place) 0) ∙ (r .is ∙ sym (y .0))) in
-      record { left = getD s q 0; is-name = sound m d none i .left; is-conjunction = rw (holds d i .kind) e; part = record { at = r .place; among = rw (count-is d i) (r .small); is-defined = ap (kindAt t) z ∙ (holds d k .kind ∙ y .1) } }
+      let z : partAt s t (number (widthOf s) s q) (r .place) ≡ number (widthOf s) s p = part-is d i (r .place) ∙ (r .is ∙ sym (y .0)) in
+      record { left = number (widthOf s) s q; is-name = sound m d none i .left; is-conjunction = rw (holds d i .kind) e; part = record { at = r .place; among = rw (count-is d i) (r .small); is-defined = ap (kindAt t) z ∙ (holds d k .kind ∙ y .1) } }
 
-  from-listed : Listed (axiomsFrom c s header) → SomePartDefined n s t
+  from-listed : Listed (axiomsFrom c s (firstPlace s)) → SomePartDefined n s t
   from-listed w =
-      let a = in-stands c s header (w .member) in
+      let a = in-stands c s (firstPlace s) (w .member) in
       let v = w .holds .holds in
-      let b = in-stands c s header (v .member) in
+      let b = in-stands c s (firstPlace s) (v .member) in
       defined-at (a .stands) (b .stands) (rw (← a .is) at (w .holds .member)) (rw (← b .is) at (v .holds))
 
-  pub defined-parts : (r : Bool) → Tells r (SomePartDefined n s t) → r ≡ conjunctDefined (axiomsFrom c s header)
-  defined-parts r h = same-test r (conjunctDefined (axiomsFrom c s header)) (λ e. tells-listed _ .complete (to-listed (h .sound e))) (λ e. h .complete (from-listed (tells-listed _ .sound e)))
+  pub defined-parts : (r : Bool) → Tells r (SomePartDefined n s t) → r ≡ conjunctDefined (axiomsFrom c s (firstPlace s))
+  defined-parts r h = same-test r (conjunctDefined (axiomsFrom c s (firstPlace s))) (λ e. tells-listed _ .complete (to-listed (h .sound e))) (λ e. h .complete (from-listed (tells-listed _ .sound e)))
     where
       same-test : (a b : Bool) → (a ≡ true → b ≡ true) → (b ≡ true → a ≡ true) → a ≡ b
       same-test true b f g = sym (f refl)

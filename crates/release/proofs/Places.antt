@@ -3,7 +3,7 @@ use mathlib.Core.Path.{_≡_, refl, sym, ap, subst, _∙_}
 use mathlib.Core.Bool.{Bool, true, false, false≢true, _&&_}
 use mathlib.Core.Logic.{_⊎_, inl, inr}
 use mathlib.Core.List.{List}
-use Prim.Native.Nat.{ℕ, zero, suc, _+_, _-_, _≤_, _<_}
+use Prim.Native.Nat.{ℕ, zero, suc, _+_, _*_, _-_, _≤_, _<_}
 use native.Mathlib.Omega.{arith}
 use borrow.Author.Tests.{eq-eqb, ne-eqb, eqb-true}
 use lib.Dec.{eqb}
@@ -16,7 +16,7 @@ use Rattle.release.specs.declared.Checked.the-variants.{Accepted, Refuse
 use Rattle.release.specs.declared.Counts.{Counts}
 use Rattle.release.specs.declared.Refusal.{Refusal}
 use Rattle.release.specs.declared.show.Place.{Place}
-use Rattle.release.specs.Files.{header, namesOf, rolesOf, countOf, joins, axiomLength, tailLength, axiomFault, axiomsFault, restricts, fault, accepted}
+use Rattle.release.specs.Files.{number, widthOf, firstPlace, namesOf, rolesOf, countOf, joins, axiomLength, axiomFault, axiomsFault, restricts, fault, accepted}
 use Rattle.release.specs.Readings.{checked, checkedBy}
 use Rattle.release.specs.Tables.{kindAt, tailAt, countAt, Stands, here, there, Origin, blank, of-axiom, Decoded, Shaped, HasRow, HasCount, Conjunctive, Release, ReleaseRead}
 use Rattle.release.specs.Shown.{nowhere, placeFrom, placeIn, shownPlace, holder}
@@ -24,39 +24,39 @@ use Rattle.release.proofs.Sound.{axiom-sound, tail-within}
 use Rattle.release.proofs.Decoding.{Holds, holds, count-is, both-none}
 use Rattle.release.proofs.Linked.{no-axiom-fault, sound-at, tail-kind, ranges, rises}
 
-later-none : (s : List ℕ) (c least p : ℕ) → axiomsFault (namesOf s) (rolesOf s) (suc c) least s p ≡ 0 → (axiomFault (namesOf s) (rolesOf s) least s p ≡ 0) × (axiomsFault (namesOf s) (rolesOf s) c (suc (getD s p 0)) s (p + axiomLength s p) ≡ 0)
+later-none : (s : List ℕ) (c least p : ℕ) → axiomsFault (widthOf s) (namesOf s) (rolesOf s) (suc c) least s p ≡ 0 → (axiomFault (widthOf s) (namesOf s) (rolesOf s) least s p ≡ 0) × (axiomsFault (widthOf s) (namesOf s) (rolesOf s) c (suc (number (widthOf s) s p)) s (p + axiomLength (widthOf s) s p) ≡ 0)
 unfolding axiomsFault
-later-none s c least p h = both-none (axiomFault (namesOf s) (rolesOf s) least s p) (axiomsFault (namesOf s) (rolesOf s) c (suc (getD s p 0)) s (p + axiomLength s p)) h
+later-none s c least p h = both-none (axiomFault (widthOf s) (namesOf s) (rolesOf s) least s p) (axiomsFault (widthOf s) (namesOf s) (rolesOf s) c (suc (number (widthOf s) s p)) s (p + axiomLength (widthOf s) s p)) h
 
 -- the first axiom with the name is the only one
-place-found : (s : List ℕ) (ok : fault s ≡ 0) (side c least p q : ℕ) → axiomsFault (namesOf s) (rolesOf s) c least s p ≡ 0 → Stands c s p q → placeFrom side c s p (getD s q 0) ≡ record { side = side; start = q; length = axiomLength s q }
+place-found : (s : List ℕ) (ok : fault s ≡ 0) (side c least p q : ℕ) → axiomsFault (widthOf s) (namesOf s) (rolesOf s) c least s p ≡ 0 → Stands c s p q → placeFrom side c s p (number (widthOf s) s q) ≡ record { side = side; start = q; length = axiomLength (widthOf s) s q }
 unfolding placeFrom axiomsFault
-place-found s ok side (suc c) least p q h here = rw (placeFrom, eq-eqb (getD s p 0) (getD s p 0) refl)
-place-found s ok side (suc c) least p q h (there i) = rw (placeFrom, ne-eqb (getD s p 0) (getD s q 0) (λ e. omega (arith, rises s ok c least p q h i))) (place-found s ok side c (suc (getD s p 0)) (p + axiomLength s p) q (later-none s c least p h .1) i)
+place-found s ok side (suc c) least p q h here = rw (placeFrom, eq-eqb (number (widthOf s) s p) (number (widthOf s) s p) refl)
+place-found s ok side (suc c) least p q h (there i) = rw (placeFrom, ne-eqb (number (widthOf s) s p) (number (widthOf s) s q) (λ e. omega (arith, rises s ok c least p q h i))) (place-found s ok side c (suc (number (widthOf s) s p)) (p + axiomLength (widthOf s) s p) q (later-none s c least p h .1) i)
 
-place-none : (s : List ℕ) (side c p x : ℕ) → ((q : ℕ) → Stands c s p q → getD s q 0 ≡ x → ⊥) → placeFrom side c s p x ≡ nowhere
+place-none : (s : List ℕ) (side c p x : ℕ) → ((q : ℕ) → Stands c s p q → number (widthOf s) s q ≡ x → ⊥) → placeFrom side c s p x ≡ nowhere
 unfolding placeFrom
 place-none s side zero p x f = refl
-place-none s side (suc c) p x f = rw (placeFrom, ne-eqb (getD s p 0) x (f p here)) (place-none s side c (p + axiomLength s p) x (λ q i. f q (there i)))
+place-none s side (suc c) p x f = rw (placeFrom, ne-eqb (number (widthOf s) s p) x (f p here)) (place-none s side c (p + axiomLength (widthOf s) s p) x (λ q i. f q (there i)))
 
 -- the part lies in its file
-place-within : (s : List ℕ) (side c least p x : ℕ) → axiomsFault (namesOf s) (rolesOf s) c least s p ≡ 0 → placeFrom side c s p x .start + placeFrom side c s p x .length ≤ length s
+place-within : (s : List ℕ) (side c least p x : ℕ) → axiomsFault (widthOf s) (namesOf s) (rolesOf s) c least s p ≡ 0 → placeFrom side c s p x .start + placeFrom side c s p x .length ≤ length s
 unfolding placeFrom
 place-within s side zero least p x h = omega arith
 place-within s side (suc c) least p x h =
     let v = later-none s c least p h in
-    let w = tail-within (namesOf s) (rolesOf s) (getD s (p + 1) 0) s (p + 2) (axiom-sound (namesOf s) (rolesOf s) least s p (v .0) .tail) in
-    elim (which (eqb (getD s p 0) x)) [
+    let w = tail-within (widthOf s) (namesOf s) (rolesOf s) (getD s (p + widthOf s) 0) s (p + widthOf s + 1) (axiom-sound (widthOf s) (namesOf s) (rolesOf s) least s p (v .0) .tail) in
+    elim (which (eqb (number (widthOf s) s p) x)) [
       | inl e ↦ rw (placeFrom, e) (omega (arith, w .0))
-      | inr e ↦ rw (placeFrom, e) (place-within s side c (suc (getD s p 0)) (p + axiomLength s p) x (v .1))
+      | inr e ↦ rw (placeFrom, e) (place-within s side c (suc (number (widthOf s) s p)) (p + axiomLength (widthOf s) s p) x (v .1))
     ]
 
 place-side : (s : List ℕ) (side c p x : ℕ) → (placeFrom side c s p x ≡ nowhere) ⊎ (placeFrom side c s p x .side ≡ side)
 unfolding placeFrom
 place-side s side zero p x = inl refl
-place-side s side (suc c) p x = elim (which (eqb (getD s p 0) x)) [
+place-side s side (suc c) p x = elim (which (eqb (number (widthOf s) s p) x)) [
   | inl e ↦ inr (rw (placeFrom, e))
-  | inr e ↦ rw (placeFrom, e) (place-side s side c (p + axiomLength s p) x)
+  | inr e ↦ rw (placeFrom, e) (place-side s side c (p + axiomLength (widthOf s) s p) x)
 ]
 
 -- by the table
@@ -64,59 +64,64 @@ no-kind-0 : (k : ℕ) → k ≡ 0 → (joins k ≡ true) ⊎ (restricts k ≡ tr
 no-kind-0 k e (inl h) = false≢true (rw e at h)
 no-kind-0 k e (inr h) = false≢true (rw e at h)
 
+pub version-within : {s t : List ℕ} → Release s t → 3 < length s
+version-within r = ranges r .version
+
 module _ {s t : List ℕ} (r : Release s t) (side x : ℕ) where
   pub place-outside : namesOf s ≤ x → nowhere ≡ placeIn side s x
-  place-outside l = sym (place-none s side (countOf s) header x (λ q i e. omega (arith, sound-at s (r .accepted) i .left)))
+  place-outside l = sym (place-none s side (countOf s) (firstPlace s) x (λ q i e. omega (arith, sound-at s (r .accepted) i .left)))
 
   module _ (small : x < namesOf s) where
     pub place-row : HasRow t x
     place-row = record { row = omega (arith, r .decoded .rows) }
 
     pub place-blank : kindAt t x ≡ 0 → nowhere ≡ placeIn side s x
-    place-blank z = sym (place-none s side (countOf s) header x (λ q i e. no-kind-0 (getD s (q + 1) 0) (sym (holds (r .decoded) i .kind) ∙ (ap (kindAt t) e ∙ z)) (tail-kind (sound-at s (r .accepted) i .tail))))
+    place-blank z = sym (place-none s side (countOf s) (firstPlace s) x (λ q i e. no-kind-0 (getD s (q + widthOf s) 0) (sym (holds (r .decoded) i .kind) ∙ (ap (kindAt t) e ∙ z)) (tail-kind (sound-at s (r .accepted) i .tail))))
 
     module _ (some : kindAt t x ≡ 0 → ⊥) where
       record Found : Type 0 where
         at : ℕ
-        stands : Stands (countOf s) s header at
-        is : getD s at 0 ≡ x
+        stands : Stands (countOf s) s (firstPlace s) at
+        is : number (widthOf s) s at ≡ x
 
       found : Found
       found = elim (r .decoded .origin x small) [ blank z ↦ absurd (some z) | of-axiom {q = q} i e ↦ record { at = q; stands = i; is = e } ]
 
-      tail-is : tailAt t x ≡ found .at + 2
+      tail-is : tailAt t x ≡ found .at + widthOf s + 1
       tail-is = ap (tailAt t) (sym (found .is)) ∙ holds (r .decoded) (found .stands) .tail
 
-      kind-is : kindAt t x ≡ getD s (found .at + 1) 0
+      kind-is : kindAt t x ≡ getD s (found .at + widthOf s) 0
       kind-is = ap (kindAt t) (sym (found .is)) ∙ holds (r .decoded) (found .stands) .kind
 
-      place-is : placeIn side s x ≡ record { side = side; start = found .at; length = axiomLength s (found .at) }
-      place-is = ap (λ (y : ℕ). placeIn side s y) (sym (found .is)) ∙ (place-found s (r .accepted) side (countOf s) 0 header (found .at) (no-axiom-fault s (r .accepted)) (found .stands))
+      place-is : placeIn side s x ≡ record { side = side; start = found .at; length = axiomLength (widthOf s) s (found .at) }
+      place-is = ap (λ (y : ℕ). placeIn side s y) (sym (found .is)) ∙ (place-found s (r .accepted) side (countOf s) 0 (firstPlace s) (found .at) (no-axiom-fault s (r .accepted)) (found .stands))
 
-      pub tail-two : 2 ≤ tailAt t x
-      tail-two = rw tail-is (omega arith)
+      pub tail-far : 1 + widthOf s ≤ tailAt t x
+      tail-far = rw tail-is (omega arith)
 
       pub place-count : joins (kindAt t x) ≡ true → HasCount s t x
       place-count j = record { row = place-row .row; inside = omega (arith, ranges r .inside x small j) }
 
-      pub count-within : joins (kindAt t x) ≡ true → 3 + countAt s t x ≤ length s
-      count-within j = omega (arith, ranges r .inside x small j, tail-two)
+      pub count-within : joins (kindAt t x) ≡ true → widthOf s + 1 + (1 + widthOf s * countAt s t x) ≤ length s
+      count-within j = omega (arith, ranges r .inside x small j, tail-far)
 
-      place-as : (start long : ℕ) → start ≡ found .at → long ≡ axiomLength s (found .at) → record { side = side; start = start; length = long } ≡ placeIn side s x
+      place-as : (start long : ℕ) → start ≡ found .at → long ≡ axiomLength (widthOf s) s (found .at) → record { side = side; start = start; length = long } ≡ placeIn side s x
       place-as start long e f = rw (e, f) (sym place-is)
 
-      pub place-joined : joins (kindAt t x) ≡ true → (tail count : ℕ) → tail ≡ tailAt t x → count ≡ countAt s t x → record { side = side; start = tail - 2; length = 3 + count } ≡ placeIn side s x
-      place-joined j tail count e f =
-          let k : joins (getD s (found .at + 1) 0) ≡ true = rw kind-is at j in
-          let c : countAt s t x ≡ getD s (found .at + 2) 0 = ap (countAt s t) (sym (found .is)) ∙ count-is (r .decoded) (found .stands) in
-          let l : axiomLength s (found .at) ≡ 2 + (1 + getD s (found .at + 2) 0) = rw k in
-          place-as (tail - 2) (3 + count) (omega (arith, e, tail-is)) (omega (arith, f, c, l))
+      module _ (w tail : ℕ) (width-is : w ≡ widthOf s) (e : tail ≡ tailAt t x) where
+        start-is : tail - 1 - w ≡ found .at
+        start-is = omega (arith, e, width-is, tail-is)
 
-      pub place-restricted : joins (kindAt t x) ≡ false → (tail : ℕ) → tail ≡ tailAt t x → record { side = side; start = tail - 2; length = 4 } ≡ placeIn side s x
-      place-restricted j tail e =
-          let k : joins (getD s (found .at + 1) 0) ≡ false = rw kind-is at j in
-          let l : axiomLength s (found .at) ≡ 4 = rw k in
-          place-as (tail - 2) 4 (omega (arith, e, tail-is)) (sym l)
+        pub place-joined : joins (kindAt t x) ≡ true → (count : ℕ) → count ≡ countAt s t x → record { side = side; start = tail - 1 - w; length = w + 1 + (1 + w * count) } ≡ placeIn side s x
+        place-joined j count f =
+            let k : joins (getD s (found .at + widthOf s) 0) ≡ true = rw kind-is at j in
+            let c : count ≡ getD s (found .at + widthOf s + 1) 0 = f ∙ (ap (countAt s t) (sym (found .is)) ∙ count-is (r .decoded) (found .stands)) in
+            place-as (tail - 1 - w) (w + 1 + (1 + w * count)) start-is (rw (k, width-is, c))
+
+        pub place-restricted : joins (kindAt t x) ≡ false → record { side = side; start = tail - 1 - w; length = w + 1 + (1 + w) } ≡ placeIn side s x
+        place-restricted j =
+            let k : joins (getD s (found .at + widthOf s) 0) ≡ false = rw kind-is at j in
+            place-as (tail - 1 - w) (w + 1 + (1 + w)) start-is (rw (k, width-is))
 
 -- what a read release is
 read-by : (f : ℕ) (s : List ℕ) (c : Counts) → checkedBy f s ≡ Accepted c → (f ≡ 0) × (c .names ≡ namesOf s)
@@ -179,15 +184,15 @@ shown-within s t side x = by-tests (accepted s) (accepted t) (eqb side 1) (eqb s
     Within p = p .start + p .length ≤ length (holder s t p)
 
     first-within : fault s ≡ 0 → Within (placeIn 1 s x)
-    first-within ok = elim (place-side s 1 (countOf s) header x) [
+    first-within ok = elim (place-side s 1 (countOf s) (firstPlace s) x) [
       | inl e ↦ rw e (omega arith)
-      | inr e ↦ rw e (place-within s 1 (countOf s) 0 header x (no-axiom-fault s ok))
+      | inr e ↦ rw e (place-within s 1 (countOf s) 0 (firstPlace s) x (no-axiom-fault s ok))
     ]
 
     second-within : fault t ≡ 0 → Within (placeIn 2 t x)
-    second-within ok = elim (place-side t 2 (countOf t) header x) [
+    second-within ok = elim (place-side t 2 (countOf t) (firstPlace t) x) [
       | inl e ↦ rw e (omega arith)
-      | inr e ↦ rw e (place-within t 2 (countOf t) 0 header x (no-axiom-fault t ok))
+      | inr e ↦ rw e (place-within t 2 (countOf t) 0 (firstPlace t) x (no-axiom-fault t ok))
     ]
 
     by-tests : (a b c d : Bool) → accepted s ≡ a → accepted t ≡ b → eqb side 1 ≡ c → eqb side 2 ≡ d → Within (shownPlace s t side x)

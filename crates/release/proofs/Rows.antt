@@ -61,3 +61,6 @@ row-kept t u e s h = record { kind = s .kind ∙ h .kind; role = s .role ∙ h .
 pub zeros-blank : (k : ℕ) → 4 * mostNames ≤ k → Blank (replicate k 0)
 unfolding kindAt
 zeros-blank k h = record { rows = rw length-replicate h; blank = λ x l. getD-replicate k (4 * x) 0 0 (omega arith) }
+
+pub blank-table : Blank (replicate (4 * mostNames) 0)
+blank-table = zeros-blank (4 * mostNames) (omega arith)

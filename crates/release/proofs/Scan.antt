@@ -16,10 +16,11 @@ use Rattle.release.specs.declared.axiom.Entry.{Entry}
 use Rattle.release.specs.declared.axiom.Cursor.{Cursor}
 use Rattle.release.specs.declared.axiom.Reading.{Reading}
 use Rattle.release.specs.declared.axiom.Reading.the-variants.{Axiom, Refused}
-use Rattle.release.specs.Files.{header, mostNames, mostRoles, joins, isFiller, fillerNode, topByte, axiomFault, axiomLength, tailLength, axiomsFault, firstOf}
+use Rattle.release.specs.Files.{number, widthOf, firstPlace, mostNames, mostRoles, joins, isFiller, fillerNode, topNumber, axiomFault, axiomLength, axiomsFault, firstOf}
 use Rattle.release.specs.Readings.{nodeNumber, entryOf, reading, readingAt, numberOf}
 use Rattle.release.specs.Tables.{Stands, here, there, Row, Put, Fits, entryAt, Origin, blank, of-axiom, Decoded, Ready, AxiomsRead, kindAt}
 use Rattle.release.proofs.Sound.{Sound, axiom-sound, Tail, joined, restricted, tail-within}
+use Rattle.release.proofs.Numbers.{is-width}
 use Rattle.release.proofs.Rows.{row-kept}
 
 -- what an answer says of what was read
@@ -43,24 +44,24 @@ reading-not (suc j) e next k h = let i : suc j ≡ k = cc in (i, λ z. omega ari
 
 -- one axiom more
 module _ (n m : ℕ) (s : List ℕ) (left at least : ℕ) (more : 0 < left) where
-  one-more : axiomsFault n m left least s at ≡ firstOf (axiomFault n m least s at) (axiomsFault n m (left - 1) (suc (getD s at 0)) s (at + axiomLength s at))
+  one-more : axiomsFault (widthOf s) n m left least s at ≡ firstOf (axiomFault (widthOf s) n m least s at) (axiomsFault (widthOf s) n m (left - 1) (suc (number (widthOf s) s at)) s (at + axiomLength (widthOf s) s at))
   unfolding axiomsFault
-  one-more = let e : left ≡ suc (left - 1) = omega arith in ap (λ (j : ℕ). axiomsFault n m j least s at) e
+  one-more = let e : left ≡ suc (left - 1) = omega arith in ap (λ (j : ℕ). axiomsFault (widthOf s) n m j least s at) e
 
-  stops : (k : ℕ) → axiomFault n m least s at ≡ k → (k ≡ 0 → ⊥) → axiomsFault n m left least s at ≡ k
+  stops : (k : ℕ) → axiomFault (widthOf s) n m least s at ≡ k → (k ≡ 0 → ⊥) → axiomsFault (widthOf s) n m left least s at ≡ k
   stops zero e z = absurd (z refl)
   stops (suc k) e z = one-more ∙ rw e
 
-  goes-on : axiomFault n m least s at ≡ 0 → axiomsFault n m left least s at ≡ axiomsFault n m (left - 1) (getD s at 0 + 1) s (at + axiomLength s at)
-  goes-on e = one-more ∙ rw (e, add-one (getD s at 0))
+  goes-on : axiomFault (widthOf s) n m least s at ≡ 0 → axiomsFault (widthOf s) n m left least s at ≡ axiomsFault (widthOf s) n m (left - 1) (number (widthOf s) s at + 1) s (at + axiomLength (widthOf s) s at)
+  goes-on e = one-more ∙ rw (e, add-one (number (widthOf s) s at))
 
-  stands-there : {q : ℕ} → Stands (left - 1) s (at + axiomLength s at) q → Stands left s at q
+  stands-there : {q : ℕ} → Stands (left - 1) s (at + axiomLength (widthOf s) s at) q → Stands left s at q
   stands-there {q} h = let e : left ≡ suc (left - 1) = omega arith in rw e (there h)
 
   stands-here : Stands left s at at
   stands-here = let e : left ≡ suc (left - 1) = omega arith in rw e here
 
-stands-split : {c : ℕ} {s : List ℕ} {p q : ℕ} → Stands (suc c) s p q → (q ≡ p) ⊎ Stands c s (p + axiomLength s p) q
+stands-split : {c : ℕ} {s : List ℕ} {p q : ℕ} → Stands (suc c) s p q → (q ≡ p) ⊎ Stands c s (p + axiomLength (widthOf s) s p) q
 stands-split here = inl refl
 stands-split (there h) = inr h
 
@@ -69,45 +70,45 @@ stands-none zero l h = elim h [ ]
 stands-none (suc c) l h = omega arith
 
 -- an axiom's numbers fit its row
-pub entry-left : (n left kind : ℕ) (s : List ℕ) (p : ℕ) → entryOf n left kind s p .left .0 ≡ left
+pub entry-left : (w n left kind : ℕ) (s : List ℕ) (p : ℕ) → entryOf w n left kind s p .left .0 ≡ left
 unfolding entryOf
-entry-left n left kind s p = go (joins kind) refl
+entry-left w n left kind s p = go (joins kind) refl
   where
-    go : (b : Bool) → joins kind ≡ b → entryOf n left kind s p .left .0 ≡ left
+    go : (b : Bool) → joins kind ≡ b → entryOf w n left kind s p .left .0 ≡ left
     go true e = rw (e, entryOf)
     go false e = rw (e, entryOf)
 
-pub filler-node : (n b : ℕ) → isFiller n b ≡ true → nodeNumber n (fillerNode b) ≤ n
-filler-node n b h = go (eqb b topByte) refl
+pub filler-node : (w n b : ℕ) → isFiller w n b ≡ true → nodeNumber n (fillerNode w b) ≤ n
+filler-node w n b h = go (eqb b (topNumber w)) refl
   where
     or-false : (t : Bool) → t || false ≡ true → t ≡ true
     or-false true z = refl
     or-false false z = z
 
-    go : (t : Bool) → eqb b topByte ≡ t → nodeNumber n (fillerNode b) ≤ n
+    go : (t : Bool) → eqb b (topNumber w) ≡ t → nodeNumber n (fillerNode w b) ≤ n
     go true e = rw e (omega arith)
     go false e = let l : b < n = ltb-true b n (or-false _ (rw e at h)) in rw e (omega arith)
 
-entry-fits : (n m least : ℕ) (s t : List ℕ) (q : ℕ) → n ≤ mostNames → m ≤ mostRoles → 4 * n ≤ length t → q ≤ 2421 → Sound n m least s q → Fits (entryAt n s q) t
+entry-fits : (n m least : ℕ) (s t : List ℕ) (q : ℕ) → n ≤ mostNames → m ≤ mostRoles → 4 * n ≤ length t → q ≤ 36838 → Sound (widthOf s) n m least s q → Fits (entryAt n s q) t
 unfolding entryAt entryOf
-entry-fits n m least s t q hn hm ht hq v = go (v .tail)
+entry-fits n m least s t q hn hm ht hq v = let l : widthOf s ≤ 2 = is-width s .few in go l (v .tail)
   where
-    go : Tail n m (getD s (q + 1) 0) s (q + 2) → Fits (entryAt n s q) t
-    go (joined e j) = rw (e, entryOf) (record { row = omega (arith, v .left); role = omega arith; filler = omega arith; tail = omega arith })
-    go (restricted e f r) = let l : nodeNumber n (fillerNode (getD s (q + 2 + 1) 0)) ≤ n = filler-node n _ (r .filler) in rw (e, entryOf) (record { row = omega (arith, v .left); role = omega (arith, r .role); filler = omega arith; tail = omega arith })
+    go : widthOf s ≤ 2 → Tail (widthOf s) n m (getD s (q + widthOf s) 0) s (q + widthOf s + 1) → Fits (entryAt n s q) t
+    go l (joined e j) = rw (e, entryOf) (record { row = omega (arith, v .left); role = omega arith; filler = omega arith; tail = omega arith })
+    go l (restricted e f r) = let k : nodeNumber n (fillerNode (widthOf s) (number (widthOf s) s (q + widthOf s + 1 + 1))) ≤ n = filler-node (widthOf s) n _ (r .filler) in rw (e, entryOf) (record { row = omega (arith, v .left); role = omega (arith, r .role); filler = omega arith; tail = omega arith })
 
 pub record Going (n m count : ℕ) (s t : List ℕ) (left at least : ℕ) : Type 0 where
-  pub fault : axiomsFault n m count 0 s header ≡ axiomsFault n m left least s at
+  pub fault : axiomsFault (widthOf s) n m count 0 s (firstPlace s) ≡ axiomsFault (widthOf s) n m left least s at
   pub within : at ≤ length s
-  -- an axiom is at most 19 bytes long
-  pub near : at + 19 * left ≤ header + 19 * count
-  pub rest : (q : ℕ) → Stands left s at q → Stands count s header q
-  pub row : (q : ℕ) → Stands count s header q → Stands left s at q ⊎ (Row t (entryAt n s q) × (getD s q 0 < least))
+  -- a (firstPlace s) has at most 10 bytes, an axiom at most 36
+  pub near : at + 36 * left ≤ 10 + 36 * count
+  pub rest : (q : ℕ) → Stands left s at q → Stands count s (firstPlace s) q
+  pub row : (q : ℕ) → Stands count s (firstPlace s) q → Stands left s at q ⊎ (Row t (entryAt n s q) × (number (widthOf s) s q < least))
   pub origin : (x : ℕ) → x < n → Origin count s t x
 
 module _ (n m count : ℕ) (s t : List ℕ) where
-  pub start : Ready n m count s t → Going n m count s t count header 0
-  start r = record { fault = refl; within = r .long; near = omega arith; rest = λ q h. h; row = λ q h. inl h; origin = λ x l. blank (r .blank x l) }
+  pub start : Ready n m count s t → Going n m count s t count (firstPlace s) 0
+  start r = record { fault = refl; within = r .long; near = omega (arith, is-width s .few); rest = λ q h. h; row = λ q h. inl h; origin = λ x l. blank (r .blank x l) }
 
 module _ (n m count : ℕ) (s t : List ℕ) (left at least : ℕ) (g : Going n m count s t left at least) where
   pub end-14 : left ≤ 0 → at < length s → AxiomsRead n m count s t 14
@@ -121,24 +122,24 @@ module _ (n m count : ℕ) (s t : List ℕ) (left at least : ℕ) (g : Going n m
     decoded = λ z. record { rows = rows; row = λ q i. elim (g .row q i) [ inl k ↦ absurd (stands-none left l k) | inr k ↦ k .0 ]; origin = g .origin };
   }
 
-  module _ (more : 0 < left) (r : Reading) (is : r ≡ readingAt n m least s at) where
+  module _ (more : 0 < left) (r : Reading) (is : r ≡ readingAt (widthOf s) n m least s at) where
     pub refuses : (k j : ℕ) → r ≡ Refused k → j ≡ numberOf r → AxiomsRead n m count s t j
     unfolding readingAt
     refuses k j e i =
-        let z = reading-not (axiomFault n m least s at) (entryOf n (getD s at 0) (getD s (at + 1) 0) s (at + 2)) (at + axiomLength s at) k (sym is ∙ e) in
+        let z = reading-not (axiomFault (widthOf s) n m least s at) (entryOf (widthOf s) n (number (widthOf s) s at) (getD s (at + widthOf s) 0) s (at + widthOf s + 1)) (at + axiomLength (widthOf s) s at) k (sym is ∙ e) in
         rw (i, e) (record { fault = sym (g .fault ∙ stops n m s left at least more k (z .0) (λ w. z .1 (z .0 ∙ w))); decoded = λ w. absurd (z .1 (z .0 ∙ w)) })
 
     module _ (entry : Entry) (c : Cursor) (e : r ≡ Axiom entry c) where
-      answer : IsAxiom (axiomFault n m least s at) (entryAt n s at) (at + axiomLength s at) entry c
+      answer : IsAxiom (axiomFault (widthOf s) n m least s at) (entryAt n s at) (at + axiomLength (widthOf s) s at) entry c
       unfolding readingAt entryAt
       answer = reading-is _ _ _ entry c (sym is ∙ e)
 
-      sound : Sound n m least s at
-      sound = axiom-sound n m least s at (answer .none)
+      sound : Sound (widthOf s) n m least s at
+      sound = axiom-sound (widthOf s) n m least s at (answer .none)
 
-      pub left-is : entry .left .0 ≡ getD s at 0
+      pub left-is : entry .left .0 ≡ number (widthOf s) s at
       unfolding entryAt
-      left-is = ap (λ (x : Entry). x .left .0) (sym (answer .entry-is)) ∙ entry-left n (getD s at 0) (getD s (at + 1) 0) s (at + 2)
+      left-is = ap (λ (x : Entry). x .left .0) (sym (answer .entry-is)) ∙ entry-left (widthOf s) n (number (widthOf s) s at) (getD s (at + widthOf s) 0) s (at + widthOf s + 1)
 
       pub left-small : entry .left .0 < n
       left-small = rw left-is (sound .left)
@@ -148,13 +149,13 @@ module _ (n m count : ℕ) (s t : List ℕ) (left at least : ℕ) (g : Going n m
 
       module _ (u : List ℕ) (put : Put entry t u) where
         -- the row of an axiom read before stays: left names rise
-        kept : (q : ℕ) → Row t (entryAt n s q) → getD s q 0 < least → Row u (entryAt n s q)
+        kept : (q : ℕ) → Row t (entryAt n s q) → number (widthOf s) s q < least → Row u (entryAt n s q)
         unfolding entryAt
         kept q h l =
-            let e1 : entryAt n s q .left .0 ≡ getD s q 0 = entry-left n (getD s q 0) (getD s (q + 1) 0) s (q + 2) in
+            let e1 : entryAt n s q .left .0 ≡ number (widthOf s) s q = entry-left (widthOf s) n (number (widthOf s) s q) (getD s (q + widthOf s) 0) s (q + widthOf s + 1) in
             row-kept t u (entryAt n s q) (put .other (entryAt n s q .left .0) (λ z. omega (arith, e1, left-is, sound .rises))) h
 
-        next-row : (q : ℕ) → Stands count s header q → Stands (left - 1) s (at + axiomLength s at) q ⊎ (Row u (entryAt n s q) × (getD s q 0 < getD s at 0 + 1))
+        next-row : (q : ℕ) → Stands count s (firstPlace s) q → Stands (left - 1) s (at + axiomLength (widthOf s) s at) q ⊎ (Row u (entryAt n s q) × (number (widthOf s) s q < number (widthOf s) s at + 1))
         next-row q i = elim (g .row q i) [
           | inl k ↦ elim (stands-split (let z : left ≡ suc (left - 1) = omega arith in subst (λ (j : ℕ). Stands j s at q) z k)) [
             | inl z ↦ inr (rw z (rw (← answer .entry-is) at (put .row)), rw z (omega arith))
@@ -164,7 +165,7 @@ module _ (n m count : ℕ) (s t : List ℕ) (left at least : ℕ) (g : Going n m
         ]
 
         next-origin : (x : ℕ) → x < n → Origin count s u x
-        next-origin x l = elim (ℕ-discrete x (getD s at 0)) [
+        next-origin x l = elim (ℕ-discrete x (number (widthOf s) s at)) [
           | yes z ↦ of-axiom (g .rest at (stands-here n m s left at least more)) (sym z)
           | no z ↦ elim (g .origin x l) [
             | blank h ↦ blank (put .other x (λ w. z (w ∙ left-is)) .kind ∙ h)
@@ -174,11 +175,11 @@ module _ (n m count : ℕ) (s t : List ℕ) (left at least : ℕ) (g : Going n m
 
         pub next : Going n m count s u (left - 1) (c .at) (entry .left .0 + 1)
         next =
-            let w = tail-within n m (getD s (at + 1) 0) s (at + 2) (sound .tail) in
+            let w = tail-within (widthOf s) n m (getD s (at + widthOf s) 0) s (at + widthOf s + 1) (sound .tail) in
             rw (left-is, ← answer .next-is) (record {
               fault = g .fault ∙ goes-on n m s left at least more (answer .none);
               within = omega (arith, w .0);
-              near = omega (arith, w .1, g .near);
+              near = omega (arith, w .1 (is-width s .few), is-width s .few, g .near);
               rest = λ q h. g .rest q (stands-there n m s left at least more h);
               row = next-row;
               origin = next-origin;

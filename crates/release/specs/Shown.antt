@@ -7,10 +7,10 @@ use mathlib.Core.Bool.{Bool, true, false, _&&_}
 use mathlib.Core.List.{List}
 use Prim.Native.Nat.{ℕ, zero, suc, _+_}
 use lib.Dec.{eqb}
-use lib.ListN.{getD, take, drop}
+use lib.ListN.{take, drop}
 use denote.Ref.{RefT, ptr, now}
 use Rattle.el.specs.Lists.{pick}
-use Rattle.release.specs.Files.{header, countOf, axiomLength, accepted}
+use Rattle.release.specs.Files.{number, widthOf, countOf, firstPlace, axiomLength, accepted}
 use Rattle.release.specs.declared.show.Place.{Place}
 
 -- empty, at the start of the first file
@@ -20,10 +20,10 @@ nowhere = record { side = 1; start = 0; length = 0 }
 -- the axiom of x among c axioms from place p on, in the file on the given side
 unfoldable pub placeFrom : ℕ → ℕ → List ℕ → ℕ → ℕ → Place
 placeFrom side zero s p x = nowhere
-placeFrom side (suc c) s p x = pick (eqb (getD s p 0) x) (record { side = side; start = p; length = axiomLength s p }) (placeFrom side c s (p + axiomLength s p) x)
+placeFrom side (suc c) s p x = pick (eqb (number (widthOf s) s p) x) (record { side = side; start = p; length = axiomLength (widthOf s) s p }) (placeFrom side c s (p + axiomLength (widthOf s) s p) x)
 
 abbrev pub placeIn : ℕ → List ℕ → ℕ → Place
-placeIn side s x = placeFrom side (countOf s) s header x
+placeIn side s x = placeFrom side (countOf s) s (firstPlace s) x
 
 unfoldable pub shownPlace : List ℕ → List ℕ → ℕ → ℕ → Place
 shownPlace s t side x = pick (accepted s && accepted t) (pick (eqb side 1) (placeIn 1 s x) (pick (eqb side 2) (placeIn 2 t x) nowhere)) nowhere

@@ -7,10 +7,10 @@ use mathlib.Core.Path.{_≡_}
 use mathlib.Core.Bool.{true, false}
 use mathlib.Core.List.{List}
 use Prim.Native.Nat.{ℕ, suc, _+_, _*_, _≤_, _<_}
-use lib.ListN.{length, getD, take, drop}
+use lib.ListN.{length, getD}
 use Rattle.el.specs.Lists.{In, pick}
 use Rattle.el.specs.Axioms.{Axiom, isConjunction, partsOf, roleOf, fillerOf}
-use Rattle.release.specs.Files.{header, mostNames, mostRoles, namesOf, countOf, joins, restricts, axiomLength, axiomsFault, fault}
+use Rattle.release.specs.Files.{number, numbers, widthOf, headerLength, firstPlace, mostNames, mostRoles, namesOf, countOf, joins, restricts, axiomLength, axiomsFault, fault}
 use Rattle.release.specs.Readings.{nodeNumber, entryOf, checked}
 use Rattle.release.specs.declared.axiom.Entry.{Entry}
 use Rattle.release.specs.declared.Checked.{Checked}
@@ -31,11 +31,11 @@ unfoldable pub countAt : List ℕ → List ℕ → ℕ → ℕ
 countAt s t x = getD s (tailAt t x) 0
 
 unfoldable pub partAt : List ℕ → List ℕ → ℕ → ℕ → ℕ
-partAt s t x i = getD s (tailAt t x + 1 + i) 0
+partAt s t x i = number (widthOf s) s (tailAt t x + 1 + widthOf s * i)
 
 pub data Stands : ℕ → List ℕ → ℕ → ℕ → Type 0 where
   here : {c : ℕ} {s : List ℕ} {p : ℕ} → Stands (suc c) s p p
-  there : {c : ℕ} {s : List ℕ} {p q : ℕ} → Stands c s (p + axiomLength s p) q → Stands (suc c) s p q
+  there : {c : ℕ} {s : List ℕ} {p q : ℕ} → Stands c s (p + axiomLength (widthOf s) s p) q → Stands (suc c) s p q
 
 -- the row of a name holds an axiom's numbers
 pub record Row (t : List ℕ) (e : Entry) : Type 0 where
@@ -65,21 +65,21 @@ pub record Fits (e : Entry) (t : List ℕ) : Type 0 where
 
 -- the numbers of the axiom at place q
 unfoldable pub entryAt : ℕ → List ℕ → ℕ → Entry
-entryAt n s q = entryOf n (getD s q 0) (getD s (q + 1) 0) s (q + 2)
+entryAt n s q = entryOf (widthOf s) n (number (widthOf s) s q) (getD s (q + widthOf s) 0) s (q + widthOf s + 1)
 
 -- a row is blank, or that of an axiom of the file
 pub data Origin (c : ℕ) (s t : List ℕ) (x : ℕ) : Type 0 where
   blank : kindAt t x ≡ 0 → Origin c s t x
-  of-axiom : {q : ℕ} → Stands c s header q → getD s q 0 ≡ x → Origin c s t x
+  of-axiom : {q : ℕ} → Stands c s (firstPlace s) q → number (widthOf s) s q ≡ x → Origin c s t x
 
 pub record Decoded (n c : ℕ) (s t : List ℕ) : Type 0 where
   pub rows : 4 * n ≤ length t
-  pub row : (q : ℕ) → Stands c s header q → Row t (entryAt n s q)
+  pub row : (q : ℕ) → Stands c s (firstPlace s) q → Row t (entryAt n s q)
   pub origin : (x : ℕ) → x < n → Origin c s t x
 
 -- before the axioms are read: a header without fault, and a blank row for each name
 pub record Ready (n m c : ℕ) (s t : List ℕ) : Type 0 where
-  pub long : header ≤ length s
+  pub long : firstPlace s ≤ length s
   pub names : n ≤ mostNames
   pub roles : m ≤ mostRoles
   pub count : c ≤ n
@@ -88,8 +88,22 @@ pub record Ready (n m c : ℕ) (s t : List ℕ) : Type 0 where
 
 -- the axioms read: the first refusal, or the table
 pub record AxiomsRead (n m c : ℕ) (s t : List ℕ) (r : ℕ) : Type 0 where
-  pub fault : r ≡ axiomsFault n m c 0 s header
+  pub fault : r ≡ axiomsFault (widthOf s) n m c 0 s (firstPlace s)
   pub decoded : r ≡ 0 → Decoded n c s t
+
+-- what the functions that read a number ask: a width that a name can have, and its bytes in the file
+pub record IsWidth (w : ℕ) : Type 0 where
+  pub some : 1 ≤ w
+  pub few : w ≤ 2
+
+pub record HasNumber (w : ℕ) (s : List ℕ) (p : ℕ) : Type 0 where
+  pub width : IsWidth w
+  pub inside : p + w ≤ length s
+
+-- and those that read a header
+pub record HasHeader (w : ℕ) (s : List ℕ) : Type 0 where
+  pub is : w ≡ widthOf s
+  pub inside : headerLength w ≤ length s
 
 -- what the functions that read a row ask
 pub record HasRow (t : List ℕ) (x : ℕ) : Type 0 where
@@ -100,14 +114,17 @@ pub record HasCount (s t : List ℕ) (x : ℕ) : Type 0 where
   pub inside : tailAt t x < length s
 
 pub record HasPart (s t : List ℕ) (x i : ℕ) : Type 0 where
+  pub version : 3 < length s
   pub row : 4 * x + 4 ≤ length t
-  pub inside : tailAt t x + 1 + i < length s
+  pub inside : tailAt t x + 1 + widthOf s * i + widthOf s ≤ length s
 
--- the ranges that loops over a table rely on: rows for all names, fillers that are nodes, conjuncts in the file that are names
+-- the ranges that loops over a table rely on: a file with a version, rows for all names, fillers that are nodes, conjuncts in the
+-- file that are names
 pub record Shaped (n : ℕ) (s t : List ℕ) : Type 0 where
+  pub version : 3 < length s
   pub rows : 4 * n ≤ length t
   pub filler : (x : ℕ) → x < n → restricts (kindAt t x) ≡ true → fillerAt t x ≤ n
-  pub inside : (x : ℕ) → x < n → joins (kindAt t x) ≡ true → tailAt t x + 1 + countAt s t x ≤ length s
+  pub inside : (x : ℕ) → x < n → joins (kindAt t x) ≡ true → tailAt t x + 1 + widthOf s * countAt s t x ≤ length s
   pub part : (x i : ℕ) → x < n → joins (kindAt t x) ≡ true → i < countAt s t x → partAt s t x i < n
 
 -- a conjunct of the name x is a left name of kind 2; some name has such a conjunct
@@ -149,7 +166,7 @@ kindOf a = pick (isConjunction a) (pick (a .defined) 2 1) (pick (a .defined) 4 3
 -- the row of an axiom, in the axiom's own terms
 pub record AxiomRow (n : ℕ) (s t : List ℕ) (a : Axiom) : Type 0 where
   pub kind : kindAt t (a .left) ≡ kindOf a
-  pub parts : isConjunction a ≡ true → partsOf a ≡ take (countAt s t (a .left)) (drop (tailAt t (a .left) + 1) s)
+  pub parts : isConjunction a ≡ true → partsOf a ≡ numbers (widthOf s) (countAt s t (a .left)) s (tailAt t (a .left) + 1)
   pub role : isConjunction a ≡ false → roleAt t (a .left) ≡ roleOf a
   pub filler : isConjunction a ≡ false → fillerAt t (a .left) ≡ nodeNumber n (fillerOf a)
 

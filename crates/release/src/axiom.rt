@@ -1,12 +1,16 @@
 ghost use mathlib.Core.Path.{_≡_};
-ghost use Prim.Native.Nat.{_+_, _≤_};
+ghost use Prim.Native.Nat.{_≤_};
 ghost use lib.ListN.{length};
 ghost use mathlib.Core.Bool.{true};
 ghost use Rattle.release.specs.Files.{partsFault, joins, restricts, fillerNode};
 ghost use Rattle.release.specs.Readings.{tailReading, readingAt, numberOf, nodeNumber};
+ghost use Rattle.release.specs.Tables.{IsWidth};
 use crate::ConceptName;
 use crate::Release;
 use crate::RoleName;
+use crate::number::number;
+use crate::number::top;
+use crate::number::wide;
 
 // A place in a file.
 pub struct Cursor {
@@ -29,25 +33,19 @@ pub enum Reading {
     Refused(u8),
 }
 
-pub fn wide(x: u8) -> usize
-    ensures { λ r. ⌜ r ≡ x ⌝ }
-{
-    x as usize
-}
-
 // The number of the first refusal among `count` rising names from `at` on, or 0.
-fn parts_fault(file: &[u8], at: usize, count: usize, n: usize) -> u8
-    requires { ⌜ at ≤ length (now file) ⌝ }
-    ensures { λ r. ⌜ r ≡ partsFault n count 0 (now (file .entry)) at ⌝ }
+fn parts_fault(file: &[u8], width: usize, at: usize, count: usize, n: usize) -> u8
+    requires { ⌜ IsWidth width × (at ≤ length (now file)) ⌝ }
+    ensures { λ r. ⌜ r ≡ partsFault width n count 0 (now (file .entry)) at ⌝ }
 {
     let mut left = count;
     let mut p = at;
     let mut least: usize = 0;
     while 0 < left {
-        if file.len() <= p {
+        if file.len() < p + width {
             return 7;
         }
-        let name = wide(file[p]);
+        let name = number(file, p, width);
         if n <= name {
             return 9;
         }
@@ -55,16 +53,24 @@ fn parts_fault(file: &[u8], at: usize, count: usize, n: usize) -> u8
             return 13;
         }
         least = name + 1;
-        p += 1;
+        p += width;
         left -= 1;
     }
     0
 }
 
 // The tail of kinds 1 and 2.
-fn read_conjunction(file: &[u8], tail: usize, left: usize, kind: u8, n: usize, m: usize) -> Reading
-    requires { ⌜ (tail ≤ length (now file)) × (joins kind ≡ true) ⌝ }
-    ensures { λ r. ⌜ r ≡ tailReading n m left kind (now (file .entry)) tail ⌝ }
+fn read_conjunction(
+    file: &[u8],
+    width: usize,
+    tail: usize,
+    left: usize,
+    kind: u8,
+    n: usize,
+    m: usize,
+) -> Reading
+    requires { ⌜ (IsWidth width × (tail ≤ length (now file))) × (joins kind ≡ true) ⌝ }
+    ensures { λ r. ⌜ r ≡ tailReading width n m left kind (now (file .entry)) tail ⌝ }
 {
     if file.len() <= tail {
         return Reading::Refused(7);
@@ -76,7 +82,7 @@ fn read_conjunction(file: &[u8], tail: usize, left: usize, kind: u8, n: usize, m
     if Release::CONJUNCTS < count {
         return Reading::Refused(12);
     }
-    let fault = parts_fault(file, tail + 1, count, n);
+    let fault = parts_fault(file, width, tail + 1, count, n);
     if fault != 0 {
         return Reading::Refused(fault);
     }
@@ -89,25 +95,33 @@ fn read_conjunction(file: &[u8], tail: usize, left: usize, kind: u8, n: usize, m
             tail: tail,
         },
         Cursor {
-            at: tail + (1 + count),
+            at: tail + (1 + width * count),
         },
     )
 }
 
-// The node of a filler byte: ⊤ is n.
-fn filler_node(b: u8, n: usize) -> usize
-    ensures { λ r. ⌜ r ≡ nodeNumber n (fillerNode b) ⌝ }
+// The node of a filler's number: ⊤ is n.
+fn filler_node(filler: usize, width: usize, n: usize) -> usize
+    ensures { λ r. ⌜ r ≡ nodeNumber n (fillerNode width filler) ⌝ }
 {
-    if b == Release::TOP {
+    if filler == top(width) {
         return n;
     }
-    wide(b)
+    filler
 }
 
 // The tail of kinds 3 and 4.
-fn read_restriction(file: &[u8], tail: usize, left: usize, kind: u8, n: usize, m: usize) -> Reading
-    requires { ⌜ (tail ≤ length (now file)) × (restricts kind ≡ true) ⌝ }
-    ensures { λ r. ⌜ r ≡ tailReading n m left kind (now (file .entry)) tail ⌝ }
+fn read_restriction(
+    file: &[u8],
+    width: usize,
+    tail: usize,
+    left: usize,
+    kind: u8,
+    n: usize,
+    m: usize,
+) -> Reading
+    requires { ⌜ (IsWidth width × (tail ≤ length (now file))) × (restricts kind ≡ true) ⌝ }
+    ensures { λ r. ⌜ r ≡ tailReading width n m left kind (now (file .entry)) tail ⌝ }
 {
     if file.len() <= tail {
         return Reading::Refused(7);
@@ -116,16 +130,17 @@ fn read_restriction(file: &[u8], tail: usize, left: usize, kind: u8, n: usize, m
     if m <= role {
         return Reading::Refused(11);
     }
-    if file.len() <= tail + 1 {
+    if file.len() < tail + 1 + width {
         return Reading::Refused(7);
     }
-    let filler = file[tail + 1];
-    if n <= wide(filler) {
-        if filler != Release::TOP {
+    let filler = number(file, tail + 1, width);
+    let top = top(width);
+    if n <= filler {
+        if filler != top {
             return Reading::Refused(9);
         }
     }
-    let node = filler_node(filler, n);
+    let node = filler_node(filler, width, n);
     Reading::Axiom(
         Entry {
             left: ConceptName(left),
@@ -134,32 +149,35 @@ fn read_restriction(file: &[u8], tail: usize, left: usize, kind: u8, n: usize, m
             filler: node,
             tail: tail,
         },
-        Cursor { at: tail + 2 },
+        Cursor {
+            at: tail + (1 + width),
+        },
     )
 }
 
 // The axiom at `at`, whose left name is at least `least`.
-pub fn read_axiom(file: &[u8], at: usize, n: usize, m: usize, least: usize) -> Reading
-    requires { ⌜ at ≤ length (now file) ⌝ }
-    ensures { λ r. ⌜ r ≡ readingAt n m least (now (file .entry)) at ⌝ }
+pub fn read_axiom(file: &[u8], width: usize, at: usize, n: usize, m: usize, least: usize) -> Reading
+    requires { ⌜ IsWidth width × (at ≤ length (now file)) ⌝ }
+    ensures { λ r. ⌜ r ≡ readingAt width n m least (now (file .entry)) at ⌝ }
 {
-    if file.len() <= at {
+    let after = at + width;
+    if file.len() < after {
         return Reading::Refused(7);
     }
-    let left = wide(file[at]);
+    let left = number(file, at, width);
     if n <= left {
         return Reading::Refused(9);
     }
     if left < least {
         return Reading::Refused(10);
     }
-    if file.len() <= at + 1 {
+    if file.len() <= after {
         return Reading::Refused(7);
     }
-    let kind = file[at + 1];
+    let kind = file[after];
     match kind {
-        1 | 2 => read_conjunction(file, at + 2, left, kind, n, m),
-        3 | 4 => read_restriction(file, at + 2, left, kind, n, m),
+        1 | 2 => read_conjunction(file, width, after + 1, left, kind, n, m),
+        3 | 4 => read_restriction(file, width, after + 1, left, kind, n, m),
         _ => Reading::Refused(8),
     }
 }

@@ -2,15 +2,19 @@
 ghost use mathlib.Core.Path.{_≡_};
 ghost use Rattle.release.specs.Readings.{checked};
 ghost use Rattle.release.specs.Tables.{Blank, ReleaseRead};
-use crate::axiom::wide;
 use crate::conjuncts::some_part_defined;
+use crate::header::axioms;
 use crate::header::header_fault;
+use crate::header::names;
+use crate::header::roles;
+use crate::header::width;
 use crate::table::Table;
 use crate::table::read_axioms;
 
 mod axiom;
 mod conjuncts;
-mod header;
+pub mod header;
+pub mod number;
 pub mod show;
 pub mod table;
 
@@ -25,19 +29,24 @@ pub struct Release {}
 impl Release {
     pub const MARK: [u8; 3] = *b"ELT";
 
-    pub const VERSION: usize = 1;
+    // The versions of the file. A name takes one byte in the first and two in the second.
+    pub const VERSION_1: usize = 1;
 
-    // The bytes before the first axiom.
-    pub const HEADER: usize = 8;
+    pub const VERSION_2: usize = 2;
 
-    pub const NAMES: usize = 127;
+    // The most names of any release, and of one in version 1.
+    pub const NAMES: usize = 1023;
+
+    pub const NAMES_1: usize = 127;
 
     pub const ROLES: usize = 32;
 
     pub const CONJUNCTS: usize = 16;
 
-    // A filler byte that is ⊤.
-    pub const TOP: u8 = 255;
+    // The number of a filler that is ⊤, in version 1 and in version 2.
+    pub const TOP_1: usize = 255;
+
+    pub const TOP_2: usize = 65535;
 }
 
 // A refusal: its number, and the side of the release or concept concerned, else 0.
@@ -78,9 +87,10 @@ pub fn read_release(file: &[u8], table: &mut [u16]) -> Checked
     if head != 0 {
         return refused(head);
     }
-    let names = wide(file[5]);
-    let roles = wide(file[6]);
-    let axioms = wide(file[7]);
+    let width = width(file);
+    let names = names(file, width);
+    let roles = roles(file, width);
+    let axioms = axioms(file, width);
     let fault = read_axioms(file, table, names, roles, axioms);
     if fault != 0 {
         return refused(fault);

@@ -4,6 +4,7 @@ ghost use Rattle.release.specs.Tables.{Release};
 ghost use Rattle.release.specs.Shown.{nowhere, placeIn, shownPlace, Shown};
 use crate::Checked;
 use crate::ConceptName;
+use crate::header::width;
 use crate::read_release;
 use crate::table::Table;
 use crate::table::count;
@@ -29,7 +30,7 @@ fn nowhere() -> Place
     }
 }
 
-// Where a name's axiom stands in an accepted file, by its table. The tail starts two bytes after the axiom.
+// Where a name's axiom stands in an accepted file, by its table. Its left name and its kind byte stand before its tail.
 fn place_in(file: &[u8], table: &[u16], side: u8, names: usize, name: usize) -> Place
     requires { ⌜ Release (now file) (now table) × (names ≡ namesOf (now file)) ⌝ }
     ensures { λ r. ⌜ r ≡ placeIn side (now (file .entry)) name ⌝ }
@@ -40,18 +41,19 @@ fn place_in(file: &[u8], table: &[u16], side: u8, names: usize, name: usize) -> 
     if kind(table, name) == 0 {
         return nowhere();
     }
-    let start = tail(table, name) - 2;
+    let width = width(file);
+    let start = tail(table, name) - 1 - width;
     if is_conjunction(table, name) {
         return Place {
             side: side,
             start: start,
-            length: 3 + count(file, table, name),
+            length: width + 1 + (1 + width * count(file, table, name)),
         };
     }
     Place {
         side: side,
         start: start,
-        length: 4,
+        length: width + 1 + (1 + width),
     }
 }
 

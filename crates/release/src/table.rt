@@ -7,13 +7,16 @@ use crate::axiom::Entry;
 use crate::axiom::Reading;
 use crate::axiom::read_axiom;
 use crate::axiom::refusal;
-use crate::axiom::wide;
+use crate::header::header_length;
+use crate::header::width;
+use crate::number::number;
+use crate::number::wide;
 
 // A table has four numbers a name: kind, role, filler, place of the tail. It has one row for each name that there can be.
 pub struct Table {}
 
 impl Table {
-    pub const LENGTH: usize = 508;
+    pub const LENGTH: usize = 4 * Release::NAMES;
 }
 
 fn wide_16(x: u16) -> usize
@@ -89,8 +92,9 @@ pub fn part(file: &[u8], table: &[u16], x: usize, i: usize) -> usize
     requires { ⌜ HasPart (now file) (now table) x i ⌝ }
     ensures { λ r. ⌜ r ≡ partAt (now (file .entry)) (now (table .entry)) x i ⌝ }
 {
+    let width = width(file);
     let at = tail(table, x);
-    wide(file[at + 1 + i])
+    number(file, at + 1 + width * i, width)
 }
 
 fn narrow(x: usize) -> u16
@@ -121,11 +125,12 @@ pub fn read_axioms(file: &[u8], table: &mut [u16], n: usize, m: usize, count: us
     requires { ⌜ Ready n m count (now file) (now table) ⌝ }
     ensures { λ r. ⌜ AxiomsRead n m count (now (file .entry)) (now (table .exit)) r ⌝ }
 {
+    let width = width(file);
     let mut left = count;
-    let mut at = Release::HEADER;
+    let mut at = header_length(width);
     let mut least: usize = 0;
     while 0 < left {
-        let got = read_axiom(file, at, n, m, least);
+        let got = read_axiom(file, width, at, n, m, least);
         let Reading::Axiom(entry, next) = got else {
             return refusal(got);
         };

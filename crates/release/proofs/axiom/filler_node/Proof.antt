@@ -1,23 +1,17 @@
-use mathlib.Core.Path.{_∙_, sym}
+use mathlib.Core.Path.{_∙_}
 use borrow.Author.Tests.{ne-eqb, eq-eqb}
 use borrow.Author.Needs.{needs}
 use Rattle.release.proofs.axiom.filler_node.Statement.{statement}
 use Rattle.release.proofs.axiom.filler_node.Tie as tie
-use Rattle.release.proofs.axiom.filler_node.Reads as reads
-use Rattle.release.proofs.axiom.filler_node.Lts as lts
-use Rattle.release.proofs.axiom.wide.Reads as wide-reads
 
--- src/axiom.rt:102:9
+top-requires : tie.Need-top-requires
+top-requires c κs = search needs
+
 returns : tie.Need-returns
-returns c = simp (eq-eqb _ _ (c .if1 .taken))
+returns c = simp (eq-eqb _ _ (c .if1 .taken ∙ c .before .top .ensures))
 
--- src/axiom.rt:104:5
-wide-requires : tie.Need-wide-requires
-wide-requires c κs = search needs
-
--- src/axiom.rt:98:1
 returns-2 : tie.Need-returns-2
-returns-2 c = c .wide .ensures ∙ simp (ne-eqb _ _ (c .before .if1 .left))
+returns-2 c = simp (ne-eqb _ _ (λ e. c .if1 .left (rw (c .before .top .ensures) e)))
 
 pub filler-node-spec : {M : Type 1} → statement M
-filler-node-spec = tie.close (tie.spec returns wide-requires returns-2)
+filler-node-spec = tie.close (tie.spec top-requires returns returns-2)

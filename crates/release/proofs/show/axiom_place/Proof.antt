@@ -1,99 +1,73 @@
 use mathlib.Core.Path.{_≡_, sym, _∙_}
-use native.Mathlib.Omega.{arith}
-use Rattle.release.proofs.Rows.{zeros-blank}
+use Rattle.release.proofs.Rows.{blank-table}
 use Rattle.release.proofs.Places.{read-release, read-refused, shown-not-first, shown-not-second, shown-1, shown-2, shown-no-side}
 use borrow.Author.Needs.{needs}
 use Rattle.release.proofs.show.axiom_place.Statement.{statement}
 use Rattle.release.proofs.show.axiom_place.Tie as tie
-use Rattle.release.proofs.show.axiom_place.Reads as reads
-use Rattle.release.proofs.show.axiom_place.Lts as lts
-use Rattle.release.proofs.read_release.Reads as read-release-reads
-use Rattle.release.proofs.show.nowhere.Reads as nowhere-reads
-use Rattle.release.proofs.show.place_in.Reads as place-in-reads
 
--- src/show.rt:63:45
 slice-aggregate-read-release : tie.Need-slice-aggregate-read-release
 slice-aggregate-read-release c = search needs
 
--- src/show.rt:63:9
 read-release-requires : tie.Need-read-release-requires
-read-release-requires c κs = zeros-blank 508 (omega arith)
+read-release-requires c κs = blank-table
 
--- src/show.rt:65:47
 slice-aggregate-read-release-2 : tie.Need-slice-aggregate-read-release-2
 slice-aggregate-read-release-2 c = search needs
 
--- src/show.rt:65:9
 read-release-requires-2 : tie.Need-read-release-requires-2
-read-release-requires-2 c κs = zeros-blank 508 (omega arith)
+read-release-requires-2 c κs = blank-table
 
--- src/show.rt:66:27
 enum-known-first-checked : tie.Need-enum-known-first-checked
 enum-known-first-checked c = search needs
 
--- src/show.rt:67:9
 enum-told : tie.Need-enum-told
 enum-told c = search needs
 
--- src/show.rt:67:9
 nowhere-requires : tie.Need-nowhere-requires
 nowhere-requires c κs = search needs
 
--- src/show.rt:67:9
 returns : tie.Need-returns
 returns c = c .nowhere .ensures ∙ shown-not-first _ _ _ _ (read-refused _ _ _ (c .before .before .before .before .before .before .before .read-release .ensures) _ (c .before .enum-told .given .1))
 
--- src/show.rt:69:27
 enum-known-second-checked : tie.Need-enum-known-second-checked
 enum-known-second-checked c = search needs
 
--- src/show.rt:70:9
 enum-told-2 : tie.Need-enum-told-2
 enum-told-2 c = search needs
 
--- src/show.rt:70:9
 nowhere-requires-2 : tie.Need-nowhere-requires-2
 nowhere-requires-2 c κs = search needs
 
--- src/show.rt:70:9
 returns-2 : tie.Need-returns-2
 returns-2 c = c .nowhere2 .ensures ∙ shown-not-second _ _ _ _ (read-refused _ _ _ (c .before .before .before .before .before .before .before .read-release2 .ensures) _ (c .before .enum-told2 .given .1))
 
--- src/show.rt:74:32
 slice-aggregate-place-in : tie.Need-slice-aggregate-place-in
 slice-aggregate-place-in c = search needs
 
--- src/show.rt:74:9
 place-in-requires : tie.Need-place-in-requires
 place-in-requires c κs = read-release _ _ _ (c .before .before .before .before .before .before .before .before .before .before .before .before .read-release .ensures) _ (c .before .before .before .before .before .before .first-checked .given .1)
 
--- src/show.rt:74:9
 returns-3 : tie.Need-returns-3
 returns-3 c =
     let a = read-release _ _ _ (c .before .before .before .before .before .before .before .before .before .before .before .before .before .read-release .ensures) _ (c .before .before .before .before .before .before .before .first-checked .given .1) in
     let b = read-release _ _ _ (c .before .before .before .before .before .before .before .before .before .before .read-release2 .ensures) _ (c .before .before .before .before .second-checked .given .1) in
     c .place-in .ensures ∙ shown-1 _ _ _ _ (a .0 .accepted) (b .0 .accepted) (c .before .before .if1 .taken)
 
--- src/show.rt:77:33
 slice-aggregate-place-in-2 : tie.Need-slice-aggregate-place-in-2
 slice-aggregate-place-in-2 c = search needs
 
--- src/show.rt:77:9
 place-in-requires-2 : tie.Need-place-in-requires-2
 place-in-requires-2 c κs = read-release _ _ _ (c .before .before .before .before .before .before .before .before .before .before .read-release2 .ensures) _ (c .before .before .before .before .second-checked .given .1)
 
--- src/show.rt:77:9
 returns-4 : tie.Need-returns-4
 returns-4 c =
     let a = read-release _ _ _ (c .before .before .before .before .before .before .before .before .before .before .before .before .before .before .read-release .ensures) _ (c .before .before .before .before .before .before .before .before .first-checked .given .1) in
     let b = read-release _ _ _ (c .before .before .before .before .before .before .before .before .before .before .before .read-release2 .ensures) _ (c .before .before .before .before .before .second-checked .given .1) in
     c .place-in2 .ensures ∙ shown-2 _ _ _ _ (a .0 .accepted) (b .0 .accepted) (c .before .before .before .if1 .left) (c .before .before .if2 .taken)
 
--- src/show.rt:79:5
 nowhere-requires-3 : tie.Need-nowhere-requires-3
 nowhere-requires-3 c κs = search needs
 
--- src/show.rt:59:1
 returns-5 : tie.Need-returns-5
 returns-5 c =
     let a = read-release _ _ _ (c .before .before .before .before .before .before .before .before .before .before .before .before .before .read-release .ensures) _ (c .before .before .before .before .before .before .before .first-checked .given .1) in

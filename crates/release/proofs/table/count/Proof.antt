@@ -3,24 +3,16 @@ use Rattle.release.specs.Tables.{countAt}
 use borrow.Author.Needs.{needs}
 use Rattle.release.proofs.table.count.Statement.{statement}
 use Rattle.release.proofs.table.count.Tie as tie
-use Rattle.release.proofs.table.count.Reads as reads
-use Rattle.release.proofs.table.count.Lts as lts
-use Rattle.release.proofs.axiom.wide.Reads as wide-reads
-use Rattle.release.proofs.table.tail.Reads as tail-reads
 
--- src/table.rt:58:9
 tail-requires : tie.Need-tail-requires
 tail-requires c κs = search needs
 
--- src/table.rt:59:10
 shared-slice-read-wide : tie.Need-shared-slice-read-wide
 shared-slice-read-wide c = search needs
 
--- src/table.rt:59:5
 wide-requires : tie.Need-wide-requires
 wide-requires c κs = search needs
 
--- src/table.rt:54:1
 returns : tie.Need-returns
 unfolding countAt
 returns c = c .wide .ensures ∙ rw (c .before .before .tail .ensures)

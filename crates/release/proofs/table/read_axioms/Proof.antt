@@ -3,84 +3,70 @@ use native.Mathlib.Omega.{arith}
 use borrow.Author.Needs.{needs}
 use lib.ListN.{length}
 use Rattle.release.specs.Tables.{Ready}
+use Rattle.release.proofs.Numbers.{is-width}
 use Rattle.release.proofs.Scan.{Going, start, end, end-14, refuses, left-small, fits, next}
 use Rattle.release.proofs.table.read_axioms.Statement.{statement}
 use Rattle.release.proofs.table.read_axioms.Tie as tie
-use Rattle.release.proofs.table.read_axioms.Reads as reads
-use Rattle.release.proofs.table.read_axioms.Lts as lts
-use Rattle.release.proofs.axiom.read_axiom.Reads as read-axiom-reads
-use Rattle.release.proofs.axiom.refusal.Reads as refusal-reads
-use Rattle.release.proofs.table.put_row.Reads as put-row-reads
 
 abbrev Inv-loop : tie.InvT-loop
-Inv-loop file table₀ n m count left₀ at₀ least₀ table left at least = Going n m count file table left at least × (length table ≡ length table₀)
+Inv-loop file table₀ n m count width left₀ at₀ least₀ table left at least = Going n m count file table left at least × (length table ≡ length table₀)
 
 abbrev μ-loop : tie.MeasureT-loop
-μ-loop file table₀ n m count left₀ at₀ least₀ table left at least = left
+μ-loop file table₀ n m count width left₀ at₀ least₀ table left at least = left
 
--- src/table.rt:102:5
+width-requires : tie.Need-width-requires Inv-loop μ-loop
+width-requires c κs = omega (arith, c .before .before .pre .long)
+
+header-length-requires : tie.Need-header-length-requires Inv-loop μ-loop
+header-length-requires c κs = omega (arith, c .width .ensures, is-width (c .before .before .before .args .file .now) .few)
+
 loop-holds : tie.Need-loop-holds Inv-loop μ-loop
-loop-holds c = (start _ _ _ _ _ (c .before .before .pre), refl)
+loop-holds c = (rw (c .header-length .ensures, c .before .width .ensures) (start _ _ _ _ _ (c .before .before .before .before .pre)), refl)
 
--- src/table.rt:103:13
 read-axiom-requires : tie.Need-read-axiom-requires Inv-loop μ-loop
-read-axiom-requires c κs = c .before .loop .inv .0 .within
+read-axiom-requires c κs = (rw (c .before .before .before .width .ensures) (is-width _), c .before .loop .inv .0 .within)
 
--- src/table.rt:104:28
 enum-known-got : tie.Need-enum-known-got Inv-loop μ-loop
 enum-known-got c = search needs
 
--- src/table.rt:105:13
 enum-told : tie.Need-enum-told Inv-loop μ-loop
 enum-told c = search needs
 
--- src/table.rt:105:13
 refusal-requires : tie.Need-refusal-requires Inv-loop μ-loop
 refusal-requires c κs = search needs
 
--- src/table.rt:105:13
 same-length : tie.Need-same-length Inv-loop μ-loop
 same-length c = search needs
 
--- src/table.rt:105:13
 returns : tie.Need-returns Inv-loop μ-loop
-returns c = refuses _ _ _ _ _ _ _ _ (c .before .before .before .before .before .loop .inv .0) (c .before .before .before .before .loop-test .taken) _ (c .before .before .before .read-axiom .ensures) _ _ (c .before .enum-told .given .1) (c .refusal .ensures)
+returns c = refuses _ _ _ _ _ _ _ _ (c .before .before .before .before .before .loop .inv .0) (c .before .before .before .before .loop-test .taken) _ (rw (c .before .before .before .before .before .before .before .width .ensures) at (c .before .before .before .read-axiom .ensures)) _ _ (c .before .enum-told .given .1) (c .refusal .ensures)
 
--- src/table.rt:107:9
 put-row-requires : tie.Need-put-row-requires Inv-loop μ-loop
-put-row-requires c κs = let y : Ready _ _ _ _ _ = c .before .before .before .before .before .before .before .before .before .pre in fits _ _ _ _ _ _ _ _ (c .before .before .before .before .before .before .loop .inv .0) (c .before .before .before .before .before .loop-test .taken) _ (c .before .before .before .before .read-axiom .ensures) _ _ (c .before .before .got .given .1) (y .names) (y .roles) (y .count) (omega (arith, y .rows, c .before .before .before .before .before .before .loop .inv .1))
+put-row-requires c κs = let y : Ready _ _ _ _ _ = c .before .before .before .before .before .before .before .before .before .before .before .pre in fits _ _ _ _ _ _ _ _ (c .before .before .before .before .before .before .loop .inv .0) (c .before .before .before .before .before .loop-test .taken) _ (rw (c .before .before .before .before .before .before .before .before .width .ensures) at (c .before .before .before .before .read-axiom .ensures)) _ _ (c .before .before .got .given .1) (y .names) (y .roles) (y .count) (omega (arith, y .rows, c .before .before .before .before .before .before .loop .inv .1))
 
--- src/table.rt:108:17
 add-least : tie.Need-add-least Inv-loop μ-loop
-add-least c = omega (arith, left-small _ _ _ _ _ _ _ _ (c .before .before .before .before .before .before .before .before .before .before .loop .inv .0) (c .before .before .before .before .before .before .before .before .before .loop-test .taken) _ (c .before .before .before .before .before .before .before .before .read-axiom .ensures) _ _ (c .before .before .before .before .before .before .got .given .1))
+add-least c = omega (arith, left-small _ _ _ _ _ _ _ _ (c .before .before .before .before .before .before .before .before .before .before .loop .inv .0) (c .before .before .before .before .before .before .before .before .before .loop-test .taken) _ (rw (c .before .before .before .before .before .before .before .before .before .before .before .before .width .ensures) at (c .before .before .before .before .before .before .before .before .read-axiom .ensures)) _ _ (c .before .before .before .before .before .before .got .given .1))
 
--- src/table.rt:110:9
 sub-left : tie.Need-sub-left Inv-loop μ-loop
 sub-left c = search needs
 
--- src/table.rt:102:5
 loop-less : tie.Need-loop-less Inv-loop μ-loop
 loop-less c = search needs
 
--- src/table.rt:102:5
 loop-again : tie.Need-loop-again Inv-loop μ-loop
-loop-again c = (next _ _ _ _ _ _ _ _ (c .before .before .before .before .before .before .before .before .before .before .loop .inv .0) (c .before .before .before .before .before .before .before .before .before .loop-test .taken) _ (c .before .before .before .before .before .before .before .before .read-axiom .ensures) _ _ (c .before .before .before .before .before .before .got .given .1) _ (c .before .before .before .put-row .ensures), c .before .before .before .put-row .ensures .long ∙ c .before .before .before .before .before .before .before .before .before .before .loop .inv .1)
+loop-again c = (next _ _ _ _ _ _ _ _ (c .before .before .before .before .before .before .before .before .before .before .loop .inv .0) (c .before .before .before .before .before .before .before .before .before .loop-test .taken) _ (rw (c .before .before .before .before .before .before .before .before .before .before .before .before .width .ensures) at (c .before .before .before .before .before .before .before .before .read-axiom .ensures)) _ _ (c .before .before .before .before .before .before .got .given .1) _ (c .before .before .before .put-row .ensures), c .before .before .before .put-row .ensures .long ∙ c .before .before .before .before .before .before .before .before .before .before .loop .inv .1)
 
--- src/table.rt:113:9
 same-length-2 : tie.Need-same-length-2 Inv-loop μ-loop
 same-length-2 c = search needs
 
--- src/table.rt:113:9
 returns-2 : tie.Need-returns-2 Inv-loop μ-loop
 returns-2 c = end-14 _ _ _ _ _ _ _ _ (c .before .before .loop .inv .0) (c .before .loop-test .left) (c .if1 .taken)
 
--- src/table.rt:95:1
 same-length-3 : tie.Need-same-length-3 Inv-loop μ-loop
 same-length-3 c = search needs
 
--- src/table.rt:95:1
 returns-3 : tie.Need-returns-3 Inv-loop μ-loop
-returns-3 c = end _ _ _ _ _ _ _ _ (c .before .before .loop .inv .0) (c .before .loop-test .left) (c .if1 .left) (omega (arith, c .before .before .before .before .before .pre .rows, c .before .before .loop .inv .1))
+returns-3 c = end _ _ _ _ _ _ _ _ (c .before .before .loop .inv .0) (c .before .loop-test .left) (c .if1 .left) (omega (arith, c .before .before .before .before .before .before .before .pre .rows, c .before .before .loop .inv .1))
 
 pub read-axioms-spec : {M : Type 1} → statement M
 read-axioms-spec =
@@ -88,6 +74,8 @@ read-axioms-spec =
     (tie.spec
     Inv-loop
     μ-loop
+    width-requires
+    header-length-requires
     loop-holds
     read-axiom-requires
     enum-known-got
