@@ -1,5 +1,5 @@
 -- A signature that a caller builds, "by a name or a role at a time".
---   emptySignature n m     "the empty signature of a given n and m (127 and 32 where larger)"
+--   emptySignature n m     "the empty signature of a given n and m", the largest that a release has where larger
 --   withName g x           g with the name x more, withRole g r with the role r; unchanged where the number is out of range
 --   byteAt g i             g's byte at the place i below its n + m, elsewhere 0
 --   Built g                g has the shape that each of these steps gives and keeps
