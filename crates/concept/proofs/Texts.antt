@@ -1,21 +1,21 @@
--- An accepted text and the concept that it is determine each other.
---   GivesBack n m s p    what p gives is a concept, within n and m, with the bytes of s before the rest
---   accepted-is-text     an accepted text is a text of the concept read
---   text-is-accepted     a text of a concept is accepted, and is read as that concept
---   refused-exactly      refusal 19 is met exactly where the text is that of no concept
+-- An accepted text is a text of the concept that it is read as, and of no other.
+--   GivesBack w n m s p    what p gives is a concept, within n and m, spelled at the start of s, with the rest after it
+--   accepted-is-text       an accepted text is a text of the concept read
+--   text-is-accepted       a text of a concept is accepted, and is read as that concept
+--   refused-exactly        refusal 19 is met exactly where the text is that of no concept
 use mathlib.Core.Path.{_≡_, refl, sym, ap, _∙_}
 use mathlib.Core.Logic.{_↔_}
 use mathlib.Core.Bool.{Bool, true, false, _&&_, false≢true}
-use mathlib.Core.List.{List, [], _∷_, _++_, append-assoc, append-nil}
-use Prim.Native.Nat.{ℕ, zero, suc, _≤_}
+use mathlib.Core.List.{List, [], _∷_}
+use Prim.Native.Nat.{ℕ, zero, suc, _+_, _≤_, _<_}
 use native.Mathlib.Omega.{arith}
 use borrow.Author.Tests.{leb-true, le-leb, eqb-true}
 use lib.Dec.{ltb, leb, eqb}
-use lib.ListN.{length, length-append}
+use lib.ListN.{length, drop, length-drop}
 use Rattle.el.specs.Lists.{pick}
 use Rattle.el.specs.Concepts.{Concept, top, name, both, some}
-use Rattle.concept.specs.Bytes.{conceptBytes, isWithin, Parsed, parsed, notParsed, nameFrom, bothFrom, someFrom}
-use Rattle.concept.specs.Bytes.{conceptFrom, readConcept, longest, conceptOk, IsTextOf}
+use Rattle.concept.specs.Bytes.{number, Spelled, is-top, is-name, is-both, is-some, isWithin, longest, IsTextOf}
+use Rattle.concept.specs.Bytes.{Parsed, parsed, notParsed, nameFrom, bothFrom, someFrom, conceptFrom, readConcept, conceptOk}
 
 both-true : (a b : Bool) → a && b ≡ true → (a ≡ true) × (b ≡ true)
 both-true true b e = (refl, e)
@@ -30,17 +30,18 @@ no-bytes [] e = refl
 no-bytes (b ∷ s) e = absurd (omega arith)
 
 -- what is read is a concept with these bytes
-pub record GivesBack (n m : ℕ) (s : List ℕ) (p : Parsed) : Type 0 where
-  pub bytes : conceptBytes (p .concept) ++ p .rest ≡ s
+pub record GivesBack (w n m : ℕ) (s : List ℕ) (p : Parsed) : Type 0 where
+  pub bytes : Spelled w (p .concept) s (p .rest)
   pub within : isWithin n m (p .concept) ≡ true
 
-name-gives-back : (n m : ℕ) (s : List ℕ) → nameFrom n s .good ≡ true → GivesBack n m (1 ∷ s) (nameFrom n s)
-name-gives-back n m [] good = absurd (false≢true good)
-name-gives-back n m (x ∷ s) good =
-    let below = picked-good (ltb x n) _ good in rw below record { bytes = refl; within = below }
+name-gives-back : (w n m : ℕ) (s : List ℕ) → nameFrom w n s .good ≡ true → GivesBack w n m (1 ∷ s) (nameFrom w n s)
+name-gives-back w n m s good =
+    let test = picked-good (leb w (length s) && ltb (number w s) n) _ good in
+    let parts = both-true (leb w (length s)) (ltb (number w s) n) test in
+    rw test record { bytes = is-name (leb-true _ _ (parts .0)) refl refl; within = parts .1 }
 
-module _ (n m : ℕ) (from : List ℕ → Parsed) (gives-back : (s : List ℕ) → from s .good ≡ true → GivesBack n m s (from s)) where
-  both-gives-back : (s : List ℕ) → bothFrom from s .good ≡ true → GivesBack n m (2 ∷ s) (bothFrom from s)
+module _ (w n m : ℕ) (from : List ℕ → Parsed) (gives-back : (s : List ℕ) → from s .good ≡ true → GivesBack w n m s (from s)) where
+  both-gives-back : (s : List ℕ) → bothFrom from s .good ≡ true → GivesBack w n m (2 ∷ s) (bothFrom from s)
   both-gives-back s good =
       let c = from s in
       let d = from (c .rest) in
@@ -49,83 +50,80 @@ module _ (n m : ℕ) (from : List ℕ → Parsed) (gives-back : (s : List ℕ) �
       let first = gives-back s (parts .0) in
       let second = gives-back (c .rest) (parts .1) in
       rw test record {
-        bytes = rw (append-assoc, second .bytes, first .bytes);
+        bytes = is-both (first .bytes) (second .bytes);
         within = rw (first .within, second .within);
       }
 
-  some-gives-back : (s : List ℕ) → someFrom m from s .good ≡ true → GivesBack n m (3 ∷ s) (someFrom m from s)
+  some-gives-back : (s : List ℕ) → someFrom m from s .good ≡ true → GivesBack w n m (3 ∷ s) (someFrom m from s)
   some-gives-back [] good = absurd (false≢true good)
   some-gives-back (r ∷ s) good =
       let c = from s in
       let test = picked-good (ltb r m && c .good) _ good in
       let parts = both-true (ltb r m) (c .good) test in
       let filler = gives-back s (parts .1) in
-      rw test record {
-        bytes = ap (λ (t : List ℕ). 3 ∷ (r ∷ t)) (filler .bytes);
-        within = rw (parts .0, filler .within);
-      }
+      rw test record { bytes = is-some (filler .bytes); within = rw (parts .0, filler .within) }
 
-pub reading-gives-back : (f n m : ℕ) (s : List ℕ) → conceptFrom f n m s .good ≡ true → GivesBack n m s (conceptFrom f n m s)
-reading-gives-back zero n m s good = absurd (false≢true good)
-reading-gives-back (suc f) n m [] good = absurd (false≢true good)
-reading-gives-back (suc f) n m (zero ∷ s) good = record { bytes = refl; within = refl }
-reading-gives-back (suc f) n m (suc zero ∷ s) good = name-gives-back n m s good
-reading-gives-back (suc f) n m (suc (suc zero) ∷ s) good =
-    both-gives-back n m (conceptFrom f n m) (reading-gives-back f n m) s good
-reading-gives-back (suc f) n m (suc (suc (suc zero)) ∷ s) good =
-    some-gives-back n m (conceptFrom f n m) (reading-gives-back f n m) s good
-reading-gives-back (suc f) n m (suc (suc (suc (suc k))) ∷ s) good = absurd (false≢true good)
+pub reading-gives-back : (f w n m : ℕ) (s : List ℕ) → conceptFrom f w n m s .good ≡ true → GivesBack w n m s (conceptFrom f w n m s)
+reading-gives-back zero w n m s good = absurd (false≢true good)
+reading-gives-back (suc f) w n m [] good = absurd (false≢true good)
+reading-gives-back (suc f) w n m (zero ∷ s) good = record { bytes = is-top; within = refl }
+reading-gives-back (suc f) w n m (suc zero ∷ s) good = name-gives-back w n m s good
+reading-gives-back (suc f) w n m (suc (suc zero) ∷ s) good =
+    both-gives-back w n m (conceptFrom f w n m) (reading-gives-back f w n m) s good
+reading-gives-back (suc f) w n m (suc (suc (suc zero)) ∷ s) good =
+    some-gives-back w n m (conceptFrom f w n m) (reading-gives-back f w n m) s good
+reading-gives-back (suc f) w n m (suc (suc (suc (suc k))) ∷ s) good = absurd (false≢true good)
 
-pub accepted-is-text : (n m : ℕ) (s : List ℕ) → conceptOk n m s ≡ true → IsTextOf n m (readConcept n m s .concept) s
+pub accepted-is-text : (w n m : ℕ) (s : List ℕ) → conceptOk w n m s ≡ true → IsTextOf w n m (readConcept w n m s .concept) s
 unfolding conceptOk
-accepted-is-text n m s ok =
-    let p = readConcept n m s in
+accepted-is-text w n m s ok =
+    let p = readConcept w n m s in
     let parts = both-true (leb (length s) longest) (p .good && eqb (length (p .rest)) 0) ok in
     let read = both-true (p .good) (eqb (length (p .rest)) 0) (parts .1) in
-    let back = reading-gives-back (length s) n m s (read .0) in
+    let back = reading-gives-back (length s) w n m s (read .0) in
     let all : p .rest ≡ [] = no-bytes (p .rest) (eqb-true _ _ (read .1)) in
     record {
-      bytes = sym (append-nil _) ∙ ap (λ (t : List ℕ). conceptBytes (p .concept) ++ t) (sym all) ∙ back .bytes;
+      bytes = rw all at (back .bytes);
       within = back .within;
       short = leb-true _ _ (parts .0);
     }
 
--- the bytes of a concept are read as it, whatever follows them
-pub bytes-are-read : (c : Concept) (n m f : ℕ) (t : List ℕ) → isWithin n m c ≡ true → length (conceptBytes c) ≤ f
-    → conceptFrom f n m (conceptBytes c ++ t) ≡ parsed c t
-bytes-are-read top n m zero t within enough = absurd (omega arith)
-bytes-are-read top n m (suc f) t within enough = refl
-bytes-are-read (name x) n m zero t within enough = absurd (omega arith)
-bytes-are-read (name x) n m (suc f) t within enough = rw within
-bytes-are-read (both c d) n m zero t within enough = absurd (omega arith)
-bytes-are-read (both c d) n m (suc f) t within enough =
-    let parts = both-true (isWithin n m c) (isWithin n m d) within in
-    let long = length-append (conceptBytes c) (conceptBytes d) in
-    let first = bytes-are-read c n m f (conceptBytes d ++ t) (parts .0) (omega arith) in
-    let second = bytes-are-read d n m f t (parts .1) (omega arith) in
-    rw (append-assoc, first, second)
-bytes-are-read (some r c) n m zero t within enough = absurd (omega arith)
-bytes-are-read (some r c) n m (suc f) t within enough =
-    let parts = both-true (ltb r m) (isWithin n m c) within in
-    let filler = bytes-are-read c n m f t (parts .1) (omega arith) in
-    rw (parts .0, filler)
+-- a concept takes at least a byte
+pub shorter : {w : ℕ} {c : Concept} {s t : List ℕ} → Spelled w c s t → length t < length s
+shorter is-top = omega arith
+shorter {w} (is-name {s = s} long is after) = omega (arith, length-drop w s, ap length after)
+shorter (is-both first second) = omega (arith, shorter first, shorter second)
+shorter (is-some filler) = omega (arith, shorter filler)
 
-pub text-is-accepted : (n m : ℕ) (c : Concept) (s : List ℕ) → IsTextOf n m c s
-    → (conceptOk n m s ≡ true) × (readConcept n m s .concept ≡ c)
+-- what is spelled is read, where the reading goes deep enough
+pub spelled-is-read : (n m f : ℕ) {w : ℕ} {c : Concept} {s t : List ℕ} → Spelled w c s t → isWithin n m c ≡ true → length s ≤ length t + f
+    → conceptFrom f w n m s ≡ parsed c t
+spelled-is-read n m zero spelled within enough = absurd (omega (arith, shorter spelled))
+spelled-is-read n m (suc f) is-top within enough = refl
+spelled-is-read n m (suc f) (is-name long is after) within enough = rw (le-leb _ _ long, is, within, after)
+spelled-is-read n m (suc f) (is-both {c = c} {d = d} first second) within enough =
+    let parts = both-true (isWithin n m c) (isWithin n m d) within in
+    let one-read = spelled-is-read n m f first (parts .0) (omega (arith, shorter second)) in
+    let other-read = spelled-is-read n m f second (parts .1) (omega (arith, shorter first)) in
+    rw (one-read, other-read)
+spelled-is-read n m (suc f) (is-some {r = r} {c = c} filler) within enough =
+    let parts = both-true (ltb r m) (isWithin n m c) within in
+    let filler-read = spelled-is-read n m f filler (parts .1) (omega arith) in
+    rw (parts .0, filler-read)
+
+pub text-is-accepted : (w n m : ℕ) (c : Concept) (s : List ℕ) → IsTextOf w n m c s
+    → (conceptOk w n m s ≡ true) × (readConcept w n m s .concept ≡ c)
 unfolding conceptOk
-text-is-accepted n m c s text =
-    let whole : conceptBytes c ++ [] ≡ s = append-nil _ ∙ text .bytes in
-    let enough : length (conceptBytes c) ≤ length s = omega (arith, ap length (text .bytes)) in
-    let reads = bytes-are-read c n m (length s) [] (text .within) enough in
-    let read : readConcept n m s ≡ parsed c [] = ap (conceptFrom (length s) n m) (sym whole) ∙ reads in
+text-is-accepted w n m c s text =
+    let read : readConcept w n m s ≡ parsed c [] = spelled-is-read n m (length s) (text .bytes) (text .within) (omega arith) in
     (rw (le-leb _ _ (text .short), read), ap (λ (p : Parsed). p .concept) read)
 
-pub refused-exactly : (n m : ℕ) (s : List ℕ) → (conceptOk n m s ≡ false) ↔ ((c : Concept) → IsTextOf n m c s → ⊥)
-refused-exactly n m s = (
-  λ refused c text. false≢true (sym refused ∙ text-is-accepted n m c s text .0),
-  λ none. by-test none (conceptOk n m s) refl,
+pub refused-exactly : (w n m : ℕ) (s : List ℕ) → (conceptOk w n m s ≡ false) ↔ ((c : Concept) → IsTextOf w n m c s → ⊥)
+refused-exactly w n m s = (
+  λ refused c text. false≢true (sym refused ∙ text-is-accepted w n m c s text .0),
+  λ none. by-test none (conceptOk w n m s) refl,
 )
   where
-    by-test : ((c : Concept) → IsTextOf n m c s → ⊥) → (test : Bool) → conceptOk n m s ≡ test → test ≡ false
-    by-test none true ok = absurd (none _ (accepted-is-text n m s ok))
+    by-test : ((c : Concept) → IsTextOf w n m c s → ⊥) → (test : Bool) → conceptOk w n m s ≡ test → test ≡ false
+    by-test none true ok = absurd (none _ (accepted-is-text w n m s ok))
     by-test none false ok = refl

@@ -15,7 +15,7 @@ use Rattle.el.specs.Lists.{pick}
 use Rattle.el.specs.Concepts.{Concept, top, name, both, some}
 use Rattle.el.specs.Axioms.{Axiom}
 use Rattle.el.specs.Derivability.{Derives}
-use Rattle.concept.specs.Bytes.{IsTextOf}
+use Rattle.concept.specs.Bytes.{IsWidth, IsTextOf}
 use Rattle.outline.specs.declared.Extent.{Extent}
 
 unfoldable pub valueAt : List ℕ → ℕ → ℕ
@@ -32,6 +32,11 @@ pub record HasAtom (o : List ℕ) (i : ℕ) : Type 0 where
 
 unfoldable pub putAtom : List ℕ → ℕ → ℕ → ℕ → ℕ → List ℕ
 putAtom o i value owner child = set (set (set o (3 * i) value) (3 * i + 1) owner) (3 * i + 2) child
+
+-- w bytes stand at a place of a text
+pub record HasNumber (w : ℕ) (s : List ℕ) (at : ℕ) : Type 0 where
+  pub width : IsWidth w
+  pub inside : at + w ≤ length s
 
 pub record Atom : Type 0 where
   pub value : ℕ
@@ -74,10 +79,11 @@ pub record Outlined (n : ℕ) (c : Concept) (o : List ℕ) (r : Extent) : Type 0
   pub means : (al : List Axiom) → Same al c (rootOf (atomsFrom o 0 (r .atoms)) 0)
 
 -- what outlining asks: the text of a concept, room for the stack and for the atoms that 255 bytes can have
-pub record Outlinable (s owners atoms : List ℕ) : Type 0 where
+pub record Outlinable (w : ℕ) (s owners atoms : List ℕ) : Type 0 where
+  pub width : IsWidth w
   pub names : ℕ
   pub roles : ℕ
   pub concept : Concept
-  pub text : IsTextOf names roles concept s
+  pub text : IsTextOf w names roles concept s
   pub stack : 256 ≤ length owners
   pub room : 384 ≤ length atoms

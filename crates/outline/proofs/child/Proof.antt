@@ -12,6 +12,9 @@ mul-wide c = search needs
 add-wide : tie.Need-add-wide
 add-wide c = search needs
 
+mul-wide-2 : tie.Need-mul-wide-2
+mul-wide-2 c = search needs
+
 shared-slice-read-wide : tie.Need-shared-slice-read-wide
 shared-slice-read-wide c = search needs
 
@@ -23,4 +26,5 @@ unfolding childAt
 returns c = c .wide .ensures
 
 pub child-spec : {M : Type 1} → statement M
-child-spec = tie.close (tie.spec mul-wide add-wide shared-slice-read-wide wide-requires returns)
+child-spec =
+    tie.close (tie.spec mul-wide add-wide mul-wide-2 shared-slice-read-wide wide-requires returns)

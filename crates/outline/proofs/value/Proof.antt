@@ -9,6 +9,9 @@ use Rattle.outline.proofs.wide.Reads as wide-reads
 mul-wide : tie.Need-mul-wide
 mul-wide c = search needs
 
+mul-wide-2 : tie.Need-mul-wide-2
+mul-wide-2 c = search needs
+
 shared-slice-read-wide : tie.Need-shared-slice-read-wide
 shared-slice-read-wide c = search needs
 
@@ -20,4 +23,4 @@ unfolding valueAt
 returns c = c .wide .ensures
 
 pub value-spec : {M : Type 1} → statement M
-value-spec = tie.close (tie.spec mul-wide shared-slice-read-wide wide-requires returns)
+value-spec = tie.close (tie.spec mul-wide mul-wide-2 shared-slice-read-wide wide-requires returns)
