@@ -9,10 +9,10 @@ use Rattle.el.specs.Lists.{pick, all}
 use Rattle.el.specs.Answers.{comparisonBytes, isIncluded}
 use Rattle.el.proofs.Lists.{Every}
 use Rattle.el.proofs.Tests.{tells-all, tells-true, and-left, and-right}
-use Rattle.release.specs.Files.{namesOf, rolesOf, axiomsOf, fault, headerFault, partsFault, conjunctionFault, restrictionFault, tailFault, axiomFault, axiomAt, axiomsFault, axiomsFrom, conjunctDefined}
+use Rattle.release.specs.Files.{number, numbers, widthOf, namesOf, rolesOf, countOf, axiomsOf, fault, headerFault, partsFault, conjunctionFault, restrictionFault, tailFault, axiomFault, axiomAt, axiomsFault, axiomsFrom, conjunctDefined}
 use Rattle.signature.specs.Bytes.{signatureFault}
 use Rattle.concept.specs.Bytes.{conceptOk}
-use Rattle.demands.specs.Inputs.{chosen, Accepted, AcceptedQuestion, conceptOf}
+use Rattle.demands.specs.Inputs.{chosen, Accepted, textOk, AcceptedQuestion, conceptOf}
 use Rattle.demands.specs.Examples.{Example, compared, asked, Holds, sameBytes, passes, examples}
 use Rattle.demands.proofs.Files.{comparison-bytes, question-answer}
 
@@ -40,17 +40,17 @@ passes-holds (compared s t g r) h =
     record { accepted = given; bytes = rw e at (comparison-bytes given) }
 passes-holds (asked s c d v) h =
     let a = and-right (eqb (fault s) 0) _ h in
-    let b = and-right (conceptOk (namesOf s) (rolesOf s) c) _ a in
+    let b = and-right (textOk s c) _ a in
     let given : AcceptedQuestion s c d = record {
       release = eqb-true (fault s) 0 (and-left (eqb (fault s) 0) _ h);
-      below = and-left (conceptOk (namesOf s) (rolesOf s) c) _ a;
-      above = and-left (conceptOk (namesOf s) (rolesOf s) d) _ b;
+      below = and-left (textOk s c) _ a;
+      above = and-left (textOk s d) _ b;
     } in
-    let e = eqb-true (pick (isIncluded (namesOf s) (axiomsOf s) (conceptOf s c) (conceptOf s d)) 1 0) v (and-right (conceptOk (namesOf s) (rolesOf s) d) _ b) in
+    let e = eqb-true (pick (isIncluded (namesOf s) (axiomsOf s) (conceptOf s c) (conceptOf s d)) 1 0) v (and-right (textOk s d) _ b) in
     record { accepted = given; answer = rw e at (question-answer given) }
 
 all-pass : all passes examples ≡ true
-unfolding fault headerFault partsFault conjunctionFault restrictionFault tailFault axiomFault axiomAt axiomsFault axiomsFrom conjunctDefined signatureFault conceptOk
+unfolding number numbers widthOf namesOf rolesOf countOf fault headerFault partsFault conjunctionFault restrictionFault tailFault axiomFault axiomAt axiomsFault axiomsFrom conjunctDefined signatureFault conceptOk
 all-pass = refl
 
 -- P1 to P10

@@ -21,11 +21,11 @@ use Rattle.el.proofs.Nodes.{Comparable}
 use Rattle.el.proofs.Questions.{Scoped, tells-included}
 use Rattle.el.proofs.Answers as Answers
 use Rattle.el.proofs.Demand3 as Theory
-use Rattle.release.specs.Files.{namesOf, rolesOf, axiomsOf}
+use Rattle.release.specs.Files.{widthOf, namesOf, rolesOf, axiomsOf}
 use Rattle.release.proofs.Linked.{formed, terminology}
-use Rattle.concept.specs.Bytes.{isWithin, conceptOk, readConcept}
+use Rattle.concept.specs.Bytes.{isWithin}
 use Rattle.concept.proofs.Texts.{accepted-is-text}
-use Rattle.demands.specs.Inputs.{chosen, Accepted, AcceptedQuestion, conceptOf, Demand3}
+use Rattle.demands.specs.Inputs.{chosen, Accepted, textOk, AcceptedQuestion, conceptOf, Demand3}
 
 pub comparable : {s t g : List ℕ} → Accepted s t g → Comparable (namesOf s) (chosen s g) (axiomsOf s) (axiomsOf t)
 comparable {s} {t} {g} given = record {
@@ -56,5 +56,5 @@ told false t = record { small = omega arith; derivable = (λ e. absurd (omega ar
 pub question-answer : {s c d : List ℕ} → AcceptedQuestion s c d → IsAnswer (axiomsOf s) (conceptOf s c) (conceptOf s d) (pick (isIncluded (namesOf s) (axiomsOf s) (conceptOf s c) (conceptOf s d)) 1 0)
 question-answer {s} {c} {d} given = told _ (tells-included (formed s (given .release)) (terminology s (given .release)) (conceptOf s c) (conceptOf s d) (scoped c (given .below)) (scoped d (given .above)))
   where
-    scoped : (c : List ℕ) → conceptOk (namesOf s) (rolesOf s) c ≡ true → Scoped (namesOf s) (conceptOf s c)
-    scoped c h = within-scoped (namesOf s) (rolesOf s) (conceptOf s c) (accepted-is-text (namesOf s) (rolesOf s) c h .within)
+    scoped : (c : List ℕ) → textOk s c ≡ true → Scoped (namesOf s) (conceptOf s c)
+    scoped c h = within-scoped (namesOf s) (rolesOf s) (conceptOf s c) (accepted-is-text (widthOf s) (namesOf s) (rolesOf s) c h .within)

@@ -1,4 +1,4 @@
--- The worked examples P1 to P10 in one table: files, signatures and concepts as bytes, with what is to come out.
+-- The worked examples P1 to P10, some of them in both versions of the file, in one table: files, signatures and concepts as bytes, with what is to come out.
 --   Holds e        the input of the example e is accepted, and its outcome is the one written
 --   examples       the table
 --   passes e       the same tested, by the answers that crate el computes
@@ -13,8 +13,7 @@ use Rattle.el.specs.Comparison.{AreBytes}
 use Rattle.el.specs.Answers.{comparisonBytes, isIncluded}
 use Rattle.release.specs.Files.{fault, namesOf, rolesOf, axiomsOf}
 use Rattle.signature.specs.Bytes.{signatureFault}
-use Rattle.concept.specs.Bytes.{conceptOk}
-use Rattle.demands.specs.Inputs.{chosen, Accepted, AcceptedQuestion, conceptOf}
+use Rattle.demands.specs.Inputs.{chosen, Accepted, textOk, AcceptedQuestion, conceptOf}
 
 pub data Example : Type 0 where
   compared : (first second signature result : List ℕ) → Example
@@ -32,13 +31,16 @@ abbrev pub Holds : Example → Type 0
 Holds (compared s t g r) = Compared s t g r
 Holds (asked s c d v) = Asked s c d v
 
--- the files: ELT, version 1, n, m, the count of axioms, the axioms
+-- the files: ELT, version, n, m, the count of axioms, the axioms; those of version 2 end in `-wide`
 -- A ≡ B1 ⊓ B2; A ≡ B1 ⊓ B′
 abbrev conjunction-1 : List ℕ
 conjunction-1 = 0x45 ∷ 0x4C ∷ 0x54 ∷ 1 ∷ 0 ∷ 4 ∷ 0 ∷ 1 ∷ 0 ∷ 2 ∷ 2 ∷ 1 ∷ 2 ∷ []
 
 abbrev conjunction-2 : List ℕ
 conjunction-2 = 0x45 ∷ 0x4C ∷ 0x54 ∷ 1 ∷ 0 ∷ 4 ∷ 0 ∷ 1 ∷ 0 ∷ 2 ∷ 2 ∷ 1 ∷ 3 ∷ []
+
+abbrev conjunction-1-wide : List ℕ
+conjunction-1-wide = 0x45 ∷ 0x4C ∷ 0x54 ∷ 2 ∷ 0 ∷ 4 ∷ 0 ∷ 0 ∷ 1 ∷ 0 ∷ 0 ∷ 0 ∷ 2 ∷ 2 ∷ 1 ∷ 0 ∷ 2 ∷ 0 ∷ []
 
 -- A ⊑ ∃r.X, X ⊑ A ⊓ B; A ⊑ X ⊓ Y, X ⊑ ∃r.A, Y ⊑ ∃r.B
 abbrev jointly-1 : List ℕ
@@ -57,6 +59,9 @@ circle-2 = 0x45 ∷ 0x4C ∷ 0x54 ∷ 1 ∷ 0 ∷ 2 ∷ 1 ∷ 2 ∷ 0 ∷ 3 ∷ 
 abbrev chain-2 : List ℕ
 chain-2 = 0x45 ∷ 0x4C ∷ 0x54 ∷ 1 ∷ 0 ∷ 2 ∷ 1 ∷ 2 ∷ 0 ∷ 3 ∷ 0 ∷ 1 ∷ 1 ∷ 3 ∷ 0 ∷ 255 ∷ []
 
+abbrev chain-2-wide : List ℕ
+chain-2-wide = 0x45 ∷ 0x4C ∷ 0x54 ∷ 2 ∷ 0 ∷ 2 ∷ 0 ∷ 1 ∷ 2 ∷ 0 ∷ 0 ∷ 0 ∷ 3 ∷ 0 ∷ 1 ∷ 0 ∷ 1 ∷ 0 ∷ 3 ∷ 0 ∷ 255 ∷ 255 ∷ []
+
 -- A ≡ ∃r.X, X ≡ ∃s.X; A ⊑ ∃r.X, X ≡ ∃s.X
 abbrev endless-1 : List ℕ
 endless-1 = 0x45 ∷ 0x4C ∷ 0x54 ∷ 1 ∷ 0 ∷ 2 ∷ 2 ∷ 2 ∷ 0 ∷ 4 ∷ 0 ∷ 1 ∷ 1 ∷ 4 ∷ 1 ∷ 1 ∷ []
@@ -73,6 +78,9 @@ examples =
     -- P1, P2
     compared conjunction-1 conjunction-2 (1 ∷ 1 ∷ 1 ∷ 0 ∷ []) (3 ∷ 0 ∷ 2 ∷ 0 ∷ [])
     ∷ compared conjunction-2 conjunction-1 (1 ∷ 1 ∷ 1 ∷ 0 ∷ []) (0 ∷ 0 ∷ 0 ∷ 0 ∷ [])
+    -- P1 with the first file in version 2, and its two versions against each other
+    ∷ compared conjunction-1-wide conjunction-2 (1 ∷ 1 ∷ 1 ∷ 0 ∷ []) (3 ∷ 0 ∷ 2 ∷ 0 ∷ [])
+    ∷ compared conjunction-1 conjunction-1-wide (1 ∷ 1 ∷ 1 ∷ 0 ∷ []) (0 ∷ 0 ∷ 0 ∷ 0 ∷ [])
     -- P3, P4
     ∷ compared jointly-1 jointly-2 (1 ∷ 1 ∷ 0 ∷ 0 ∷ 1 ∷ []) (1 ∷ 0 ∷ 0 ∷ 0 ∷ [])
     ∷ compared jointly-2 jointly-1 (1 ∷ 1 ∷ 0 ∷ 0 ∷ 1 ∷ []) (0 ∷ 0 ∷ 0 ∷ 0 ∷ [])
@@ -82,6 +90,9 @@ examples =
     -- P6, P7
     ∷ compared circle-1 chain-2 (1 ∷ 0 ∷ 1 ∷ []) (1 ∷ 0 ∷ [])
     ∷ compared circle-1 chain-2 (1 ∷ 0 ∷ 0 ∷ []) (0 ∷ 0 ∷ [])
+    -- P6 with the second file in version 2, and its two versions against each other
+    ∷ compared circle-1 chain-2-wide (1 ∷ 0 ∷ 1 ∷ []) (1 ∷ 0 ∷ [])
+    ∷ compared chain-2-wide chain-2 (1 ∷ 1 ∷ 1 ∷ []) (0 ∷ 0 ∷ [])
     -- P8, each order; P9
     ∷ compared endless-1 endless-2 (1 ∷ 0 ∷ 1 ∷ 1 ∷ []) (0 ∷ 0 ∷ [])
     ∷ compared endless-2 endless-1 (1 ∷ 0 ∷ 1 ∷ 1 ∷ []) (0 ∷ 0 ∷ [])
@@ -100,4 +111,4 @@ sameBytes (x ∷ xs) (y ∷ ys) = eqb x y && sameBytes xs ys
 
 abbrev pub passes : Example → Bool
 passes (compared s t g r) = eqb (fault s) 0 && (eqb (fault t) 0 && (eqb (namesOf s) (namesOf t) && (eqb (rolesOf s) (rolesOf t) && (eqb (signatureFault (namesOf s) (rolesOf s) g) 0 && sameBytes (comparisonBytes (namesOf s) (chosen s g) (axiomsOf s) (axiomsOf t)) r))))
-passes (asked s c d v) = eqb (fault s) 0 && (conceptOk (namesOf s) (rolesOf s) c && (conceptOk (namesOf s) (rolesOf s) d && eqb (pick (isIncluded (namesOf s) (axiomsOf s) (conceptOf s c) (conceptOf s d)) 1 0) v))
+passes (asked s c d v) = eqb (fault s) 0 && (textOk s c && (textOk s d && eqb (pick (isIncluded (namesOf s) (axiomsOf s) (conceptOf s c) (conceptOf s d)) 1 0) v))
