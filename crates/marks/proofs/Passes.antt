@@ -19,7 +19,7 @@ use native.Mathlib.Omega.{arith}
 use native.Mathlib.Decide.{ℕ-discrete, decLt}
 use Rattle.el.proofs.Tests.{Tells}
 use Rattle.marks.specs.declared.Square.{Square}
-use Rattle.marks.specs.Squares.{place, Room, Marked, Unmarked, Frame, Put, Within, NextMarked, unset}
+use Rattle.marks.specs.Squares.{place, Room, Marked, Unmarked, Frame, Put, Kept, Within, NextMarked, unset}
 use Rattle.marks.specs.Passes.{Grows, none, more, Pass, Closed, Below, Due, AllGood, FromRow}
 use Rattle.marks.proofs.Squares.{not-true, not-false, refuted, frame-same, frame-further, frame-room, hand-byte}
 use Rattle.marks.proofs.Bits.{orAt}
@@ -95,6 +95,9 @@ module _ {Rule : List ℕ → ℕ → ℕ → Type 0} {q : Square} where
 
   pub put-grows : {x y : ℕ} {w v : List ℕ} {r : Bool} → Put q x y w v r → Rule w x y → Grows Rule q w v
   put-grows {w = w} {v = v} p e = more w v none (p .extends) (λ a b i j m. elim (p .only a b i j m) [ inl k ↦ inl k | inr k ↦ inr (rw (k .0, k .1) e) ])
+
+  pub kept-grows : {w v : List ℕ} → Kept q w v → Grows Rule q w v
+  kept-grows {w} {v} k = more w v none (k .extends) (λ a b i j m. inl (k .marks a b i j m))
 
   pub put-pass : {x y : ℕ} {w v : List ℕ} {r : Bool} → Put q x y w v r → Rule w x y → Pass Rule q (λ u. Marked q u x y) w v r
   put-pass p e = record { grows = put-grows p e; fewer = p .less; same = p .same; done = λ k. p .there }

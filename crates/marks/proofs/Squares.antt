@@ -12,7 +12,7 @@ use mathlib.Core.Bool.{Bool, true, false, false≢true}
 use mathlib.Core.List.{List}
 use mathlib.Core.Logic.{_⊎_, inl, inr}
 use Prim.Native.Nat.{ℕ, suc, _+_, _*_, _/_, _%_, _^_, _≤_, _<_}
-use native.Mathlib.Nat.{mul-le-mul, mul-le-mul-right, suc-mul, mod-lt, zero-lt-suc}
+use native.Mathlib.Nat.{mul-le-mul, mul-le-mul-right, mul-left-comm, suc-mul, mod-lt, zero-lt-suc}
 use native.Mathlib.Numerals.{add-one}
 use native.Mathlib.Omega.{arith}
 use native.Mathlib.Decide.{ℕ-discrete, decLt}
@@ -21,7 +21,7 @@ use lib.Seq.{getD-set-same, getD-set-other}
 use lib.Bits.{bitOr, bitXor}
 use Rattle.el.proofs.Tests.{Tells, always, never}
 use Rattle.marks.specs.declared.Square.{Square}
-use Rattle.marks.specs.Squares.{bit, width, span, size, place, unset, mostNames, mostCells, farthest, Place, Room, Marked, Unmarked, Apart, Frame, Extends, Put, Within, NextMarked, NextUnmarked, Zeroed}
+use Rattle.marks.specs.Squares.{bit, width, span, size, place, unset, behind, Area, Lent, Small, mostNames, mostCells, farthest, Place, Room, Marked, Unmarked, Apart, Behind, Touches, Frame, Extends, Put, Hints, Kept, Within, NextMarked, NextUnmarked, Zeroed}
 use Rattle.marks.proofs.Bits.{bit-same, bit-other, both-zero, within-byte, no-high-bit, high-bits, bit-of-zero, orAt, or-stays, or-has, or-only, or-fewer, or-less}
 
 pub not-true : {A : Type 0} → true ≡ false → A
@@ -64,6 +64,12 @@ column-byte n y h = omega arith
 pub frame-room : {p q : Square} {w v : List ℕ} → Frame q w v → Room p w → Room p v
 frame-room f r = record { small = r .small; fits = omega (arith, r .fits, f .long) }
 
+pub frame-area : {p q : Square} {w v : List ℕ} → Frame q w v → Area p w → Area p v
+frame-area f a = record { room = frame-room f (a .room); lent = omega (arith, a .lent, f .long); near = a .near }
+
+pub frame-lent : {p q : Square} {w v : List ℕ} → Frame q w v → Lent p w → Lent p v
+frame-lent f l = record { area = frame-area f (l .area); roomy = l .roomy }
+
 pub frame-same : {q : Square} {w : List ℕ} → Frame q w w
 frame-same = record { long = refl; before = λ i h. refl; past = λ i h. refl }
 
@@ -73,13 +79,28 @@ frame-further f g = record { long = g .long ∙ f .long; before = λ i h. g .bef
 pub extends-same : {q : Square} {w : List ℕ} → Extends q w w
 extends-same = record { frame = frame-same; stays = λ x y m. m; fewer = omega arith }
 
+pub touches-frame : {q : Square} {w v : List ℕ} → Touches q w v → Frame q w v
+touches-frame {q} t = record { long = t .long; before = t .before; past = λ i h. t .past i (omega (arith, span-size (q .names))) }
+
+pub touches-room : {p q : Square} {w v : List ℕ} → Touches q w v → Room p w → Room p v
+touches-room t r = record { small = r .small; fits = omega (arith, r .fits, t .long) }
+
+pub touches-same : {q : Square} {w : List ℕ} → Touches q w w
+touches-same = record { long = refl; before = λ i h. refl; past = λ i h. refl }
+
+pub touches-further : {q : Square} {u w v : List ℕ} → Touches q u w → Touches q w v → Touches q u v
+touches-further f g = record { long = g .long ∙ f .long; before = λ i h. g .before i h ∙ f .before i h; past = λ i h. g .past i h ∙ f .past i h }
+
+pub set-touches : {q : Square} (w : List ℕ) (i b : ℕ) → q .base ≤ i → i < q .base + span (q .names) → Touches q w (set w i b)
+set-touches w i b f l = record {
+  long = length-set w i b;
+  before = λ j h. getD-set-other w i j b 0 (λ e. omega arith);
+  past = λ j h. getD-set-other w i j b 0 (λ e. omega arith);
+}
+
 pub or-extends : {q : Square} (w : List ℕ) (i m : ℕ) → q .base ≤ i → i < q .base + span (q .names) → i < length w → Extends q w (orAt w i m)
 or-extends w i m f b l = record {
-  frame = record {
-    long = length-set w i (bitOr (getD w i 0) m);
-    before = λ j h. getD-set-other w i j (bitOr (getD w i 0) m) 0 (λ e. omega arith);
-    past = λ j h. getD-set-other w i j (bitOr (getD w i 0) m) 0 (λ e. omega arith);
-  };
+  frame = touches-frame (set-touches w i (bitOr (getD w i 0) m) f b);
   stays = λ x y k. record { is = or-stays w i m _ _ l (k .is) };
   fewer = or-fewer w i m;
 }
@@ -172,6 +193,32 @@ module _ (q : Square) where
       source-place : (y : ℕ) → y / 8 ≡ i → source + i ≡ place q from y
       source-place y e = ap (λ (z : ℕ). z + i) s ∙ ap (λ (z : ℕ). place q from 0 + z) (sym e) ∙ place-column from y
 
+-- squares behind a square
+pub behind-small : {q : Square} {k r : ℕ} → Small q × (k ≤ 4) → r ≡ width (q .names) → ((q .names + 1) * r ≤ mostCells) × (k * ((q .names + 1) * r) ≤ 4 * mostCells)
+unfolding width
+behind-small {q} {k} {r} h e =
+    let w : r ≤ suc mostNames = omega (arith, h .0 .few) in
+    let a : (q .names + 1) * r ≤ mostCells = mul-le-mul {n₂ = suc mostNames} {m₂ = suc mostNames} (omega (arith, h .0 .few)) w in
+    (a, mul-le-mul {n₂ = 4} {m₂ = mostCells} (h .1) a)
+
+pub behind-is : (q : Square) (k : ℕ) {r : ℕ} → r ≡ width (q .names) → record { base = q .base + k * ((q .names + 1) * r); names = q .names } ≡ behind q k
+unfolding behind span
+behind-is q k e = rw (e, add-one)
+
+pub roomy : (n : ℕ) {r : ℕ} → r ≡ width n → 5 * r ≤ n + 1 → 5 * span n ≤ size n
+unfolding span size
+roomy n {r} e h =
+    let l : 5 * width n ≤ suc n = omega arith in
+    omega (arith, mul-le-mul {n₁ = suc n} {m₁ = 5 * width n} {n₂ = suc n} {m₂ = suc n} (omega arith) l, mul-left-comm 5 (suc n) (width n))
+
+pub lent-behind : {q : Square} {w : List ℕ} (k : ℕ) → 1 ≤ k → k ≤ 4 → Lent q w → Behind q (behind q k)
+unfolding behind
+lent-behind {q} k l h lent = record { same = refl; after = omega (arith, mul-le-mul-right (span (q .names)) l); inside = omega (arith, mul-le-mul-right (span (q .names)) h, lent .roomy) }
+
+pub lent-room : {q : Square} {w : List ℕ} (k : ℕ) → k ≤ 4 → Lent q w → Room (behind q k) w
+unfolding behind
+lent-room {q} k h lent = record { small = record { few = lent .area .room .small .few; near = omega (arith, mul-le-mul-right (span (q .names)) h, lent .roomy, lent .area .near) }; fits = omega (arith, mul-le-mul-right (span (q .names)) h, lent .roomy, lent .area .lent) }
+
 span-small : (n : ℕ) → n ≤ mostNames → span n ≤ mostCells
 unfolding size
 span-small n h = omega (arith, span-size n, size-small n h, size-is n)
@@ -233,6 +280,16 @@ module _ {q : Square} {w : List ℕ} {x from : ℕ} where
   pub unmarked-none : {y : ℕ} → from ≤ suc (q .names) → AllBefore q w x from y → q .names < y → NextUnmarked q w x from (q .names + 1)
   unmarked-none f n l = record { after = omega arith; inside = omega arith; all = λ z h k. n .all z h (omega arith) (omega arith); found = λ h. absurd (omega arith) }
 
+-- hints
+pub hints-none : {p : Square} {w : List ℕ} → Hints p w w
+hints-none = record { touches = touches-same; stays = λ i k h. h; fewer = omega arith }
+
+pub hints-further : {p : Square} {u w v : List ℕ} → Hints p u w → Hints p w v → Hints p u v
+hints-further f g = record { touches = touches-further (f .touches) (g .touches); stays = λ i k h. g .stays i k (f .stays i k h); fewer = omega (arith, f .fewer, g .fewer) }
+
+pub or-hints : {p : Square} (w : List ℕ) (i m : ℕ) → p .base ≤ i → i < p .base + span (p .names) → i < length w → Hints p w (orAt w i m)
+or-hints w i m f b l = record { touches = set-touches w i _ f b; stays = λ j k h. or-stays w i m j k l h; fewer = or-fewer w i m }
+
 -- one cell
 pub column-bit : (y : ℕ) → y % 8 < 8
 column-bit y = mod-lt y (zero-lt-suc 7)
@@ -258,7 +315,7 @@ module _ {q : Square} {x y i : ℕ} (w : List ℕ) (p : Place q x y i) where
 
   pub put-found : getD w i 0 / 2 ^ (y % 8) % 2 ≡ 1 → Put q x y w w false
   unfolding bit
-  put-found h = record { extends = extends-same; there = byte-marked h; only = λ a b k l m. inl m; less = λ e. not-false e; fresh = λ e. not-false e; same = λ e. refl }
+  put-found h = record { extends = extends-same; hints = hints-none; there = byte-marked h; only = λ a b k l m. inl m; less = λ e. not-false e; fresh = λ e. not-false e; same = λ e. refl }
 
   unset-bit : (getD w i 0 / 2 ^ (y % 8) % 2 ≡ 1 → ⊥) → bit (getD w i 0) (y % 8) ≡ 1 → ⊥
   unfolding bit
@@ -267,6 +324,7 @@ module _ {q : Square} {x y i : ℕ} (w : List ℕ) (p : Place q x y i) where
   pub put-fresh : Room q w → y ≤ q .names → (getD w i 0 / 2 ^ (y % 8) % 2 ≡ 1 → ⊥) → Put q x y w (orAt w i (mask y)) true
   put-fresh room yb h = record {
     extends = or-extends w i (mask y) (rw (p .is) (place-from q x y)) (p .below) inside;
+    hints = or-hints w i (mask y) (rw (p .is) (place-from q x y)) (p .below) inside;
     there = record { is = rw (← p .is) (or-has w i (mask y) (y % 8) inside (bit-same (y % 8) (column-bit y))) };
     only = λ a b k l m. elim (or-only w i (mask y) _ _ inside (m .is)) [ inl z ↦ inl (record { is = z }) | inr z ↦ inr (by-bit a b l (z .0 ∙ p .is) (z .1) (ℕ-discrete (b % 8) (y % 8))) ];
     less = λ e. or-less w i (mask y) (y % 8) inside (column-bit y) (unset-bit h) (bit-same (y % 8) (column-bit y));
@@ -281,6 +339,33 @@ module _ {q : Square} {x y i : ℕ} (w : List ℕ) (p : Place q x y i) where
       by-bit a b l e m (yes z) = place-same q a b x y l yb e z
       by-bit a b l e m (no z) = absurd (omega (arith, bit-other (y % 8) (b % 8) (column-bit y) z))
 
+-- behind the rows of a square they change none of its marks
+module _ {q p : Square} {w v : List ℕ} (behind : Behind q p) (hints : Hints p w v) where
+  hint-span : span (p .names) ≡ span (q .names)
+  hint-span = ap span (behind .same)
+
+  pub hints-extend : Extends q w v
+  hints-extend = record {
+    frame = record { long = hints .touches .long; before = λ i h. hints .touches .before i (omega (arith, behind .after)); past = λ i h. hints .touches .past i (omega (arith, behind .inside, hint-span)) };
+    stays = λ x y m. record { is = hints .stays _ _ (m .is) };
+    fewer = hints .fewer;
+  }
+
+  pub no-marks : (x y : ℕ) → x ≤ q .names → y ≤ q .names → Marked q v x y → Marked q w x y
+  no-marks x y h l m = record { is = rw (← hints .touches .before (place q x y) (omega (arith, behind .after, place-below q x y h l))) (m .is) }
+
+pub hints-kept : {q p : Square} {w v : List ℕ} → Behind q p → Hints p w v → Kept q w v
+hints-kept behind hints = record { extends = hints-extend behind hints; marks = no-marks behind hints }
+
+pub kept-same : {q : Square} {w : List ℕ} → Kept q w w
+kept-same = record { extends = extends-same; marks = λ x y h l m. m }
+
+pub kept-further : {q : Square} {u w v : List ℕ} → Kept q u w → Kept q w v → Kept q u v
+kept-further f g = record {
+  extends = record { frame = frame-further (f .extends .frame) (g .extends .frame); stays = λ x y m. g .extends .stays x y (f .extends .stays x y m); fewer = omega (arith, f .extends .fewer, g .extends .fewer) };
+  marks = λ x y h l m. f .marks x y h l (g .marks x y h l m);
+}
+
 -- a square p apart from the one that changed
 module _ {p q : Square} {w v : List ℕ} (f : Frame q w v) (apart : Apart p q) {x y : ℕ} (h : x ≤ p .names) (l : y ≤ p .names) where
   byte-stays : getD v (place p x y) 0 ≡ getD w (place p x y) 0
@@ -291,6 +376,21 @@ module _ {p q : Square} {w v : List ℕ} (f : Frame q w v) (apart : Apart p q) {
 
   pub marked-frame : Marked p v x y → Marked p w x y
   marked-frame m = record { is = rw (← byte-stays) (m .is) }
+
+-- rows set to 0, byte after byte
+pub record RowsZero (q : Square) (w v : List ℕ) (i : ℕ) : Type 0 where
+  pub touches : Touches q w v
+  pub zero : (j : ℕ) → q .base ≤ j → j < q .base + i → getD v j 0 ≡ 0
+
+pub rows-none : {q : Square} {w : List ℕ} → RowsZero q w w 0
+rows-none = record { touches = touches-same; zero = λ j h l. absurd (omega arith) }
+
+pub rows-more : {q : Square} {w v : List ℕ} {i : ℕ} → Room q w → i < span (q .names) → RowsZero q w v i → RowsZero q w (set v (q .base + i) 0) (i + 1)
+rows-more {q} {w} {v} {i} room l z = record { touches = touches-further (z .touches) (set-touches v (q .base + i) 0 (omega arith) (omega arith)); zero = λ j h k. by-place j h k (ℕ-discrete j (q .base + i)) }
+  where
+    by-place : (j : ℕ) → q .base ≤ j → j < q .base + (i + 1) → Dec (j ≡ q .base + i) → getD (set v (q .base + i) 0) j 0 ≡ 0
+    by-place j h k (yes e) = rw e (getD-set-same v (q .base + i) 0 0 (omega (arith, room .fits, z .touches .long)))
+    by-place j h k (no e) = getD-set-other v (q .base + i) j 0 0 e ∙ z .zero j h (omega arith)
 
 -- zeroed memory
 pub zeroed-none : {w : List ℕ} → Zeroed 0 w w
@@ -314,3 +414,28 @@ zeroed-unmarked {k} {q} z r = record { none = λ x y h l m. zero-unmarked (z .ze
 
 pub frame-unmarked : {p q : Square} {w v : List ℕ} → Frame q w v → Apart p q → Unmarked p w → Unmarked p v
 frame-unmarked f apart u = record { none = λ x y h l m. u .none x y h l (marked-frame f apart h l m) }
+
+-- a byte of a row of hints, with more bits
+pub hints-more : {p : Square} {w₀ w : List ℕ} {x row i : ℕ} (m : ℕ) → Room p w₀ → x ≤ p .names → i ≤ p .names / 8 → Place p x 0 row → Hints p w₀ w → Hints p w₀ (orAt w (row + i) m)
+hints-more {p} {w = w} {x = x} {row = row} {i = i} m room h l at hints =
+    let e : row + i ≡ place p x 0 + i = ap (λ (z : ℕ). z + i) (at .is) in
+    hints-further hints (or-hints w (row + i) m (omega (arith, place-from p x 0)) (omega (arith, row-byte p x i h l)) (omega (arith, row-byte p x i h l, room .fits, hints .touches .long)))
+
+pub rows-unmarked : {q : Square} {w v : List ℕ} {i : ℕ} → span (q .names) ≤ i → RowsZero q w v i → Unmarked q v
+rows-unmarked {q} h z = record { none = λ x y k l m. zero-unmarked (z .zero (place q x y) (place-from q x y) (omega (arith, place-below q x y k l))) m }
+
+pub span-is : (n : ℕ) {r : ℕ} → r ≡ width n → (n + 1) * r ≡ span n
+unfolding span
+span-is n e = rw (e, add-one)
+
+-- the k-th square of hints
+module _ {q p : Square} {w : List ℕ} {k : ℕ} (area : Area q w) (roomy : 5 * span (q .names) ≤ size (q .names)) (few : k ≤ 4) (is : p ≡ behind q k) where
+  pub hint-room : Room p w
+  hint-room = rw is (lent-room k few (record { area = area; roomy = roomy }))
+
+  pub hint-kept : {v : List ℕ} → 1 ≤ k → Hints p w v → Kept q w v
+  hint-kept l h = hints-kept (rw is (lent-behind k l few (record { area = area; roomy = roomy }))) h
+
+pub hint-names : (q : Square) (k : ℕ) {p : Square} → p ≡ behind q k → p .names ≡ q .names
+unfolding behind
+hint-names q k e = ap (λ (z : Square). z .names) e

@@ -74,7 +74,7 @@ GivesOthers p q = Others (λ c x w. Within q x c w) p
 -- what the functions ask: two squares of the same size, which is at most that of a line
 pub record Alike (p q : Square) : Type 0 where
   pub same : q .names ≡ p .names
-  pub few : p .names ≤ 127
+  pub few : p .names ≤ 1023
 
 pub record TurnedBelow (q : Square) (w : List ℕ) (p : Square) (t : List ℕ) (k : ℕ) : Type 0 where
   pub to : (x y : ℕ) → x < k → x ≤ q .names → y ≤ q .names → Marked q w x y → Marked p t y x

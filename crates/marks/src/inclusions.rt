@@ -125,7 +125,7 @@ fn take_in_order(
     inclusions: Square,
     marks: Square,
     done: &mut [u8],
-    order: &[u8; Order::NODES],
+    order: &[u16; Order::NODES],
 ) -> bool
     requires { ⌜ Room inclusions (now work) × Room marks (now work) ⌝ }
     requires { ⌜ Alike inclusions marks ⌝ }
@@ -174,7 +174,7 @@ pub fn take_all(
     work: &mut [u8],
     inclusions: Square,
     marks: Square,
-    order: &[u8; Order::NODES],
+    order: &[u16; Order::NODES],
 ) -> bool
     requires { ⌜ Room inclusions (now work) × Room marks (now work) ⌝ }
     requires { ⌜ Alike inclusions marks ⌝ }
@@ -285,7 +285,7 @@ fn give_in_order(
     inclusions: Square,
     marks: Square,
     done: &mut [u8],
-    order: &[u8; Order::NODES],
+    order: &[u16; Order::NODES],
 ) -> bool
     requires { ⌜ Room inclusions (now work) × Room marks (now work) ⌝ }
     requires { ⌜ Alike inclusions marks ⌝ }
@@ -334,7 +334,7 @@ pub fn give_all(
     work: &mut [u8],
     inclusions: Square,
     marks: Square,
-    order: &[u8; Order::NODES],
+    order: &[u16; Order::NODES],
 ) -> bool
     requires { ⌜ Room inclusions (now work) × Room marks (now work) ⌝ }
     requires { ⌜ Alike inclusions marks ⌝ }

@@ -1,11 +1,12 @@
 // Squares of marks in lent memory, a bit a cell. Nothing here knows what a mark means.
 ghost use mathlib.Core.Path.{_≡_};
 ghost use mathlib.Core.Bool.{true};
-ghost use Prim.Native.Nat.{_≤_};
+ghost use Prim.Native.Nat.{_*_, _≤_};
 ghost use lib.ListN.{length};
 ghost use Rattle.el.proofs.Tests.{Tells};
-ghost use Rattle.marks.specs.Squares.{size, width, mostNames, mostCells, Small, Place, Room, Marked, Put, Zeroed};
+ghost use Rattle.marks.specs.Squares.{size, span, behind, Unmarked, Touches, width, mostNames, mostCells, Small, Place, Room, Marked, Put, Zeroed};
 
+pub mod hints;
 pub mod inclusions;
 pub mod line;
 pub mod order;
@@ -69,12 +70,46 @@ pub fn mark(work: &mut [u8], square: Square, x: usize, y: usize) -> bool
     true
 }
 
+// The k-th square behind a square, in the memory that is lent for it: room for hints.
+pub fn behind(square: Square, k: usize) -> Square
+    requires { ⌜ Small square × (k ≤ 4) ⌝ }
+    ensures { λ r. ⌜ r ≡ behind square k ⌝ }
+{
+    let width = width(square.names);
+    Square {
+        base: square.base + k * ((square.names + 1) * width),
+        names: square.names,
+    }
+}
+
+// Whether there is room for four squares behind one. It lacks only for a few numbers of names that are small.
+pub fn is_roomy(names: usize) -> bool
+    requires { ⌜ names ≤ mostNames ⌝ }
+    ensures { λ r. ⌜ (r ≡ true → 5 * span names ≤ size names) ⌝ }
+{
+    5 * width(names) <= names + 1
+}
+
 // The number of cells of a square.
 pub fn size(names: usize) -> usize
     requires { ⌜ names ≤ mostNames ⌝ }
     ensures { λ r. ⌜ (r ≡ size names) × (r ≤ mostCells) ⌝ }
 {
     (names + 1) * (names + 1)
+}
+
+// Sets the rows of a square to 0.
+pub fn clear_rows(work: &mut [u8], square: Square)
+    requires { ⌜ Room square (now work) ⌝ }
+    ensures { λ _. ⌜ Touches square (now (work .entry)) (now (work .exit)) × Unmarked square (now (work .exit)) ⌝ }
+{
+    let width = width(square.names);
+    let span = (square.names + 1) * width;
+    let mut i = 0;
+    while i < span {
+        work[square.base + i] = 0;
+        i += 1;
+    }
 }
 
 // Sets the first `count` bytes to 0.

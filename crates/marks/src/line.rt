@@ -19,9 +19,9 @@ use crate::words::rest;
 pub struct Line {}
 
 impl Line {
-    pub const COLUMNS: usize = 128;
+    pub const COLUMNS: usize = 1024;
 
-    pub const LENGTH: usize = 16;
+    pub const LENGTH: usize = 128;
 }
 
 // Whether a line has a column.

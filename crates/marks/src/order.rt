@@ -10,29 +10,29 @@ use crate::line::Line;
 pub struct Order {}
 
 impl Order {
-    pub const NODES: usize = 128;
+    pub const NODES: usize = 1024;
 
     // more than there are turns: a node is put on the stack once and taken off once
-    pub const TURNS: usize = 1024;
+    pub const TURNS: usize = 8192;
 
-    pub const NONE: u8 = 255;
+    pub const NONE: u16 = 65535;
 }
 
-fn wide(x: u8) -> usize
+fn wide(x: u16) -> usize
     ensures { λ r. ⌜ r ≡ x ⌝ }
 {
     x as usize
 }
 
-fn narrow(x: usize) -> u8
-    requires { ⌜ x ≤ 255 ⌝ }
+fn narrow(x: usize) -> u16
+    requires { ⌜ x ≤ 65535 ⌝ }
     ensures { λ r. ⌜ r ≡ x ⌝ }
 {
-    x as u8
+    x as u16
 }
 
 // The node at a place, or a number that is none.
-pub fn at(order: &[u8; Order::NODES], place: usize) -> usize {
+pub fn at(order: &[u16; Order::NODES], place: usize) -> usize {
     if place < Order::NODES {
         return wide(order[place]);
     }
@@ -40,7 +40,7 @@ pub fn at(order: &[u8; Order::NODES], place: usize) -> usize {
 }
 
 // Puts a node at a place. Out of range nothing happens.
-pub fn put(order: &mut [u8; Order::NODES], place: usize, node: usize) {
+pub fn put(order: &mut [u16; Order::NODES], place: usize, node: usize) {
     if place < Order::NODES {
         if node < Order::NODES {
             order[place] = narrow(node);
@@ -53,13 +53,13 @@ pub fn put(order: &mut [u8; Order::NODES], place: usize, node: usize) {
 fn next(
     work: &[u8],
     square: Square,
-    before: &[u8; Order::NODES],
+    before: &[u16; Order::NODES],
     met: &[u8; Line::LENGTH],
     x: usize,
     from: usize,
 ) -> usize
     requires { ⌜ Room square (now work) ⌝ }
-    requires { ⌜ (x ≤ square .names) × (square .names ≤ 127) ⌝ }
+    requires { ⌜ (x ≤ square .names) × (square .names ≤ 1023) ⌝ }
 {
     let node = at(before, x);
     if node <= square.names {
@@ -80,7 +80,7 @@ fn next_marked(
     from: usize,
 ) -> usize
     requires { ⌜ Room square (now work) ⌝ }
-    requires { ⌜ (x ≤ square .names) × (square .names ≤ 127) ⌝ }
+    requires { ⌜ (x ≤ square .names) × (square .names ≤ 1023) ⌝ }
 {
     if from <= square.names {
         return line::next_outside(work, square, x, met, from);
@@ -92,15 +92,15 @@ fn next_marked(
 pub fn sort(
     work: &[u8],
     square: Square,
-    before: &[u8; Order::NODES],
-    order: &mut [u8; Order::NODES],
+    before: &[u16; Order::NODES],
+    order: &mut [u16; Order::NODES],
 )
     requires { ⌜ Room square (now work) ⌝ }
-    requires { ⌜ square .names ≤ 127 ⌝ }
+    requires { ⌜ square .names ≤ 1023 ⌝ }
 {
     let mut met = [0u8; Line::LENGTH];
-    let mut stack = [0u8; Order::NODES];
-    let mut columns = [0u8; Order::NODES];
+    let mut stack = [0u16; Order::NODES];
+    let mut columns = [0u16; Order::NODES];
     let mut depth = 0;
     let mut count = 0;
     let mut root = 0;

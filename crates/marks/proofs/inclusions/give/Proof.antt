@@ -27,7 +27,7 @@ same-length : tie.Need-same-length
 same-length c = search needs
 
 returns : tie.Need-returns
-returns c = pass-both (λ n o. near-others (empty-zeros 16) n o) (c .before .before .before .before .before .before .before .before .before .give-near .ensures) (c .before .before .before .give-others .ensures)
+returns c = pass-both (λ n o. near-others (empty-zeros 128) n o) (c .before .before .before .before .before .before .before .before .before .give-near .ensures) (c .before .before .before .give-others .ensures)
 
 pub give-spec : {M : Type 1} → statement M
 give-spec =

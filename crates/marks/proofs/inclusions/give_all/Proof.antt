@@ -14,7 +14,7 @@ slice-aggregate-give-in-order : tie.Need-slice-aggregate-give-in-order
 slice-aggregate-give-in-order c = search needs
 
 give-in-order-requires : tie.Need-give-in-order-requires
-give-in-order-requires c κs = (c .before .before .before .pre .0, (c .before .before .before .pre .1, (record { inside = search needs }, empty-zeros 16)))
+give-in-order-requires c κs = (c .before .before .before .pre .0, (c .before .before .before .pre .1, (record { inside = search needs }, empty-zeros 128)))
 
 slice-aggregate-give-rest : tie.Need-slice-aggregate-give-rest
 slice-aggregate-give-rest c = search needs

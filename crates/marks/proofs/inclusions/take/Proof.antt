@@ -27,7 +27,7 @@ same-length : tie.Need-same-length
 same-length c = search needs
 
 returns : tie.Need-returns
-returns c = pass-both (λ n o. near-others (empty-zeros 16) n o) (c .before .before .before .before .before .before .before .before .before .take-near .ensures) (c .before .before .before .take-others .ensures)
+returns c = pass-both (λ n o. near-others (empty-zeros 128) n o) (c .before .before .before .before .before .before .before .before .before .take-near .ensures) (c .before .before .before .take-others .ensures)
 
 pub take-spec : {M : Type 1} → statement M
 take-spec =

@@ -14,7 +14,7 @@ slice-aggregate-take-in-order : tie.Need-slice-aggregate-take-in-order
 slice-aggregate-take-in-order c = search needs
 
 take-in-order-requires : tie.Need-take-in-order-requires
-take-in-order-requires c κs = (c .before .before .before .pre .0, (c .before .before .before .pre .1, (record { inside = search needs }, empty-zeros 16)))
+take-in-order-requires c κs = (c .before .before .before .pre .0, (c .before .before .before .pre .1, (record { inside = search needs }, empty-zeros 128)))
 
 slice-aggregate-take-rest : tie.Need-slice-aggregate-take-rest
 slice-aggregate-take-rest c = search needs

@@ -13,7 +13,7 @@ use Rattle.marks.proofs.order.next.Reads as next-reads
 use Rattle.marks.proofs.order.put.Reads as put-reads
 
 abbrev Inv-loop : tie.InvT-loop
-Inv-loop work square before order₀ met₀ stack₀ columns₀ depth₀ count₀ root₀ left₀ order met stack columns depth count root left = (left + depth ≤ 1024) × (left + count ≤ 1024) × (left + root ≤ 1024) × (length met ≡ 16)
+Inv-loop work square before order₀ met₀ stack₀ columns₀ depth₀ count₀ root₀ left₀ order met stack columns depth count root left = (left + depth ≤ 8192) × (left + count ≤ 8192) × (left + root ≤ 8192) × (length met ≡ 128)
 
 abbrev μ-loop : tie.MeasureT-loop
 μ-loop work square before order₀ met₀ stack₀ columns₀ depth₀ count₀ root₀ left₀ order met stack columns depth count root left = left
