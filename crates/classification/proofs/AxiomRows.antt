@@ -5,18 +5,16 @@
 use mathlib.Core.Path.{_≡_, refl, sym, ap, subst, _∙_}
 use mathlib.Core.Bool.{Bool, true, false, false≢true}
 use mathlib.Core.List.{List}
-use Prim.Native.Nat.{ℕ, _+_, _≤_, _<_}
+use Prim.Native.Nat.{ℕ, _+_, _<_}
 use native.Mathlib.Omega.{arith}
-use lib.ListN.{length, getD, take, drop, length-drop}
-use lib.Seq.{getD-drop}
 use Rattle.el.specs.Lists.{In, pick}
 use Rattle.el.specs.Concepts.{named}
 use Rattle.el.specs.Axioms.{Axiom, isConjunction, partsOf, roleOf, fillerOf}
 use Rattle.el.proofs.Nodes.{Formed}
-use Rattle.release.specs.Files.{namesOf, axiomsOf, joins, restricts}
+use Rattle.release.specs.Files.{numbers, widthOf, namesOf, axiomsOf, joins, restricts}
 use Rattle.release.specs.Readings.{nodeNumber}
 use Rattle.release.specs.Tables.{kindAt, roleAt, fillerAt, tailAt, countAt, partAt, Shaped, Release, AxiomRow, NameRow, no-axiom, has-axiom}
-use Rattle.release.proofs.Decoding.{in-take, take-at}
+use Rattle.release.proofs.Numbers.{in-numbers, numbers-at}
 use Rattle.release.proofs.Linked as linked
 use Rattle.classification.specs.Inclusions.{nodeAt}
 use Rattle.classification.proofs.Nodes.{at-name}
@@ -63,7 +61,6 @@ pub record Found (s t : List ℕ) (n x : ℕ) : Type 0 where
   pub member : In (axiomsOf s) it
   pub left : it .left ≡ x
   pub row : AxiomRow n s t it
-  pub inside : isConjunction it ≡ true → tailAt t x + 1 + countAt s t x ≤ length s
 
 pub record PartAt (s t : List ℕ) (x y : ℕ) : Type 0 where
   pub at : ℕ
@@ -113,16 +110,16 @@ module _ {s t : List ℕ} {n x : ℕ} (f : Found s t n x) where
   pub filler-is : joint ≡ false → nodeNumber n (fillerOf (f .it)) ≡ fillerAt t x
   filler-is h = sym (f .row .filler h) ∙ ap (fillerAt t) (f .left)
 
-  parts-are : joint ≡ true → partsOf (f .it) ≡ take (countAt s t x) (drop (tailAt t x + 1) s)
-  parts-are h = f .row .parts h ∙ ap (λ y. take (countAt s t y) (drop (tailAt t y + 1) s)) (f .left)
+  parts-are : joint ≡ true → partsOf (f .it) ≡ numbers (widthOf s) (countAt s t x) s (tailAt t x + 1)
+  parts-are h = f .row .parts h ∙ ap (λ y. numbers (widthOf s) (countAt s t y) s (tailAt t y + 1)) (f .left)
 
   pub part-in : joint ≡ true → (i : ℕ) → i < countAt s t x → In (partsOf (f .it)) (partAt s t x i)
   unfolding partAt
-  part-in h i l = subst (λ ps. In ps (getD s (tailAt t x + 1 + i) 0)) (sym (parts-are h)) (rw getD-drop at (in-take (drop (tailAt t x + 1) s) (countAt s t x) i l (rw length-drop (omega (arith, f .inside h)))))
+  part-in h i l = rw (parts-are h) (in-numbers (widthOf s) (countAt s t x) s (tailAt t x + 1) i l)
 
   pub part-at : joint ≡ true → {y : ℕ} → In (partsOf (f .it)) y → PartAt s t x y
   unfolding partAt
-  part-at h {y} i = let p = take-at (drop (tailAt t x + 1) s) (countAt s t x) (subst (λ ps. In ps y) (parts-are h) i) in record { at = p .place; inside = p .small; is = sym (getD-drop (tailAt t x + 1) s (p .place) 0) ∙ p .is }
+  part-at h {y} i = let p = numbers-at (widthOf s) (countAt s t x) s (tailAt t x + 1) (rw (parts-are h) at i) in record { at = p .place; inside = p .small; is = p .is }
 
 module _ {s t : List ℕ} {n : ℕ} (r : Release s t) (names : n ≡ namesOf s) where
   pub formed : Formed n (axiomsOf s)
@@ -132,9 +129,7 @@ module _ {s t : List ℕ} {n : ℕ} (r : Release s t) (names : n ≡ namesOf s) 
   ranges = subst (λ k. Shaped k s t) (sym names) (linked.ranges r)
 
   abbrev pub own : {a : Axiom} → In (axiomsOf s) a → Found s t n (a .left)
-  own {a} i =
-      let w : AxiomRow n s t a = subst (λ k. AxiomRow k s t a) (sym names) (linked.axiom-row r i) in
-      record { it = a; member = i; left = refl; row = w; inside = λ h. ranges .inside (a .left) (formed .left-in i) (rw (w .kind) (joins-kind (isConjunction a) (a .defined) h)) }
+  own {a} i = record { it = a; member = i; left = refl; row = subst (λ k. AxiomRow k s t a) (sym names) (linked.axiom-row r i) }
 
   pub find : (x : ℕ) → x < n → (kindAt t x ≡ 0 → ⊥) → Found s t n x
   find x l k = by-row (linked.name-row r x (subst (λ m. x < m) names l))

@@ -20,12 +20,12 @@ use Rattle.release.specs.Files.{joins, restricts}
 use Rattle.release.specs.Tables.{kindAt, roleAt, fillerAt, countAt, partAt, HasRow, Conjunctive, Shaped}
 use Rattle.release.proofs.Faults.{restricts-not-joins}
 use Rattle.marks.specs.declared.Square.{Square}
-use Rattle.marks.specs.Squares.{span, width, Room, Marked, Unmarked, Put}
+use Rattle.marks.specs.Squares.{Room, Marked, Put}
 use Rattle.marks.specs.Passes.{Grows, Pass, Below, Due, FromRow}
 use Rattle.marks.specs.Inclusions.{Taking}
-use Rattle.marks.proofs.Squares.{refuted, zeroed-unmarked}
-use Rattle.marks.proofs.Passes.{room-stays, marks-stay, below-end, pass-none, pass-as, pass-changed, pass-unchanged, pass-by, grows-as, put-pass, put-grows, due-not, due-as}
-use Rattle.classification.specs.Steps.{PartMarked, Gathers, Fills, Step, to-itself, to-top, to-part, to-gathered, to-filled, through, Gathered, Seeds, GatheredAt, FilledAt, AxiomSettled, Setting, SeededSetting, InRow, Source, DefinedConjunction, DefinedRestriction, Pair, Restriction, Over, Noted}
+use Rattle.marks.proofs.Squares.{refuted, frame-area}
+use Rattle.marks.proofs.Passes.{room-stays, grows-frame, marks-stay, below-end, pass-none, pass-as, pass-changed, pass-unchanged, pass-by, grows-as, put-pass, put-grows, due-not, due-as}
+use Rattle.classification.specs.Steps.{PartMarked, Gathers, Fills, Step, to-itself, to-top, to-part, to-gathered, to-filled, through, Gathered, Seeds, GatheredAt, FilledAt, AxiomSettled, Setting, SeededSetting, InRow, Source, DefinedConjunction, DefinedRestriction, Pair, Restriction, Over}
 
 not-both : {A : Type 0} (k : ℕ) → joins k ≡ true → restricts k ≡ true → A
 not-both k j r = absurd (false≢true (sym (restricts-not-joins k r) ∙ j))
@@ -42,21 +42,10 @@ shaped-row h l = record { row = omega (arith, h .rows) }
 -- what is asked
 module _ {s t : List ℕ} {q : Square} where
   pub setting-stays : {w v : List ℕ} → Grows (Step s t q) q w v → Setting s t q w → Setting s t q v
-  setting-stays g h = record { shaped = h .shaped; room = room-stays g (h .room); few = h .few }
+  setting-stays g h = record { shaped = h .shaped; room = room-stays g (h .room); area = frame-area (grows-frame g) (h .area); few = h .few }
 
   pub source-stays : {w v : List ℕ} {x b : ℕ} → Grows (Step s t q) q w v → Source s t q w x b → Source s t q v x b
   source-stays g h = record { in-row = record { setting = setting-stays g (h .in-row .setting); row = h .in-row .row; name = h .in-row .name }; marked = marks-stay g (h .marked) }
-
--- what was noted may change, where there is room for it
-pub noted-stays : {n : ℕ} {u v : List ℕ} → length v ≡ length u → Noted n u → Noted n v
-noted-stays e h = record { room = record { small = h .room .small; fits = omega (arith, h .room .fits) }; few = h .few }
-
-pub zeros-noted : {n : ℕ} → n ≤ 127 → Noted n (replicate 2048 0)
-unfolding span width
-zeros-noted {n} h = record { room = record { small = record { few = omega arith; near = omega arith }; fits = omega (arith, length-replicate {A = ℕ} 2048 0, mul-le-mul {n₁ = suc n} {m₁ = n / 8 + 1} {n₂ = 128} {m₂ = 16} (omega arith) (omega arith)) }; few = h }
-
-pub zeros-unmarked : {q : Square} → Room q (replicate 2048 0) → Unmarked q (replicate 2048 0)
-zeros-unmarked r = zeroed-unmarked {w = replicate 2048 0} (record { long = refl; zero = λ i h. getD-replicate {A = ℕ} 2048 i 0 0 h; past = λ i h. refl }) (omega (arith, r .fits, length-replicate {A = ℕ} 2048 0))
 
 module _ {s t : List ℕ} {q : Square} {w : List ℕ} {x b : ℕ} (h : InRow s t q w x b) where
   pub name-row : HasRow t b
@@ -142,7 +131,7 @@ module _ {s t : List ℕ} {q : Square} {w v : List ℕ} (g : Grows (Step s t q) 
   in-row-stays h = record { setting = setting-stays g (h .setting); row = h .row; name = h .name }
 
   pub over-stays : {b y : ℕ} → Over s t q w b y → Over s t q v b y
-  over-stays h = record { setting = setting-stays g (h .setting); name = h .name; itself = marks-stay g (h .itself); is-restriction = h .is-restriction; marked = marks-stay g (h .marked) }
+  over-stays h = record { setting = setting-stays g (h .setting); name = h .name; itself = marks-stay g (h .itself); is-restriction = h .is-restriction; marked = marks-stay g (h .marked); column = h .column }
 
   pub restriction-stays : {x b : ℕ} → Restriction s t q w x b → Restriction s t q v x b
   restriction-stays h = record { setting = setting-stays g (h .setting); name = h .name; itself = marks-stay g (h .itself); is-restriction = h .is-restriction; filler = h .filler }
@@ -160,8 +149,8 @@ restriction-of h l e f r m = record { setting = h; name = l; itself = m; is-rest
 pub filler-small : {s t : List ℕ} {q : Square} {w : List ℕ} {x b : ℕ} → Restriction s t q w x b → x ≤ q .names
 filler-small {b = b} h = omega (arith, h .filler, h .setting .shaped .filler b (h .name) (h .is-restriction))
 
-pub over-of : {s t : List ℕ} {q : Square} {w : List ℕ} {x b y : ℕ} → Restriction s t q w x b → Marked q w x y → Over s t q w b y
-over-of h m = record { setting = h .setting; name = h .name; itself = h .itself; is-restriction = h .is-restriction; marked = rw (h .filler) m }
+pub over-of : {s t : List ℕ} {q : Square} {w : List ℕ} {x b y : ℕ} → Restriction s t q w x b → Marked q w x y → y ≤ q .names → Over s t q w b y
+over-of h m l = record { setting = h .setting; name = h .name; itself = h .itself; is-restriction = h .is-restriction; marked = rw (h .filler) m; column = l }
 
 pub over-grows : {s t : List ℕ} {q : Square} {w v : List ℕ} {b y z kind filler role role-z : ℕ} {r : Bool} → Over s t q w b y → z < q .names → kind ≡ kindAt t z → kind ≡ 4 → filler ≡ fillerAt t z → filler ≡ y → role ≡ roleAt t b → role-z ≡ roleAt t z → Serves role role-z → Put q b z w v r → Grows (Step s t q) q w v
 over-grows {t = t} {y = y} {z = z} h l e four f g i j same p =

@@ -37,7 +37,7 @@ good-says : (s : List ℕ) (q : Square) (w : List ℕ) → AllGood q (Means s (q
 good-says s q w g a b i j h = rw (at-number (q .names) a i, at-number (q .names) b j) at (g .good (nodeNumber (q .names) a) (nodeNumber (q .names) b) (number-small (q .names) a i) (number-small (q .names) b j) (marked a b refl refl h))
 
 pub setting : {s t : List ℕ} {q : Square} {w : List ℕ} → Unclassified s t q w → Setting s t q w
-setting {s} u = record { shaped = ranges (u .release) (u .names); room = u .room; few = omega (arith, u .names, header-sound s (no-header-fault s (u .release .accepted)) .names) }
+setting {s} u = record { shaped = ranges (u .release) (u .names); room = u .area .room; area = u .area; few = omega (arith, u .names, header-sound s (no-header-fault s (u .release .accepted)) .names) }
 
 module _ {s t : List ℕ} {q : Square} (r : Release s t) (names : q .names ≡ namesOf s) where
   step-sound : (w : List ℕ) (x y : ℕ) → AllGood q (Means s (q .names)) w → x ≤ q .names → y ≤ q .names → Step s t q w x y → Means s (q .names) x y

@@ -16,7 +16,7 @@ use Rattle.release.specs.Files.{namesOf, axiomsOf}
 use Rattle.release.specs.Readings.{nodeNumber}
 use Rattle.release.specs.Tables.{Release}
 use Rattle.marks.specs.declared.Square.{Square}
-use Rattle.marks.specs.Squares.{bit, place, Room, Marked, Unmarked, Frame}
+use Rattle.marks.specs.Squares.{bit, place, Area, Marked, Unmarked, Frame}
 
 unfoldable pub nodeAt : ℕ → ℕ → Node
 nodeAt n k = pick (eqb k n) everything (named k)
@@ -28,7 +28,7 @@ says q w x y = eqb (bit (getD w (place q (nodeNumber (q .names) x) (nodeNumber (
 pub record Unclassified (s t : List ℕ) (q : Square) (w : List ℕ) : Type 0 where
   pub release : Release s t
   pub names : q .names ≡ namesOf s
-  pub room : Room q w
+  pub area : Area q w
   pub unmarked : Unmarked q w
 
 pub record Inclusions (s : List ℕ) (q : Square) (w : List ℕ) : Type 0 where

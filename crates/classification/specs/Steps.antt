@@ -17,7 +17,7 @@ use Rattle.el.proofs.Derivations.{Serves}
 use Rattle.release.specs.Files.{joins, restricts}
 use Rattle.release.specs.Tables.{kindAt, roleAt, fillerAt, countAt, partAt, Shaped}
 use Rattle.marks.specs.declared.Square.{Square}
-use Rattle.marks.specs.Squares.{Room, Marked, Within}
+use Rattle.marks.specs.Squares.{Room, Area, Marked, Within}
 use Rattle.marks.specs.Passes.{Pass, Below}
 
 -- the conjunct i of b is marked in row x
@@ -100,7 +100,8 @@ pub record AxiomSettled (s t : List ℕ) (q : Square) (y : ℕ) (w : List ℕ) :
 pub record Setting (s t : List ℕ) (q : Square) (w : List ℕ) : Type 0 where
   pub shaped : Shaped (q .names) s t
   pub room : Room q w
-  pub few : q .names ≤ 127
+  pub area : Area q w
+  pub few : q .names ≤ 1023
 
 pub record SeededSetting (s t : List ℕ) (q : Square) (w : List ℕ) : Type 0 where
   pub setting : Setting s t q w
@@ -155,8 +156,4 @@ pub record Over (s t : List ℕ) (q : Square) (w : List ℕ) (b y : ℕ) : Type 
   pub itself : Marked q w b b
   pub is-restriction : restricts (kindAt t b) ≡ true
   pub marked : Marked q w (fillerAt t b) y
-
--- what a memory u with the square of what was noted below each node asks, a hint where to look: the square lies in it
-pub record Noted (n : ℕ) (u : List ℕ) : Type 0 where
-  pub room : Room (record { base = 0; names = n }) u
-  pub few : n ≤ 127
+  pub column : y ≤ q .names

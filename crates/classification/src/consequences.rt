@@ -1,19 +1,18 @@
 // What the new marks of a row give: marks put at the cells that depend on them, each as a rule allows. A row that gets one waits.
 // Where to look is read from chains and lines that are only hints, so each rule is tested at its cell.
 ghost use Prim.Native.Nat.{_≤_};
-ghost use Rattle.marks.specs.Squares.{Room};
+ghost use Rattle.marks.specs.Squares.{Room, Area, Kept};
 ghost use Rattle.marks.specs.Passes.{Grows, FromRow};
 ghost use Rattle.marks.specs.Inclusions.{Taking};
-ghost use Rattle.classification.specs.Steps.{Step, Setting, InRow, MarkedCell, Restriction, Over, Noted};
-use crate::chains;
-use crate::chains::Chains;
+ghost use Rattle.classification.specs.Steps.{Step, Setting, InRow, MarkedCell, Restriction, Over};
+use crate::hints::Hints;
 use crate::rules::gathers;
 use marks::Square;
+use marks::hints;
 use marks::is_marked;
 use marks::line::Line;
 use marks::mark;
 use marks::rows::hand_on;
-use marks::rows::next_marked;
 use marks::rows::seems_within;
 use marks::waiting;
 use marks::waiting::Waiting;
@@ -23,7 +22,7 @@ use release::table;
 // Hands row c on to row x, which waits if it had not all of it.
 fn hand_over(
     work: &mut [u8],
-    waiting: &mut [u8; Waiting::LENGTH],
+    waiting: &mut [u16; Waiting::LENGTH],
     square: Square,
     c: usize,
     x: usize,
@@ -44,8 +43,7 @@ fn put_gathered(
     file: &[u8],
     table: &[u16],
     work: &mut [u8],
-    chains: &[u16; Chains::LENGTH],
-    waiting: &mut [u8; Waiting::LENGTH],
+    waiting: &mut [u16; Waiting::LENGTH],
     square: Square,
     x: usize,
     y: usize,
@@ -53,15 +51,10 @@ fn put_gathered(
     requires { ⌜ InRow (now file) (now table) square (now work) x y ⌝ }
     ensures { λ _. ⌜ Grows (Step (now (file .entry)) (now (table .entry)) square) square (now (work .entry)) (now (work .exit)) ⌝ }
 {
-    let mut entry = chains::entry(chains, Chains::CONJUNCTS, y);
-    let mut left = Chains::ENTRIES;
-    while 0 < left {
-        left -= 1;
-        let z = entry / 16;
-        if square.names <= z {
-            return;
-        }
-        entry = chains::entry(chains, Chains::LINKS, entry);
+    let mut next = hints::next(work, square, Hints::CONJUNCTS, y, 0);
+    while next < square.names {
+        let z = next;
+        next = hints::next(work, square, Hints::CONJUNCTS, y, z + 1);
         if gathers(file, table, work, square, x, z) {
             if mark(work, square, x, z) {
                 wait(waiting, x);
@@ -75,8 +68,7 @@ fn put_beside(
     file: &[u8],
     table: &[u16],
     work: &mut [u8],
-    chains: &[u16; Chains::LENGTH],
-    waiting: &mut [u8; Waiting::LENGTH],
+    waiting: &mut [u16; Waiting::LENGTH],
     square: Square,
     x: usize,
     y: usize,
@@ -88,7 +80,7 @@ fn put_beside(
     if square.names <= y {
         return;
     }
-    put_gathered(file, table, work, chains, waiting, square, x, y);
+    put_gathered(file, table, work, waiting, square, x, y);
 }
 
 // So for all y of the line.
@@ -96,8 +88,7 @@ fn put_above(
     file: &[u8],
     table: &[u16],
     work: &mut [u8],
-    chains: &[u16; Chains::LENGTH],
-    waiting: &mut [u8; Waiting::LENGTH],
+    waiting: &mut [u16; Waiting::LENGTH],
     square: Square,
     line: &[u8; Line::LENGTH],
     x: usize,
@@ -106,12 +97,12 @@ fn put_above(
     requires { ⌜ x ≤ square .names ⌝ }
     ensures { λ _. ⌜ Grows (Step (now (file .entry)) (now (table .entry)) square) square (now (work .entry)) (now (work .exit)) ⌝ }
 {
-    let mut next = waiting::next(line, 0);
+    let mut next = waiting::next(line, square.names, 0);
     while next <= square.names {
         let y = next;
-        next = waiting::next(line, y + 1);
+        next = waiting::next(line, square.names, y + 1);
         if is_marked(work, square, x, y) {
-            put_beside(file, table, work, chains, waiting, square, x, y);
+            put_beside(file, table, work, waiting, square, x, y);
         }
     }
 }
@@ -121,8 +112,7 @@ fn put_over(
     file: &[u8],
     table: &[u16],
     work: &mut [u8],
-    chains: &[u16; Chains::LENGTH],
-    waiting: &mut [u8; Waiting::LENGTH],
+    waiting: &mut [u16; Waiting::LENGTH],
     square: Square,
     b: usize,
     y: usize,
@@ -131,15 +121,10 @@ fn put_over(
     ensures { λ _. ⌜ Grows (Step (now (file .entry)) (now (table .entry)) square) square (now (work .entry)) (now (work .exit)) ⌝ }
 {
     let role = table::role(table, b);
-    let mut entry = chains::entry(chains, Chains::FILLERS, y);
-    let mut left = Chains::ENTRIES;
-    while 0 < left {
-        left -= 1;
-        let z = entry;
-        if square.names <= z {
-            return;
-        }
-        entry = chains::entry(chains, Chains::NEXT, z);
+    let mut next = hints::next(work, square, Hints::FILLERS, y, 0);
+    while next < square.names {
+        let z = next;
+        next = hints::next(work, square, Hints::FILLERS, y, z + 1);
         if table::kind(table, z) == 4 {
             if table::filler(table, z) == y {
                 if role == table::role(table, z) {
@@ -157,8 +142,7 @@ fn put_filled(
     file: &[u8],
     table: &[u16],
     work: &mut [u8],
-    chains: &[u16; Chains::LENGTH],
-    waiting: &mut [u8; Waiting::LENGTH],
+    waiting: &mut [u16; Waiting::LENGTH],
     square: Square,
     line: &[u8; Line::LENGTH],
     x: usize,
@@ -167,12 +151,12 @@ fn put_filled(
     requires { ⌜ Restriction (now file) (now table) square (now work) x b ⌝ }
     ensures { λ _. ⌜ Grows (Step (now (file .entry)) (now (table .entry)) square) square (now (work .entry)) (now (work .exit)) ⌝ }
 {
-    let mut next = waiting::next(line, 0);
+    let mut next = waiting::next(line, square.names, 0);
     while next <= square.names {
         let y = next;
-        next = waiting::next(line, y + 1);
+        next = waiting::next(line, square.names, y + 1);
         if is_marked(work, square, x, y) {
-            put_over(file, table, work, chains, waiting, square, b, y);
+            put_over(file, table, work, waiting, square, b, y);
         }
     }
 }
@@ -182,28 +166,23 @@ fn put_by_fillers(
     file: &[u8],
     table: &[u16],
     work: &mut [u8],
-    chains: &[u16; Chains::LENGTH],
-    waiting: &mut [u8; Waiting::LENGTH],
+    waiting: &mut [u16; Waiting::LENGTH],
     square: Square,
     line: &[u8; Line::LENGTH],
     x: usize,
 )
     requires { ⌜ Setting (now file) (now table) square (now work) ⌝ }
+    requires { ⌜ x ≤ square .names ⌝ }
     ensures { λ _. ⌜ Grows (Step (now (file .entry)) (now (table .entry)) square) square (now (work .entry)) (now (work .exit)) ⌝ }
 {
-    let mut entry = chains::entry(chains, Chains::FILLERS, x);
-    let mut left = Chains::ENTRIES;
-    while 0 < left {
-        left -= 1;
-        let b = entry;
-        if square.names <= b {
-            return;
-        }
-        entry = chains::entry(chains, Chains::NEXT, b);
+    let mut next = hints::next(work, square, Hints::FILLERS, x, 0);
+    while next < square.names {
+        let b = next;
+        next = hints::next(work, square, Hints::FILLERS, x, b + 1);
         if table::is_restriction(table, b) {
             if table::filler(table, b) == x {
                 if is_marked(work, square, b, b) {
-                    put_filled(file, table, work, chains, waiting, square, line, x, b);
+                    put_filled(file, table, work, waiting, square, line, x, b);
                 }
             }
         }
@@ -211,43 +190,29 @@ fn put_by_fillers(
 }
 
 // Notes that x lies below each y of the line, so that `hand_down` of y finds x without a look at all rows.
-fn note_below(under: &mut [u8], names: usize, line: &[u8; Line::LENGTH], x: usize)
-    requires { ⌜ Noted names (now under) ⌝ }
-    requires { ⌜ x ≤ names ⌝ }
+fn note_below(work: &mut [u8], square: Square, line: &[u8; Line::LENGTH], x: usize)
+    requires { ⌜ Area square (now work) × (square .names ≤ 1023) ⌝ }
+    requires { ⌜ x ≤ square .names ⌝ }
+    ensures { λ _. ⌜ Kept square (now (work .entry)) (now (work .exit)) ⌝ }
 {
-    let lower = Square {
-        base: 0,
-        names: names,
-    };
-    let mut next = waiting::next(line, 0);
-    while next <= names {
+    let mut next = waiting::next(line, square.names, 0);
+    while next <= square.names {
         let y = next;
-        next = waiting::next(line, y + 1);
-        mark(under, lower, y, x);
+        next = waiting::next(line, square.names, y + 1);
+        hints::put(work, square, Hints::BELOW, y, x);
     }
 }
 
 // Hands row x on to each row that x is marked in, as far as it is noted.
-fn hand_down(
-    work: &mut [u8],
-    under: &[u8],
-    waiting: &mut [u8; Waiting::LENGTH],
-    square: Square,
-    x: usize,
-)
-    requires { ⌜ Room square (now work) ⌝ }
-    requires { ⌜ Noted (square .names) (now under) ⌝ }
+fn hand_down(work: &mut [u8], waiting: &mut [u16; Waiting::LENGTH], square: Square, x: usize)
+    requires { ⌜ Area square (now work) ⌝ }
     requires { ⌜ x ≤ square .names ⌝ }
     ensures { λ _. ⌜ Grows (Taking square square) square (now (work .entry)) (now (work .exit)) ⌝ }
 {
-    let lower = Square {
-        base: 0,
-        names: square.names,
-    };
-    let mut next = next_marked(under, lower, x, 0);
+    let mut next = hints::next(work, square, Hints::BELOW, x, 0);
     while next <= square.names {
         let b = next;
-        next = next_marked(under, lower, x, b + 1);
+        next = hints::next(work, square, Hints::BELOW, x, b + 1);
         if is_marked(work, square, b, x) {
             hand_over(work, waiting, square, x, b);
         }
@@ -259,21 +224,18 @@ pub fn deal(
     file: &[u8],
     table: &[u16],
     work: &mut [u8],
-    under: &mut [u8],
-    chains: &[u16; Chains::LENGTH],
-    waiting: &mut [u8; Waiting::LENGTH],
+    waiting: &mut [u16; Waiting::LENGTH],
     square: Square,
     x: usize,
 )
     requires { ⌜ Setting (now file) (now table) square (now work) ⌝ }
-    requires { ⌜ Noted (square .names) (now under) ⌝ }
     requires { ⌜ x ≤ square .names ⌝ }
     ensures { λ _. ⌜ Grows (Step (now (file .entry)) (now (table .entry)) square) square (now (work .entry)) (now (work .exit)) ⌝ }
 {
     let mut line = [0u8; Line::LENGTH];
-    waiting::see(work, square, x, waiting, x, &mut line);
-    note_below(under, square.names, &line, x);
-    put_above(file, table, work, chains, waiting, square, &line, x);
-    put_by_fillers(file, table, work, chains, waiting, square, &line, x);
-    hand_down(work, under, waiting, square, x);
+    hints::see(work, square, x, &mut line);
+    note_below(work, square, &line, x);
+    put_above(file, table, work, waiting, square, &line, x);
+    put_by_fillers(file, table, work, waiting, square, &line, x);
+    hand_down(work, waiting, square, x);
 }

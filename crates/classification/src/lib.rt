@@ -3,8 +3,8 @@ ghost use Rattle.classification.specs.Inclusions.{Unclassified, Classifi
 use marks::Square;
 use marks::order::Order;
 
-pub mod chains;
 mod consequences;
+pub mod hints;
 mod propagation;
 mod rules;
 mod sweep;

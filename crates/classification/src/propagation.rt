@@ -2,18 +2,17 @@
 // (sweep) find what it missed. They find nothing, as a rule.
 ghost use Prim.Native.Nat.{_≤_};
 ghost use Rattle.marks.specs.Passes.{Grows};
-ghost use Rattle.classification.specs.Steps.{Step, Setting, Noted};
-use crate::chains::Chains;
+ghost use Rattle.classification.specs.Steps.{Step, Setting};
 use crate::consequences::deal;
+use crate::hints::Hints;
 use crate::rules::mark_parts;
 use crate::rules::seed;
 use marks::Square;
+use marks::hints;
 use marks::is_marked;
 use marks::order;
 use marks::order::Order;
 use marks::rows::hand_on;
-use marks::turned::Turning;
-use marks::turned::turn;
 use marks::waiting;
 use marks::waiting::Waiting;
 use release::table::is_conjunction;
@@ -68,7 +67,7 @@ fn hand_on_rows(
     table: &[u16],
     work: &mut [u8],
     square: Square,
-    order: &[u8; Order::NODES],
+    order: &[u16; Order::NODES],
 )
     requires { ⌜ Setting (now file) (now table) square (now work) ⌝ }
     ensures { λ _. ⌜ Grows (Step (now (file .entry)) (now (table .entry)) square) square (now (work .entry)) (now (work .exit)) ⌝ }
@@ -92,7 +91,7 @@ pub fn begin(
     table: &[u16],
     work: &mut [u8],
     square: Square,
-    order: &mut [u8; Order::NODES],
+    order: &mut [u16; Order::NODES],
 )
     requires { ⌜ Setting (now file) (now table) square (now work) ⌝ }
     ensures { λ _. ⌜ Grows (Step (now (file .entry)) (now (table .entry)) square) square (now (work .entry)) (now (work .exit)) ⌝ }
@@ -103,20 +102,19 @@ pub fn begin(
     hand_on_rows(file, table, work, square, order);
 }
 
-// Deals with the rows that wait, and with those that get marks by that, until none does. Row y of `under` has the x that lie below y.
-fn deal_with_all(
+// Deals with the rows that are not as they were seen, and with those that get marks by that, until none waits.
+pub fn propagate(
     file: &[u8],
     table: &[u16],
     work: &mut [u8],
-    under: &mut [u8],
-    chains: &[u16; Chains::LENGTH],
-    waiting: &mut [u8; Waiting::LENGTH],
+    waiting: &mut [u16; Waiting::LENGTH],
     square: Square,
 )
     requires { ⌜ Setting (now file) (now table) square (now work) ⌝ }
-    requires { ⌜ Noted (square .names) (now under) ⌝ }
     ensures { λ _. ⌜ Grows (Step (now (file .entry)) (now (table .entry)) square) square (now (work .entry)) (now (work .exit)) ⌝ }
 {
+    hints::turn(work, square, Hints::BELOW);
+    hints::wait_for_new(work, square, waiting);
     let mut left = Waiting::TURNS;
     while 0 < left {
         left -= 1;
@@ -124,32 +122,6 @@ fn deal_with_all(
         if square.names < x {
             return;
         }
-        deal(file, table, work, under, chains, waiting, square, x);
+        deal(file, table, work, waiting, square, x);
     }
-}
-
-// Does so with the rows that are not as they were seen.
-pub fn propagate(
-    file: &[u8],
-    table: &[u16],
-    work: &mut [u8],
-    chains: &[u16; Chains::LENGTH],
-    waiting: &mut [u8; Waiting::LENGTH],
-    square: Square,
-)
-    requires { ⌜ Setting (now file) (now table) square (now work) ⌝ }
-    ensures { λ _. ⌜ Grows (Step (now (file .entry)) (now (table .entry)) square) square (now (work .entry)) (now (work .exit)) ⌝ }
-{
-    let mut under = [0u8; Turning::LENGTH];
-    turn(
-        work,
-        square,
-        &mut under,
-        Square {
-            base: 0,
-            names: square.names,
-        },
-    );
-    waiting::wait_for_new(work, square, waiting);
-    deal_with_all(file, table, work, &mut under, chains, waiting, square);
 }

@@ -2,20 +2,20 @@
 ghost use mathlib.Core.Path.{_≡_};
 ghost use Prim.Native.Nat.{suc, _<_};
 ghost use Rattle.release.specs.Tables.{kindAt};
+ghost use Rattle.marks.specs.Squares.{Kept};
 ghost use Rattle.marks.specs.Passes.{Pass, Closed, Below};
 ghost use Rattle.classification.specs.Steps.{Step, Seeded, Settled, GatheredAt, FilledAt, AxiomSettled, Setting, SeededSetting};
-use crate::chains::Chains;
-use crate::chains::fill;
+use crate::hints::list;
 use crate::propagation::propagate;
 use crate::rules::fills;
 use crate::rules::gather;
 use crate::rules::mark_parts;
 use crate::rules::seed;
 use marks::Square;
+use marks::hints;
 use marks::inclusions::take_all;
 use marks::mark;
 use marks::order::Order;
-use marks::waiting;
 use marks::waiting::Waiting;
 use release::table;
 
@@ -121,7 +121,7 @@ fn pass(
     table: &[u16],
     work: &mut [u8],
     square: Square,
-    order: &[u8; Order::NODES],
+    order: &[u16; Order::NODES],
 ) -> bool
     requires { ⌜ Setting (now file) (now table) square (now work) ⌝ }
     ensures { λ r. ⌜ Pass (Step (now (file .entry)) (now (table .entry)) square) square (Below (Settled (now (file .entry)) (now (table .entry)) square) (suc (square .names))) (now (work .entry)) (now (work .exit)) r ⌝ }
@@ -135,22 +135,29 @@ fn pass(
     take_all(work, square, square, order)
 }
 
+// Writes the hints: where to look, and what the rows have so far.
+fn prepare(file: &[u8], table: &[u16], work: &mut [u8], square: Square)
+    requires { ⌜ Setting (now file) (now table) square (now work) ⌝ }
+    ensures { λ _. ⌜ Kept square (now (work .entry)) (now (work .exit)) ⌝ }
+{
+    list(file, table, work, square);
+    hints::see_all(work, square);
+}
+
 // Passes until nothing is left to mark. What a pass finds is followed up from row to row before the next one.
 pub fn close(
     file: &[u8],
     table: &[u16],
     work: &mut [u8],
     square: Square,
-    order: &[u8; Order::NODES],
+    order: &[u16; Order::NODES],
 )
     requires { ⌜ Setting (now file) (now table) square (now work) ⌝ }
     ensures { λ _. ⌜ Closed (Step (now (file .entry)) (now (table .entry)) square) square (Below (Settled (now (file .entry)) (now (table .entry)) square) (suc (square .names))) (now (work .entry)) (now (work .exit)) ⌝ }
 {
-    let mut chains = [0u16; Chains::LENGTH];
-    let mut waiting = [0u8; Waiting::LENGTH];
-    fill(file, table, &mut chains, square.names);
-    waiting::see_all(work, square, &mut waiting);
+    let mut waiting = [0u16; Waiting::LENGTH];
+    prepare(file, table, work, square);
     while pass(file, table, work, square, order) {
-        propagate(file, table, work, &chains, &mut waiting, square);
+        propagate(file, table, work, &mut waiting, square);
     }
 }

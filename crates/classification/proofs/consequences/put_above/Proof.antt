@@ -17,10 +17,10 @@ use Rattle.marks.proofs.waiting.next.Reads as next-reads
 
 -- marks put by the rules
 abbrev Inv-loop : tie.InvT-loop
-Inv-loop file table work₀ chains waiting₀ square line x next₀ work waiting next = (length work ≡ length work₀) × Grows (Step file table square) square work₀ work
+Inv-loop file table work₀ waiting₀ square line x next₀ work waiting next = (length work ≡ length work₀) × Grows (Step file table square) square work₀ work
 
 abbrev μ-loop : tie.MeasureT-loop
-μ-loop file table work₀ chains waiting₀ square line x next₀ work waiting next = suc (square .names) - next
+μ-loop file table work₀ waiting₀ square line x next₀ work waiting next = suc (square .names) - next
 
 next-requires : tie.Need-next-requires Inv-loop μ-loop
 next-requires c κs = omega arith

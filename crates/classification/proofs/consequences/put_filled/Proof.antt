@@ -17,13 +17,13 @@ use Rattle.marks.proofs.waiting.next.Reads as next-reads
 
 -- marks put by the rules
 abbrev Inv-loop : tie.InvT-loop
-Inv-loop file table work₀ chains waiting₀ square line x b next₀ work waiting next = (length work ≡ length work₀) × Grows (Step file table square) square work₀ work
+Inv-loop file table work₀ waiting₀ square line x b next₀ work waiting next = (length work ≡ length work₀) × Grows (Step file table square) square work₀ work
 
 abbrev μ-loop : tie.MeasureT-loop
-μ-loop file table work₀ chains waiting₀ square line x b next₀ work waiting next = suc (square .names) - next
+μ-loop file table work₀ waiting₀ square line x b next₀ work waiting next = suc (square .names) - next
 
 next-requires : tie.Need-next-requires Inv-loop μ-loop
-next-requires c κs = omega arith
+next-requires c κs = (c .before .before .before .pre .setting .few, omega arith)
 
 loop-holds : tie.Need-loop-holds Inv-loop μ-loop
 loop-holds c = (refl, none)
@@ -32,13 +32,13 @@ add-next : tie.Need-add-next Inv-loop μ-loop
 add-next c = omega (arith, c .if1 .taken, c .before .before .before .before .before .before .before .pre .setting .few)
 
 next-requires-2 : tie.Need-next-requires-2 Inv-loop μ-loop
-next-requires-2 c κs = omega (arith, c .if1 .taken, c .before .before .before .before .before .before .before .pre .setting .few)
+next-requires-2 c κs = (c .before .before .before .before .before .before .before .pre .setting .few, omega (arith, c .if1 .taken))
 
 is-marked-requires : tie.Need-is-marked-requires Inv-loop μ-loop
 is-marked-requires c κs = let h = restriction-stays (c .before .before .before .before .loop .inv .1) (c .before .before .before .before .before .before .before .before .before .pre) in (h .setting .room, (filler-small h, c .before .before .if1 .taken))
 
 put-over-requires : tie.Need-put-over-requires Inv-loop μ-loop
-put-over-requires c κs = over-of (restriction-stays (c .before .before .before .before .before .before .before .before .loop .inv .1) (c .before .before .before .before .before .before .before .before .before .before .before .before .before .pre)) (c .before .before .before .is-marked .ensures .sound (c .before .before .if2 .taken))
+put-over-requires c κs = over-of (restriction-stays (c .before .before .before .before .before .before .before .before .loop .inv .1) (c .before .before .before .before .before .before .before .before .before .before .before .before .before .pre)) (c .before .before .before .is-marked .ensures .sound (c .before .before .if2 .taken)) (c .before .before .before .before .before .before .if1 .taken)
 
 loop-less : tie.Need-loop-less Inv-loop μ-loop
 loop-less c = omega (arith, c .before .before .before .before .before .before .before .before .before .if1 .taken, c .before .before .before .before .before .before .before .before .next2 .ensures)

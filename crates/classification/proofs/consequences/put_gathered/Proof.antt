@@ -1,6 +1,7 @@
 use native.Mathlib.Omega.{arith}
 use borrow.Author.Needs.{needs}
 use mathlib.Core.Path.{_≡_, refl}
+use Prim.Native.Nat.{suc, _≤_, _-_}
 use lib.ListN.{length}
 use Rattle.marks.specs.Passes.{Grows, none}
 use Rattle.marks.proofs.Passes.{grows-further}
@@ -10,68 +11,76 @@ use Rattle.classification.proofs.consequences.put_gathered.Statement.{s
 use Rattle.classification.proofs.consequences.put_gathered.Tie as tie
 use Rattle.classification.proofs.consequences.put_gathered.Reads as reads
 use Rattle.classification.proofs.consequences.put_gathered.Lts as lts
-use Rattle.classification.proofs.chains.entry.Reads as entry-reads
 use Rattle.classification.proofs.rules.gathers.Reads as gathers-reads
+use Rattle.marks.proofs.hints.next.Reads as next-reads
 use Rattle.marks.proofs.mark.Reads as mark-reads
 use Rattle.marks.proofs.waiting.wait.Reads as wait-reads
 
--- marks put by the rules
 abbrev Inv-loop : tie.InvT-loop
-Inv-loop file table work₀ chains waiting₀ square x y entry₀ left₀ work waiting entry left = (length work ≡ length work₀) × Grows (Step file table square) square work₀ work
+Inv-loop file table work₀ waiting₀ square x y next₀ work waiting next = (length work ≡ length work₀) × Grows (Step file table square) square work₀ work
 
 abbrev μ-loop : tie.MeasureT-loop
-μ-loop file table work₀ chains waiting₀ square x y entry₀ left₀ work waiting entry left = left
+μ-loop file table work₀ waiting₀ square x y next₀ work waiting next = suc (square .names) - next
 
-entry-requires : tie.Need-entry-requires Inv-loop μ-loop
-entry-requires c κs = search needs
+-- src/consequences.rt:54:9
+next-requires : tie.Need-next-requires Inv-loop μ-loop
+next-requires c κs = (c .before .before .before .before .pre .setting .area, (omega arith, omega (arith, c .before .before .before .before .pre .name), omega arith))
 
+-- src/consequences.rt:55:5
 loop-holds : tie.Need-loop-holds Inv-loop μ-loop
 loop-holds c = (refl, none)
 
-sub-left : tie.Need-sub-left Inv-loop μ-loop
-sub-left c = search needs
+-- src/consequences.rt:57:63
+add-next : tie.Need-add-next Inv-loop μ-loop
+add-next c = omega (arith, c .before .if1 .taken, c .before .before .before .before .before .before .before .before .before .pre .setting .few)
 
-same-length : tie.Need-same-length Inv-loop μ-loop
-same-length c = search needs
+-- src/consequences.rt:57:9
+next-requires-2 : tie.Need-next-requires-2 Inv-loop μ-loop
+next-requires-2 c κs = (in-row-stays (c .before .before .before .loop .inv .1) (c .before .before .before .before .before .before .before .before .before .pre) .setting .area, (omega arith, omega (arith, c .before .before .before .before .before .before .before .before .before .pre .name), omega (arith, c .before .if1 .taken)))
 
-returns : tie.Need-returns Inv-loop μ-loop
-returns c = c .before .before .before .loop .inv .1
-
-entry-requires-2 : tie.Need-entry-requires-2 Inv-loop μ-loop
-entry-requires-2 c κs = search needs
-
+-- src/consequences.rt:58:12
 gathers-requires : tie.Need-gathers-requires Inv-loop μ-loop
-gathers-requires c κs = in-row-at (in-row-stays (c .before .before .before .before .before .loop .inv .1) (c .before .before .before .before .before .before .before .before .before .before .pre)) (c .before .before .if1 .left)
+gathers-requires c κs = in-row-at (in-row-stays (c .before .before .before .before .before .loop .inv .1) (c .before .before .before .before .before .before .before .before .before .before .before .pre)) (c .before .before .before .if1 .taken)
 
+-- src/consequences.rt:59:16
 mark-requires : tie.Need-mark-requires Inv-loop μ-loop
-mark-requires c κs = let h = in-row-at (in-row-stays (c .before .before .before .before .before .before .before .before .loop .inv .1) (c .before .before .before .before .before .before .before .before .before .before .before .before .before .pre)) (c .before .before .before .before .before .if1 .left) in (h .setting .room, (h .row, omega (arith, h .name)))
+mark-requires c κs = let h = in-row-at (in-row-stays (c .before .before .before .before .before .before .before .before .loop .inv .1) (c .before .before .before .before .before .before .before .before .before .before .before .before .before .before .pre)) (c .before .before .before .before .before .before .if1 .taken) in (h .setting .room, (h .row, omega (arith, h .name)))
 
+-- src/consequences.rt:60:17
 wait-requires : tie.Need-wait-requires Inv-loop μ-loop
 wait-requires c κs = search needs
 
+-- src/consequences.rt:55:5
 loop-less : tie.Need-loop-less Inv-loop μ-loop
-loop-less c = search needs
+loop-less c = omega (arith, c .before .before .before .before .before .before .before .before .before .before .before .before .if1 .taken, c .before .before .before .before .before .before .before .before .before .before .next2 .ensures)
 
+-- src/consequences.rt:55:5
 loop-again : tie.Need-loop-again Inv-loop μ-loop
-loop-again c = let g = c .before .before .before .before .before .before .before .before .before .before .before .before .before .before .loop .inv .1 in (search needs, grows-further g (gather-grows (in-row-at (in-row-stays g (c .before .before .before .before .before .before .before .before .before .before .before .before .before .before .before .before .before .before .before .pre)) (c .before .before .before .before .before .before .before .before .before .before .before .if1 .left)) (c .before .before .before .before .before .before .before .before .gathers .ensures .sound (c .before .before .before .before .before .before .before .if2 .taken)) (c .before .before .before .before .before .mark .ensures)))
+loop-again c = let g = c .before .before .before .before .before .before .before .before .before .before .before .before .before .before .loop .inv .1 in (search needs, grows-further g (gather-grows (in-row-at (in-row-stays g (c .before .before .before .before .before .before .before .before .before .before .before .before .before .before .before .before .before .before .before .before .pre)) (c .before .before .before .before .before .before .before .before .before .before .before .before .if1 .taken)) (c .before .before .before .before .before .before .before .before .gathers .ensures .sound (c .before .before .before .before .before .before .before .if2 .taken)) (c .before .before .before .before .before .mark .ensures)))
 
+-- src/consequences.rt:55:5
 loop-less-2 : tie.Need-loop-less-2 Inv-loop μ-loop
-loop-less-2 c = search needs
+loop-less-2 c = omega (arith, c .before .before .before .before .before .before .before .before .before .before .if1 .taken, c .before .before .before .before .before .before .before .before .next2 .ensures)
 
+-- src/consequences.rt:55:5
 loop-again-2 : tie.Need-loop-again-2 Inv-loop μ-loop
-loop-again-2 c = let g = c .before .before .before .before .before .before .before .before .before .before .before .before .loop .inv .1 in (search needs, grows-further g (gather-grows (in-row-at (in-row-stays g (c .before .before .before .before .before .before .before .before .before .before .before .before .before .before .before .before .before .pre)) (c .before .before .before .before .before .before .before .before .before .if1 .left)) (c .before .before .before .before .before .before .gathers .ensures .sound (c .before .before .before .before .before .if2 .taken)) (c .before .before .before .mark .ensures)))
+loop-again-2 c = let g = c .before .before .before .before .before .before .before .before .before .before .before .before .loop .inv .1 in (search needs, grows-further g (gather-grows (in-row-at (in-row-stays g (c .before .before .before .before .before .before .before .before .before .before .before .before .before .before .before .before .before .before .pre)) (c .before .before .before .before .before .before .before .before .before .before .if1 .taken)) (c .before .before .before .before .before .before .gathers .ensures .sound (c .before .before .before .before .before .if2 .taken)) (c .before .before .before .mark .ensures)))
 
+-- src/consequences.rt:55:5
 loop-less-3 : tie.Need-loop-less-3 Inv-loop μ-loop
-loop-less-3 c = search needs
+loop-less-3 c = omega (arith, c .before .before .before .before .before .if1 .taken, c .before .before .before .next2 .ensures)
 
+-- src/consequences.rt:55:5
 loop-again-3 : tie.Need-loop-again-3 Inv-loop μ-loop
-loop-again-3 c = (search needs, c .before .before .before .before .before .before .before .loop .inv .1)
+loop-again-3 c = c .before .before .before .before .before .before .before .loop .inv
 
-same-length-2 : tie.Need-same-length-2 Inv-loop μ-loop
-same-length-2 c = search needs
+-- src/consequences.rt:42:1
+same-length : tie.Need-same-length Inv-loop μ-loop
+same-length c = c .before .before .loop .inv .0
 
-returns-2 : tie.Need-returns-2 Inv-loop μ-loop
-returns-2 c = c .before .loop .inv .1
+-- src/consequences.rt:42:1
+returns : tie.Need-returns Inv-loop μ-loop
+returns c = c .before .before .loop .inv .1
 
 pub put-gathered-spec : {M : Type 1} → statement M
 put-gathered-spec =
@@ -79,12 +88,10 @@ put-gathered-spec =
     (tie.spec
     Inv-loop
     μ-loop
-    entry-requires
+    next-requires
     loop-holds
-    sub-left
-    same-length
-    returns
-    entry-requires-2
+    add-next
+    next-requires-2
     gathers-requires
     mark-requires
     wait-requires
@@ -94,5 +101,5 @@ put-gathered-spec =
     loop-again-2
     loop-less-3
     loop-again-3
-    same-length-2
-    returns-2)
+    same-length
+    returns)

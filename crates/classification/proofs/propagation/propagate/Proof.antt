@@ -1,43 +1,90 @@
-use mathlib.Core.Path.{refl}
-use Rattle.classification.proofs.Marking.{zeros-noted, zeros-unmarked}
+use native.Mathlib.Omega.{arith}
 use borrow.Author.Needs.{needs}
+use mathlib.Core.Path.{_≡_, refl, _∙_}
+use lib.ListN.{length}
+use Rattle.marks.specs.Passes.{Grows, none}
+use Rattle.marks.proofs.Squares.{frame-area}
+use Rattle.marks.proofs.Passes.{kept-grows, grows-further}
+use Rattle.classification.specs.Steps.{Step}
+use Rattle.classification.proofs.Marking.{setting-stays}
 use Rattle.classification.proofs.propagation.propagate.Statement.{statement}
 use Rattle.classification.proofs.propagation.propagate.Tie as tie
 use Rattle.classification.proofs.propagation.propagate.Reads as reads
 use Rattle.classification.proofs.propagation.propagate.Lts as lts
-use Rattle.classification.proofs.propagation.deal_with_all.Reads as deal-with-all-reads
-use Rattle.marks.proofs.turned.turn.Reads as turn-reads
-use Rattle.marks.proofs.waiting.wait_for_new.Reads as wait-for-new-reads
+use Rattle.classification.proofs.consequences.deal.Reads as deal-reads
+use Rattle.marks.proofs.hints.turn.Reads as turn-reads
+use Rattle.marks.proofs.hints.wait_for_new.Reads as wait-for-new-reads
+use Rattle.marks.proofs.waiting.take.Reads as take-reads
 
-slice-aggregate-turn : tie.Need-slice-aggregate-turn
-slice-aggregate-turn c = search needs
+abbrev Inv-loop : tie.InvT-loop
+Inv-loop file table work₀ waiting₀ square left₀ work waiting left = (length work ≡ length work₀) × Grows (Step file table square) square work₀ work
 
-turn-requires : tie.Need-turn-requires
-turn-requires c κs = let zeros = zeros-noted (c .before .before .before .before .before .pre .few) .room in ((c .before .before .before .before .before .pre .room, zeros), (refl, zeros-unmarked zeros))
+abbrev μ-loop : tie.MeasureT-loop
+μ-loop file table work₀ waiting₀ square left₀ work waiting left = left
 
-wait-for-new-requires : tie.Need-wait-for-new-requires
-wait-for-new-requires c κs = (c .before .before .before .before .before .before .before .before .before .pre .room, c .before .before .before .before .before .before .before .before .before .pre .few)
+-- src/propagation.rt:116:5
+turn-requires : tie.Need-turn-requires Inv-loop μ-loop
+turn-requires c κs = (c .before .before .before .before .pre .area, (omega arith, omega arith))
 
-slice-aggregate-deal-with-all : tie.Need-slice-aggregate-deal-with-all
-slice-aggregate-deal-with-all c = search needs
+-- src/propagation.rt:117:5
+wait-for-new-requires : tie.Need-wait-for-new-requires Inv-loop μ-loop
+wait-for-new-requires c κs = frame-area (c .before .before .before .before .turn .ensures .extends .frame) (c .before .before .before .before .before .before .before .before .before .pre .area)
 
-deal-with-all-requires : tie.Need-deal-with-all-requires
-deal-with-all-requires c κs = (c .before .before .before .before .before .before .before .before .before .before .before .before .before .pre, record { room = c .before .before .before .before .before .before .before .turn .ensures .1; few = c .before .before .before .before .before .before .before .before .before .before .before .before .before .pre .few })
+-- src/propagation.rt:119:5
+loop-holds : tie.Need-loop-holds Inv-loop μ-loop
+loop-holds c = (refl, none)
 
-same-length : tie.Need-same-length
+-- src/propagation.rt:120:9
+sub-left : tie.Need-sub-left Inv-loop μ-loop
+sub-left c = search needs
+
+-- src/propagation.rt:121:13
+take-requires : tie.Need-take-requires Inv-loop μ-loop
+take-requires c κs = search needs
+
+-- src/propagation.rt:123:13
+same-length : tie.Need-same-length Inv-loop μ-loop
 same-length c = search needs
 
-returns : tie.Need-returns
-returns c = c .before .before .before .deal-with-all .ensures
+-- src/propagation.rt:123:13
+returns : tie.Need-returns Inv-loop μ-loop
+returns c = grows-further (kept-grows (c .before .before .before .before .before .before .before .before .before .before .before .turn .ensures)) (c .before .before .before .before .before .loop .inv .1)
+
+-- src/propagation.rt:125:9
+deal-requires : tie.Need-deal-requires Inv-loop μ-loop
+deal-requires c κs = (setting-stays (grows-further (kept-grows (c .before .before .before .before .before .before .before .before .before .before .before .before .before .turn .ensures)) (c .before .before .before .before .before .before .before .loop .inv .1)) (c .before .before .before .before .before .before .before .before .before .before .before .before .before .before .before .before .before .before .pre), c .before .before .if1 .left)
+
+-- src/propagation.rt:119:5
+loop-less : tie.Need-loop-less Inv-loop μ-loop
+loop-less c = search needs
+
+-- src/propagation.rt:119:5
+loop-again : tie.Need-loop-again Inv-loop μ-loop
+loop-again c = (search needs, grows-further (c .before .before .before .before .before .before .before .before .before .before .loop .inv .1) (c .before .before .deal .ensures))
+
+-- src/propagation.rt:106:1
+same-length-2 : tie.Need-same-length-2 Inv-loop μ-loop
+same-length-2 c = search needs
+
+-- src/propagation.rt:106:1
+returns-2 : tie.Need-returns-2 Inv-loop μ-loop
+returns-2 c = grows-further (kept-grows (c .before .before .before .before .before .before .before .turn .ensures)) (c .before .loop .inv .1)
 
 pub propagate-spec : {M : Type 1} → statement M
 propagate-spec =
     tie.close
     (tie.spec
-    slice-aggregate-turn
+    Inv-loop
+    μ-loop
     turn-requires
     wait-for-new-requires
-    slice-aggregate-deal-with-all
-    deal-with-all-requires
+    loop-holds
+    sub-left
+    take-requires
     same-length
-    returns)
+    returns
+    deal-requires
+    loop-less
+    loop-again
+    same-length-2
+    returns-2)
