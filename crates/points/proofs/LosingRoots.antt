@@ -9,11 +9,11 @@ use lib.Dec.{eqb}
 use lib.ListN.{length}
 use Rattle.el.proofs.Tests.{Tells, tells-as, tells-eq, always, never}
 use Rattle.marks.specs.declared.Square.{Square}
-use Rattle.marks.specs.Squares.{Put}
+use Rattle.marks.specs.Lines.{Added}
 use Rattle.marks.proofs.Squares.{refuted}
 use Rattle.outline.specs.declared.Extent.{Extent}
 use Rattle.outline.specs.Atoms.{valueAt, ownerAt, childAt}
-use Rattle.points.specs.Grids.{grid, Grid, Set, Adds}
+use Rattle.points.specs.Grids.{mostRoots, mostNodes, cell, Grid, Set, Adds}
 use Rattle.points.specs.Above.{RootBelow}
 use Rattle.points.specs.Nodes.{NodeReaches}
 use Rattle.points.specs.Roots.{AtomReaches, name-reaches, some-reaches, RootReaches, RootBelowAtom, root-below-name, root-below-some, FromRoot, FromRoots, OfAtom}
@@ -88,9 +88,9 @@ module _ {s t : List ℕ} {q : Square} {w o : List ℕ} {c : ℕ} {a p ln l : Li
       back (root-below-some h′ m) = rw (e, g) m
 
 -- losing roots changes the row of the atom's owner only, and reads that of its child
-same-reaching : {t : List ℕ} {q : Square} {w o ln l v : List ℕ} {i r j : ℕ} → childAt o i < 128 → ((z : ℕ) → z < 128 → Set v j z → Set l j z) → AtomReaches t q w o ln l i r j → AtomReaches t q w o ln v i r j
+same-reaching : {t : List ℕ} {q : Square} {w o ln l v : List ℕ} {i r j : ℕ} → childAt o i < mostRoots → ((z : ℕ) → z < mostNodes → Set v j z → Set l j z) → AtomReaches t q w o ln l i r j → AtomReaches t q w o ln v i r j
 same-reaching h f (name-reaches c m) = name-reaches c m
-same-reaching h f (some-reaches c e m) = some-reaches c e (λ z. m (f _ h z))
+same-reaching h f (some-reaches c e m) = some-reaches c e (λ z. m (f _ (omega arith) z))
 
 module _ {s t : List ℕ} {q : Square} {w o : List ℕ} {x : Extent} {a p ln l : List ℕ} {i : ℕ} (given : OfAtom s t q w o x a p ln l i) where
   pub from-roots : 0 < childAt p i → {j : ℕ} → j ≡ childAt p i → FromRoots t q w o x ln l j
@@ -102,18 +102,18 @@ module _ {s t : List ℕ} {q : Square} {w o : List ℕ} {x : Extent} {a p ln l :
 
     as-before : {k : ℕ} → RootBelowAtom s t q w o (x .atoms) a p ln v i k → RootBelowAtom s t q w o (x .atoms) a p ln l i k
     as-before (root-below-name c m) = root-below-name c m
-    as-before (root-below-some c m) = root-below-some c (record { by = m .by; is-atom = m .is-atom; owner = m .owner; reaches = same-reaching (given .from-child (m .by) (m .is-atom)) (λ z h k. adds .old _ z (given .child) h k) (m .reaches) })
+    as-before (root-below-some c m) = root-below-some c (record { by = m .by; is-atom = m .is-atom; owner = m .owner; reaches = same-reaching (given .from-child (m .by) (m .is-atom)) (λ z h k. adds .old _ z k) (m .reaches) })
 
     as-after : {k : ℕ} → RootBelowAtom s t q w o (x .atoms) a p ln l i k → RootBelowAtom s t q w o (x .atoms) a p ln v i k
     as-after (root-below-name c m) = root-below-name c m
-    as-after (root-below-some c m) = root-below-some c (record { by = m .by; is-atom = m .is-atom; owner = m .owner; reaches = same-reaching (given .from-child (m .by) (m .is-atom)) (λ z h. adds-row adds _ z (λ same. omega (arith, given .later c)) (given .child) h) (m .reaches) })
+    as-after (root-below-some c m) = root-below-some c (record { by = m .by; is-atom = m .is-atom; owner = m .owner; reaches = same-reaching (given .from-child (m .by) (m .is-atom)) (λ z h. adds-row adds _ z (λ same. omega (arith, given .later c)) h) (m .reaches) })
 
     pub tells-before : {r : Bool} {k : ℕ} → Tells r (RootBelowAtom s t q w o (x .atoms) a p ln v i k) → Tells r (RootBelowAtom s t q w o (x .atoms) a p ln l i k)
     tells-before tells = tells-as as-before as-after tells
 
   module _ {e : ℕ} {v : List ℕ} (adds : Adds (ownerAt p i) e (λ k. RootBelowAtom s t q w o (x .atoms) a p ln l i k → ⊥) (RootBelowAtom s t q w o (x .atoms) a p ln l i) l v) {r : Bool} (tells : Tells r (RootBelowAtom s t q w o (x .atoms) a p ln v i e)) where
-    pub root-lost : {z : Bool} {u : List ℕ} (row : ℕ) → row ≡ ownerAt p i → e < x .roots → r ≡ false → Put grid row e v u z → Adds (ownerAt p i) (e + 1) (λ k. RootBelowAtom s t q w o (x .atoms) a p ln l i k → ⊥) (RootBelowAtom s t q w o (x .atoms) a p ln l i) l u
-    root-lost row is h z put = adds-more adds (refuted (tells-before adds tells) z) (rw is at put)
+    pub root-lost : {u : List ℕ} (row : ℕ) → row ≡ ownerAt p i → e < x .roots → r ≡ false → Added (cell row e) v u → Adds (ownerAt p i) (e + 1) (λ k. RootBelowAtom s t q w o (x .atoms) a p ln l i k → ⊥) (RootBelowAtom s t q w o (x .atoms) a p ln l i) l u
+    root-lost row is h z added = adds-more adds (refuted (tells-before adds tells) z) (omega (arith, given .few)) (rw is at added)
 
     pub root-kept : r ≡ true → Adds (ownerAt p i) (e + 1) (λ k. RootBelowAtom s t q w o (x .atoms) a p ln l i k → ⊥) (RootBelowAtom s t q w o (x .atoms) a p ln l i) l v
     root-kept z = adds-skipped adds (tells-before adds tells .sound z)

@@ -10,10 +10,11 @@ use Rattle.el.proofs.Tests.{Tells, tells-as, always, never}
 use Rattle.release.specs.Files.{joins, restricts}
 use Rattle.release.specs.Tables.{kindAt, roleAt, fillerAt, countAt, partAt, Shaped, Conjunctive, HasRow}
 use Rattle.marks.specs.declared.Square.{Square}
-use Rattle.marks.specs.Squares.{Marked, Put}
+use Rattle.marks.specs.Lines.{Added}
+use Rattle.marks.specs.Squares.{Marked}
 use Rattle.marks.proofs.Squares.{refuted}
 use Rattle.outline.specs.Atoms.{valueAt, ownerAt, childAt, HasAtom}
-use Rattle.points.specs.Grids.{grid, Grid, Set, Adds}
+use Rattle.points.specs.Grids.{mostRoots, mostNodes, cell, Grid, Set, Adds}
 use Rattle.points.specs.Above.{Ranges, PartsSet, RootBelow, top-above, parts-above, name-above, AtomBelow, name-below, some-below, InRow, OfAtom}
 use Rattle.points.proofs.Grids.{adds-more, adds-skipped, adds-row, adds-grid}
 
@@ -27,7 +28,7 @@ module _ {n : ℕ} {s t a : List ℕ} {k y : ℕ} (here : InRow n s t a k y) whe
   pub conjunctive : Conjunctive n s t y
   conjunctive = record { shaped = here .ranges .shaped; is-name = here .name; is-conjunction = kind-2-joins (here .kind) }
 
-  pub part-small : {i : ℕ} (p : ℕ) → p ≡ partAt s t y i → i < countAt s t y → p < 128
+  pub part-small : {i : ℕ} (p : ℕ) → p ≡ partAt s t y i → i < countAt s t y → p < mostNodes
   part-small {i} p e h = omega (arith, here .ranges .few, here .ranges .shaped .part y i (here .name) (kind-2-joins (here .kind)) h)
 
 -- conjuncts passed
@@ -73,7 +74,7 @@ module _ {n : ℕ} {s t a : List ℕ} {k y : ℕ} where
       back (name-above l z m) = m
 
 -- the same by another grid with the same row
-pub same-row : {n : ℕ} {s t a b : List ℕ} {k y : ℕ} → Ranges n s t → ((z : ℕ) → z < 128 → Set a k z → Set b k z) → RootBelow n s t a k y → RootBelow n s t b k y
+pub same-row : {n : ℕ} {s t a b : List ℕ} {k y : ℕ} → Ranges n s t → ((z : ℕ) → z < mostNodes → Set a k z → Set b k z) → RootBelow n s t a k y → RootBelow n s t b k y
 same-row ranges f (top-above e) = top-above e
 same-row {y = y} ranges f (parts-above h e p) = parts-above h e (record { each = λ i l. f _ (omega (arith, ranges .few, ranges .shaped .part y i h (kind-2-joins e) l)) (p .each i l) })
 same-row ranges f (name-above h e m) = name-above h e (f _ (omega (arith, ranges .few)) m)
@@ -123,19 +124,19 @@ module _ {s t : List ℕ} {q : Square} {w o a : List ℕ} {i : ℕ} (given : OfA
 
   as-before : {y : ℕ} → AtomBelow s t q w o b i y → AtomBelow s t q w o a i y
   as-before (name-below z c m) = name-below z c m
-  as-before (some-below z c r m) = some-below z c r (same-row (given .setting .ranges) (λ x h. adds-row adds _ x (λ same. omega (arith, given .later c)) (given .child) h) m)
+  as-before (some-below z c r m) = some-below z c r (same-row (given .setting .ranges) (λ x h. adds-row adds _ x (λ same. omega (arith, given .later c)) h) m)
 
   as-after : {y : ℕ} → AtomBelow s t q w o a i y → AtomBelow s t q w o b i y
   as-after (name-below z c m) = name-below z c m
-  as-after (some-below z c r m) = some-below z c r (same-row (given .setting .ranges) (λ x h k. adds .old _ x (given .child) h k) m)
+  as-after (some-below z c r m) = some-below z c r (same-row (given .setting .ranges) (λ x h k. adds .old _ x k) m)
 
   pub tells-before : {r : Bool} {y : ℕ} → Tells r (AtomBelow s t q w o b i y) → Tells r (AtomBelow s t q w o a i y)
   tells-before tells = tells-as as-before as-after tells
 
 -- the turns
 module _ {s t : List ℕ} {q : Square} {w o a : List ℕ} {i : ℕ} (given : OfAtom s t q w o a i) {e : ℕ} {b : List ℕ} (adds : Adds (ownerAt o i) e (AtomBelow s t q w o a i) (λ y. AtomBelow s t q w o a i y → ⊥) a b) {r : Bool} (tells : Tells r (AtomBelow s t q w o b i e)) where
-  pub raise-sets : {p : Bool} {v : List ℕ} (row : ℕ) → row ≡ ownerAt o i → e < q .names → r ≡ true → Put grid row e b v p → Adds (ownerAt o i) (e + 1) (AtomBelow s t q w o a i) (λ y. AtomBelow s t q w o a i y → ⊥) a v
-  raise-sets row is h z put = adds-more adds (tells-before given adds tells .sound z) (rw is at put)
+  pub raise-sets : {v : List ℕ} (row : ℕ) → row ≡ ownerAt o i → e < q .names → r ≡ true → Added (cell row e) b v → Adds (ownerAt o i) (e + 1) (AtomBelow s t q w o a i) (λ y. AtomBelow s t q w o a i y → ⊥) a v
+  raise-sets row is h z added = adds-more adds (tells-before given adds tells .sound z) (omega (arith, given .setting .ranges .few)) (rw is at added)
 
   pub raise-skips : r ≡ false → Adds (ownerAt o i) (e + 1) (AtomBelow s t q w o a i) (λ y. AtomBelow s t q w o a i y → ⊥) a b
   raise-skips z = adds-skipped adds (refuted (tells-before given adds tells) z)

@@ -12,11 +12,11 @@ use Rattle.release.specs.Tables.{kindAt, roleAt, fillerAt, countAt, partAt, Sha
 use Rattle.marks.specs.declared.Square.{Square}
 use Rattle.marks.specs.Squares.{Room, Marked}
 use Rattle.outline.specs.Atoms.{valueAt, ownerAt, childAt, HasAtom}
-use Rattle.points.specs.Grids.{Grid, Set, Adds}
+use Rattle.points.specs.Grids.{mostRoots, mostNodes, Grid, Set, Adds}
 
 pub record Ranges (n : ℕ) (s t : List ℕ) : Type 0 where
   pub shaped : Shaped n s t
-  pub few : n < 128
+  pub few : n < mostNodes
 
 pub record PartsSet (s t a : List ℕ) (k y : ℕ) : Type 0 where
   pub each : (i : ℕ) → i < countAt s t y → Set a k (partAt s t y i)
@@ -33,7 +33,7 @@ pub data AtomBelow (s t : List ℕ) (q : Square) (w o a : List ℕ) (i y : ℕ) 
 pub record InRow (n : ℕ) (s t a : List ℕ) (k y : ℕ) : Type 0 where
   pub ranges : Ranges n s t
   pub rows : Grid a
-  pub row : k < 128
+  pub row : k < mostRoots
   pub name : y < n
   pub kind : kindAt t y ≡ 2
 
@@ -46,8 +46,8 @@ pub record OfAtom (s t : List ℕ) (q : Square) (w o a : List ℕ) (i : ℕ) : T
   pub setting : Setting s t q w
   pub rows : Grid a
   pub inside : 3 * i + 3 ≤ length o
-  pub owner : ownerAt o i < 128
-  pub child : childAt o i < 128
+  pub owner : ownerAt o i < mostRoots
+  pub child : childAt o i < mostRoots
   pub named : childAt o i ≡ 0 → valueAt o i < q .names
   pub later : 0 < childAt o i → ownerAt o i < childAt o i
 

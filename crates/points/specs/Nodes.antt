@@ -1,4 +1,6 @@
 -- The nodes that lie below an atom, by the nodes that the row of its child has lost.
+--   Serves t l r j b             the name b has an axiom ∃r.B, and row j of l has not lost B
+--   Idle t n l r j k             no name that the line k has does
 --   Leads t q w l x r j b        the name b is above the node x and has an axiom ∃r.B, and row j of l has not lost B
 --   NodeReaches t q w l x r j    some name does: x lies below ∃r over root j
 --   NodeBelow t q w o l i x      x lies below atom i of the outline o
@@ -12,8 +14,14 @@ use Rattle.release.specs.Files.{restricts}
 use Rattle.release.specs.Tables.{kindAt, roleAt, fillerAt}
 use Rattle.marks.specs.declared.Square.{Square}
 use Rattle.marks.specs.Squares.{Room, Marked}
+use Rattle.marks.specs.Lines.{Has, Spans}
 use Rattle.outline.specs.Atoms.{valueAt, ownerAt, childAt}
-use Rattle.points.specs.Grids.{Grid, Set, Adds}
+use Rattle.points.specs.Grids.{mostRoots, mostNodes, Grid, Set, Adds}
+
+pub record Serves (t l : List ℕ) (r j b : ℕ) : Type 0 where
+  pub is-restriction : restricts (kindAt t b) ≡ true
+  pub role : roleAt t b ≡ r
+  pub kept : Set l j (fillerAt t b) → ⊥
 
 pub record Leads (t : List ℕ) (q : Square) (w l : List ℕ) (x r j b : ℕ) : Type 0 where
   pub is-restriction : restricts (kindAt t b) ≡ true
@@ -34,21 +42,30 @@ pub data NodeBelow (t : List ℕ) (q : Square) (w o l : List ℕ) (i x : ℕ) : 
 pub record Inclusive (t : List ℕ) (q : Square) (w : List ℕ) : Type 0 where
   pub rows : 4 * q .names ≤ length t
   pub fillers : (x : ℕ) → x < q .names → restricts (kindAt t x) ≡ true → fillerAt t x ≤ q .names
-  pub few : q .names < 128
+  pub few : q .names < mostNodes
   pub room : Room q w
+
+pub record Ranged (n : ℕ) (t : List ℕ) : Type 0 where
+  pub rows : 4 * n ≤ length t
+  pub fillers : (x : ℕ) → x < n → restricts (kindAt t x) ≡ true → fillerAt t x < mostNodes
+  pub few : n < mostNodes
+
+pub record Idle (t : List ℕ) (n : ℕ) (l : List ℕ) (r j : ℕ) (k : List ℕ) : Type 0 where
+  pub spans : Spans n k
+  pub none : (b : ℕ) → b < n → Has k b → Serves t l r j b → ⊥
 
 pub record FromNode (t : List ℕ) (q : Square) (w l : List ℕ) (x j : ℕ) : Type 0 where
   pub inclusive : Inclusive t q w
   pub grid : Grid l
   pub node : x ≤ q .names
-  pub row : j < 128
+  pub row : j < mostRoots
 
 pub record OfAtom (t : List ℕ) (q : Square) (w o l : List ℕ) (i : ℕ) : Type 0 where
   pub inclusive : Inclusive t q w
   pub grid : Grid l
   pub inside : 3 * i + 3 ≤ length o
-  pub owner : ownerAt o i < 128
-  pub child : childAt o i < 128
+  pub owner : ownerAt o i < mostRoots
+  pub child : childAt o i < mostRoots
   pub named : childAt o i ≡ 0 → valueAt o i < q .names
   pub later : 0 < childAt o i → ownerAt o i < childAt o i
 

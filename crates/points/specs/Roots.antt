@@ -11,7 +11,7 @@ use lib.ListN.{length}
 use Rattle.marks.specs.declared.Square.{Square}
 use Rattle.outline.specs.declared.Extent.{Extent}
 use Rattle.outline.specs.Atoms.{valueAt, ownerAt, childAt}
-use Rattle.points.specs.Grids.{Grid, Set, Adds}
+use Rattle.points.specs.Grids.{mostRoots, Grid, Set, Adds}
 use Rattle.points.specs.Above.{Ranges, RootBelow}
 use Rattle.points.specs.Nodes.{Inclusive, NodeReaches}
 
@@ -35,18 +35,18 @@ pub record FromRoot (t : List ℕ) (q : Square) (w o ln l : List ℕ) (i j : ℕ
   pub nodes : Grid ln
   pub roots : Grid l
   pub inside : 3 * i + 3 ≤ length o
-  pub child : childAt o i < 128
+  pub child : childAt o i < mostRoots
   pub named : childAt o i ≡ 0 → valueAt o i < q .names
-  pub row : j < 128
+  pub row : j < mostRoots
 
 pub record FromRoots (t : List ℕ) (q : Square) (w o : List ℕ) (r : Extent) (ln l : List ℕ) (j : ℕ) : Type 0 where
   pub inclusive : Inclusive t q w
   pub nodes : Grid ln
   pub roots : Grid l
   pub inside : 3 * r .atoms ≤ length o
-  pub child : (i : ℕ) → i < r .atoms → childAt o i < 128
+  pub child : (i : ℕ) → i < r .atoms → childAt o i < mostRoots
   pub named : (i : ℕ) → i < r .atoms → childAt o i ≡ 0 → valueAt o i < q .names
-  pub row : j < 128
+  pub row : j < mostRoots
 
 pub record OfAtom (s t : List ℕ) (q : Square) (w o : List ℕ) (r : Extent) (a p ln l : List ℕ) (i : ℕ) : Type 0 where
   pub ranges : Ranges (q .names) s t
@@ -54,13 +54,13 @@ pub record OfAtom (s t : List ℕ) (q : Square) (w o : List ℕ) (r : Extent) (a
   pub above : Grid a
   pub nodes : Grid ln
   pub roots : Grid l
-  pub few : r .roots ≤ 128
+  pub few : r .roots ≤ mostRoots
   pub from-inside : 3 * r .atoms ≤ length o
-  pub from-child : (i : ℕ) → i < r .atoms → childAt o i < 128
+  pub from-child : (i : ℕ) → i < r .atoms → childAt o i < mostRoots
   pub from-named : (i : ℕ) → i < r .atoms → childAt o i ≡ 0 → valueAt o i < q .names
   pub inside : 3 * i + 3 ≤ length p
-  pub owner : ownerAt p i < 128
-  pub child : childAt p i < 128
+  pub owner : ownerAt p i < mostRoots
+  pub child : childAt p i < mostRoots
   pub named : childAt p i ≡ 0 → valueAt p i < q .names
   pub later : 0 < childAt p i → ownerAt p i < childAt p i
 

@@ -2,7 +2,7 @@
 ghost use Prim.Native.Nat.{_≤_, _<_};
 ghost use Rattle.el.proofs.Tests.{Tells};
 ghost use Rattle.outline.specs.Atoms.{Shape};
-ghost use Rattle.points.specs.Grids.{Grid, Adds};
+ghost use Rattle.points.specs.Grids.{mostRoots, Grid};
 ghost use Rattle.points.specs.Above.{Ranges, PartsSet, RootBelow, AtomBelow, InRow, OfAtom, Risen};
 use crate::is_set;
 use crate::set;
@@ -36,7 +36,7 @@ fn has_parts(file: &[u8], table: &[u16], names: usize, above: &[u8], k: usize, y
 pub fn is_above(file: &[u8], table: &[u16], names: usize, above: &[u8], k: usize, y: usize) -> bool
     requires { ⌜ Ranges names (now file) (now table) ⌝ }
     requires { ⌜ Grid (now above) ⌝ }
-    requires { ⌜ (k < 128) × (y ≤ names) ⌝ }
+    requires { ⌜ (k < mostRoots) × (y ≤ names) ⌝ }
     ensures { λ r. ⌜ Tells r (RootBelow names (now (file .entry)) (now (table .entry)) (now (above .entry)) k y) ⌝ }
 {
     if y == names {
@@ -54,7 +54,7 @@ fn atom_below(
     table: &[u16],
     work: &[u8],
     square: Square,
-    atoms: &[u8],
+    atoms: &[u16],
     above: &[u8],
     i: usize,
     y: usize,
@@ -88,7 +88,7 @@ pub fn raise(
     table: &[u16],
     work: &[u8],
     square: Square,
-    atoms: &[u8],
+    atoms: &[u16],
     above: &mut [u8],
     i: usize,
 )

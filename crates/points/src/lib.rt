@@ -2,48 +2,32 @@
 // of another concept C.
 ghost use Prim.Native.Nat.{_+_, _≤_, _<_};
 ghost use Rattle.el.proofs.Tests.{Tells};
-ghost use Rattle.marks.specs.Squares.{Put};
-ghost use Rattle.points.specs.Grids.{grid, Grid, Set};
-use marks::Square;
+ghost use Rattle.marks.specs.Lines.{Added};
+ghost use Rattle.points.specs.Grids.{mostRoots, mostNodes, cell, Grid, Set};
+use marks::line;
 
 pub mod above;
 pub mod nodes;
 pub mod roots;
 
-// The rows of a grid, and the places in a row: as many as there can be roots, or nodes.
-pub const SIDE: usize = 128;
+// The places of a row of a grid: as many as there can be nodes. It has 128 rows, as many as a concept can have roots.
+const NODES: usize = 1024;
 
 // The bytes of a grid: a bit a place.
-pub const AREA: usize = 2048;
+pub const AREA: usize = 16384;
 
 pub fn is_set(rows: &[u8], k: usize, y: usize) -> bool
     requires { ⌜ Grid (now rows) ⌝ }
-    requires { ⌜ (k < 128) × (y < 128) ⌝ }
+    requires { ⌜ (k < mostRoots) × (y < mostNodes) ⌝ }
     ensures { λ r. ⌜ Tells r (Set (now (rows .entry)) k y) ⌝ }
 {
-    marks::is_marked(
-        rows,
-        Square {
-            base: 0,
-            names: SIDE - 1,
-        },
-        k,
-        y,
-    )
+    line::has(rows, NODES * k + y)
 }
 
-fn set(rows: &mut [u8], k: usize, y: usize) -> bool
+fn set(rows: &mut [u8], k: usize, y: usize)
     requires { ⌜ Grid (now rows) ⌝ }
-    requires { ⌜ (k < 128) × (y < 128) ⌝ }
-    ensures { λ r. ⌜ Put grid k y (now (rows .entry)) (now (rows .exit)) r ⌝ }
+    requires { ⌜ (k < mostRoots) × (y < mostNodes) ⌝ }
+    ensures { λ _. ⌜ Added (cell k y) (now (rows .entry)) (now (rows .exit)) ⌝ }
 {
-    marks::mark(
-        rows,
-        Square {
-            base: 0,
-            names: SIDE - 1,
-        },
-        k,
-        y,
-    )
+    line::add(rows, NODES * k + y);
 }

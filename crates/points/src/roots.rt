@@ -7,6 +7,7 @@ use crate::is_set;
 use crate::nodes::node_reaches;
 use crate::set;
 use marks::Square;
+use marks::line::Line;
 use outline::Extent;
 use outline::child;
 use outline::owner;
@@ -17,7 +18,7 @@ fn atom_reaches(
     table: &[u16],
     work: &[u8],
     square: Square,
-    atoms: &[u8],
+    atoms: &[u16],
     nodes: &[u8],
     lost: &[u8],
     i: usize,
@@ -30,7 +31,8 @@ fn atom_reaches(
     let filler = child(atoms, i);
     let name = value(atoms, i);
     if filler == 0 {
-        return node_reaches(table, work, square, nodes, name, role, j);
+        let idle = [0u8; Line::LENGTH];
+        return node_reaches(table, work, square, nodes, &idle, name, role, j);
     }
     if is_set(lost, j, filler) {
         return false;
@@ -43,7 +45,7 @@ fn root_reaches(
     table: &[u16],
     work: &[u8],
     square: Square,
-    atoms: &[u8],
+    atoms: &[u16],
     extent: Extent,
     nodes: &[u8],
     lost: &[u8],
@@ -73,10 +75,10 @@ fn root_below(
     table: &[u16],
     work: &[u8],
     square: Square,
-    below: &[u8],
+    below: &[u16],
     extent: Extent,
     above: &[u8],
-    atoms: &[u8],
+    atoms: &[u16],
     nodes: &[u8],
     lost: &[u8],
     i: usize,
@@ -111,10 +113,10 @@ pub fn lose_roots(
     table: &[u16],
     work: &[u8],
     square: Square,
-    below: &[u8],
+    below: &[u16],
     extent: Extent,
     above: &[u8],
-    atoms: &[u8],
+    atoms: &[u16],
     nodes: &[u8],
     lost: &mut [u8],
     i: usize,

@@ -18,14 +18,15 @@ use Rattle.el.proofs.PlainNodes.{FilledBy, top-below-plain, both-below-plain, s
 use Rattle.release.specs.Files.{axiomsOf, restricts}
 use Rattle.release.specs.Tables.{kindAt, roleAt, fillerAt, countAt, partAt}
 use Rattle.marks.specs.declared.Square.{Square}
-use Rattle.marks.specs.Squares.{Marked, Unmarked}
+use Rattle.marks.specs.Squares.{Marked}
+use Rattle.marks.specs.Lines.{Empty}
 use Rattle.classification.specs.Inclusions.{nodeAt}
 use Rattle.classification.proofs.Nodes.{at-top, at-name}
 use Rattle.classification.proofs.AxiomRows as rows
 use Rattle.outline.specs.declared.Extent.{Extent}
 use Rattle.outline.specs.Atoms.{valueAt, ownerAt, childAt, Atom, atomsFrom, atomConcept, rootOf, Shape}
 use Rattle.outline.proofs.Atoms.{root-own, root-other, root-none}
-use Rattle.points.specs.Grids.{grid, Grid, Set, Adds}
+use Rattle.points.specs.Grids.{mostRoots, Grid, Set, Adds}
 use Rattle.points.specs.Above.{PartsSet, RootBelow, top-above, parts-above, name-above, AtomBelow, name-below, some-below, Risen}
 use Rattle.points.proofs.Grids.{adds-row}
 use Rattle.points.proofs.Raising.{kind-2-joins, kind-4-restricts}
@@ -103,10 +104,10 @@ module _ {s t : List ℕ} {q : Square} {w : List ℕ} (world : World s t q w) wh
             filled-atom z (omega arith) (found .member) (found .holds)
 
   -- before any atom; after one more
-  pub above-none : (a o : List ℕ) (i : ℕ) → Unmarked grid a → Above s t a n (atomsFrom o i 0)
-  above-none a o i unmarked = record {
+  pub above-none : (a o : List ℕ) (i : ℕ) → Empty a → Above s t a n (atomsFrom o i 0)
+  above-none a o i empty = record {
     row = λ k h. rw (root-none o i k) record {
-      sound = λ y l z m. absurd (unmarked .none k y (omega arith) (omega (arith, world .few)) m);
+      sound = λ y l z m. absurd (empty .none _ m);
       complete = λ y l z p. absurd (top-below-plain (terminology world) (not-defined world y z) p);
     };
   }
@@ -123,30 +124,30 @@ module _ {s t : List ℕ} {q : Square} {w : List ℕ} (world : World s t q w) wh
 
     own-row : RowAbove s t b n (ownerAt o i) (both (atomConcept (childAt o i) (valueAt o i) filler) (rootOf rest (ownerAt o i)))
     own-row =
-        let small : ownerAt o i < 128 = omega (arith, shape .owner i h, shape .few) in
+        let small : ownerAt o i < mostRoots = omega (arith, shape .owner i h, shape .few) in
         let old = above .row (ownerAt o i) small in
         record {
-          sound = λ y l z m. elim (risen .adds .only (ownerAt o i) y small (omega (arith, world .few)) m) [
+          sound = λ y l z m. elim (risen .adds .only (ownerAt o i) y (omega (arith, world .few)) m) [
             | inl x ↦ other ▹ old .sound y l z x
             | inr x ↦ one ▹ atom-below-sound child-row (shape .named i h) l (x .1 .1)
           ];
           complete = λ y l z p. elim (both-below-plain (terminology world) (not-defined world y z) .0 p) [
             | inl x ↦ elim (risen .adds .all y l) [ inl m ↦ m | inr none ↦ absurd (none (atom-below-complete child-row (shape .named i h) l z x)) ]
-            | inr x ↦ risen .adds .old (ownerAt o i) y small (omega (arith, world .few)) (old .complete y l z x)
+            | inr x ↦ risen .adds .old (ownerAt o i) y (old .complete y l z x)
           ];
         }
 
-    other-row : (k : ℕ) → k < 128 → (ownerAt o i ≡ k → ⊥) → RowAbove s t b n k (rootOf rest k)
+    other-row : (k : ℕ) → k < mostRoots → (ownerAt o i ≡ k → ⊥) → RowAbove s t b n k (rootOf rest k)
     other-row k small apart =
         let old = above .row k small in
         record {
-          sound = λ y l z m. old .sound y l z (adds-row (risen .adds) k y (λ e. apart (sym e)) small (omega (arith, world .few)) m);
-          complete = λ y l z p. risen .adds .old k y small (omega (arith, world .few)) (old .complete y l z p);
+          sound = λ y l z m. old .sound y l z (adds-row (risen .adds) k y (λ e. apart (sym e)) (omega (arith, world .few)) m);
+          complete = λ y l z p. risen .adds .old k y (old .complete y l z p);
         }
 
     pub above-more : Above s t b n (atomsFrom o i (suc left))
     above-more = record { row = λ k small. by-owner k small (ℕ-discrete (ownerAt o i) k) }
       where
-        by-owner : (k : ℕ) → k < 128 → Dec (ownerAt o i ≡ k) → RowAbove s t b n k (rootOf (atomsFrom o i (suc left)) k)
+        by-owner : (k : ℕ) → k < mostRoots → Dec (ownerAt o i ≡ k) → RowAbove s t b n k (rootOf (atomsFrom o i (suc left)) k)
         by-owner k small (yes e) = rw (root-own o i left k e, ← e) own-row
         by-owner k small (no e) = rw (root-other o i left k e) (other-row k small e)

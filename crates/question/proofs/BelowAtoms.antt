@@ -18,14 +18,15 @@ use Rattle.el.proofs.CanonicalModel.{Within, Edge, written, implied, inversion}
 use Rattle.release.specs.Files.{axiomsOf, restricts}
 use Rattle.release.specs.Tables.{kindAt, roleAt, fillerAt}
 use Rattle.marks.specs.declared.Square.{Square}
-use Rattle.marks.specs.Squares.{Marked, Unmarked}
+use Rattle.marks.specs.Squares.{Marked}
+use Rattle.marks.specs.Lines.{Empty}
 use Rattle.classification.specs.Inclusions.{nodeAt}
 use Rattle.classification.proofs.Nodes.{at-name}
 use Rattle.classification.proofs.AxiomRows as rows
 use Rattle.outline.specs.declared.Extent.{Extent}
 use Rattle.outline.specs.Atoms.{valueAt, ownerAt, childAt, Atom, atomsFrom, atomConcept, rootOf, Shape}
 use Rattle.outline.proofs.Atoms.{root-own, root-other, root-none}
-use Rattle.points.specs.Grids.{grid, Grid, Set, Adds}
+use Rattle.points.specs.Grids.{mostRoots, mostNodes, Grid, Set, Adds}
 use Rattle.points.specs.Nodes.{Leads, NodeReaches, NodeBelow, below-name, below-some}
 use Rattle.points.proofs.Grids.{adds-row}
 use Rattle.question.specs.Evaluation.{World, KeptRow, Kept, nodePoint}
@@ -33,40 +34,40 @@ use Rattle.question.proofs.Worlds.{terminology, axiom-at, row-of, marke
 use Rattle.question.proofs.AboveRoots.{some-atom}
 
 -- for any points
-module _ {al : List Axiom} {point : ℕ → Concept} {e : ℕ} (few : e ≤ 128) where
-  pub kept-none : (l o : List ℕ) (i : ℕ) → Unmarked grid l → Kept al point e l (atomsFrom o i 0)
-  kept-none l o i unmarked = record { row = λ j h. rw (root-none o i j) record { lost = λ x m k p. unmarked .none j x (omega arith) (omega arith) k; kept = λ x m k. to-top } }
+pub kept-none : {al : List Axiom} {point : ℕ → Concept} {e : ℕ} (l o : List ℕ) (i : ℕ) → Empty l → Kept al point e l (atomsFrom o i 0)
+kept-none l o i empty = record { row = λ j h. rw (root-none o i j) record { lost = λ x m k p. empty .none _ k; kept = λ x m k. to-top } }
 
+module _ {al : List Axiom} {point : ℕ → Concept} {e : ℕ} (few : e ≤ mostNodes) where
   module _ {l v o : List ℕ} {n : ℕ} {r : Extent} (shape : Shape n o r) (i left : ℕ) (h : i < r .atoms) {Below : ℕ → Type 0} (sound : (x : ℕ) → x < e → Below x → Derives al (point x) (atomConcept (childAt o i) (valueAt o i) (rootOf (atomsFrom o (suc i) left) (childAt o i)))) (complete : (x : ℕ) → x < e → Derives al (point x) (atomConcept (childAt o i) (valueAt o i) (rootOf (atomsFrom o (suc i) left) (childAt o i))) → Below x) (kept : Kept al point e l (atomsFrom o (suc i) left)) (adds : Adds (ownerAt o i) e (λ x. Below x → ⊥) Below l v) where
     abbrev rest : List Atom
     rest = atomsFrom o (suc i) left
 
     own-row : KeptRow al point e v (ownerAt o i) (both (atomConcept (childAt o i) (valueAt o i) (rootOf rest (childAt o i))) (rootOf rest (ownerAt o i)))
     own-row =
-        let small : ownerAt o i < 128 = omega (arith, shape .owner i h, shape .few) in
+        let small : ownerAt o i < mostRoots = omega (arith, shape .owner i h, shape .few) in
         let old = kept .row (ownerAt o i) small in
         record {
-          lost = λ x m k p. elim (adds .only (ownerAt o i) x small (omega arith) k) [
+          lost = λ x m k p. elim (adds .only (ownerAt o i) x (omega arith) k) [
             | inl z ↦ old .lost x m z (p ▹ other)
             | inr z ↦ z .1 .1 (complete x m (p ▹ one))
           ];
           kept = λ x m k.
               let first : Derives al (point x) (atomConcept (childAt o i) (valueAt o i) (rootOf rest (childAt o i))) = elim (adds .all x m) [ inl z ↦ absurd (k z) | inr z ↦ sound x m z ] in
-              meet first (old .kept x m (λ z. k (adds .old (ownerAt o i) x small (omega arith) z)));
+              meet first (old .kept x m (λ z. k (adds .old (ownerAt o i) x z)));
         }
 
-    other-row : (j : ℕ) → j < 128 → (ownerAt o i ≡ j → ⊥) → KeptRow al point e v j (rootOf rest j)
+    other-row : (j : ℕ) → j < mostRoots → (ownerAt o i ≡ j → ⊥) → KeptRow al point e v j (rootOf rest j)
     other-row j small apart =
         let old = kept .row j small in
         record {
-          lost = λ x m k p. old .lost x m (adds-row adds j x (λ z. apart (sym z)) small (omega arith) k) p;
-          kept = λ x m k. old .kept x m (λ z. k (adds .old j x small (omega arith) z));
+          lost = λ x m k p. old .lost x m (adds-row adds j x (λ z. apart (sym z)) (omega arith) k) p;
+          kept = λ x m k. old .kept x m (λ z. k (adds .old j x z));
         }
 
     pub kept-more : Kept al point e v (atomsFrom o i (suc left))
     kept-more = record { row = λ j small. by-owner j small (ℕ-discrete (ownerAt o i) j) }
       where
-        by-owner : (j : ℕ) → j < 128 → Dec (ownerAt o i ≡ j) → KeptRow al point e v j (rootOf (atomsFrom o i (suc left)) j)
+        by-owner : (j : ℕ) → j < mostRoots → Dec (ownerAt o i ≡ j) → KeptRow al point e v j (rootOf (atomsFrom o i (suc left)) j)
         by-owner j small (yes z) = rw (root-own o i left j z, ← z) own-row
         by-owner j small (no z) = rw (root-other o i left j z) (other-row j small z)
 

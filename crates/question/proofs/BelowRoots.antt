@@ -20,6 +20,7 @@ use Rattle.classification.proofs.Nodes.{at-name}
 use Rattle.outline.specs.declared.Extent.{Extent}
 use Rattle.outline.specs.Atoms.{valueAt, ownerAt, childAt, Atom, atomsFrom, atomConcept, rootOf, Shape}
 use Rattle.outline.proofs.Atoms.{root-own, root-other, root-none}
+use Rattle.points.specs.Grids.{mostRoots}
 use Rattle.points.specs.Above.{RootBelow}
 use Rattle.points.specs.Roots.{AtomReaches, name-reaches, some-reaches, RootReaches, RootBelowAtom, root-below-name, root-below-some}
 use Rattle.question.specs.Evaluation.{World, RowAbove, Above, KeptRow, Kept, nodePoint, rootPoint}
@@ -147,7 +148,7 @@ module _ {s t : List ℕ} {q : Square} {w : List ℕ} (world : World s t q w) {o
       let inside : found .at < r .atoms = omega (arith, found .inside) in
       record { by = found .at; is-atom = inside; owner = found .owner; reaches = atom-reaches-complete (found .at) role inside (rw (z, atom-whole shape (found .at) inside) at (found .below)) }
 
-  module _ {a p : List ℕ} {i : ℕ} (above : Above s t a (q .names) (atomsFrom o 0 (r .atoms))) (is-child : j ≡ childAt p i) (named-in : childAt p i ≡ 0 → valueAt p i < q .names) (k : ℕ) (few : k < 128) where
+  module _ {a p : List ℕ} {i : ℕ} (above : Above s t a (q .names) (atomsFrom o 0 (r .atoms))) (is-child : j ≡ childAt p i) (named-in : childAt p i ≡ 0 → valueAt p i < q .names) (k : ℕ) (few : k < mostRoots) where
     pub root-under-sound : RootBelowAtom s t q w o (r .atoms) a p ln l i k → Derives (axiomsOf s) (rootPoint o r k) (atomConcept (childAt p i) (valueAt p i) d)
     root-under-sound (root-below-name c m) =
         let small = named-in c in

@@ -8,11 +8,11 @@ use native.Mathlib.Omega.{arith}
 use lib.ListN.{length}
 use Rattle.release.specs.Files.{axiomsOf}
 use Rattle.marks.specs.declared.Square.{Square}
-use Rattle.marks.specs.Squares.{Unmarked}
+use Rattle.marks.specs.Lines.{Empty}
 use Rattle.classification.proofs.AxiomRows as rows
 use Rattle.outline.specs.declared.Extent.{Extent}
 use Rattle.outline.specs.Atoms.{valueAt, ownerAt, childAt, atomsFrom, Shape}
-use Rattle.points.specs.Grids.{grid, Grid}
+use Rattle.points.specs.Grids.{mostRoots, Grid}
 use Rattle.points.specs.Above.{Ranges, Risen}
 use Rattle.points.specs.Above as above
 use Rattle.points.specs.Nodes.{Inclusive, NodesLost}
@@ -61,7 +61,7 @@ same-grid e g = record { room = omega (arith, g .room) }
 
 -- the rows above
 pub fill-start : {s t : List ℕ} {q : Square} {w o : List ℕ} {r : Extent} {a : List ℕ} → ToFill s t q w o r a → Above s t a (q .names) (atomsFrom o (r .atoms) (r .atoms - r .atoms))
-fill-start {o = o} {r = r} {a = a} given = let z : r .atoms - r .atoms ≡ 0 = omega arith in rw z (above-none (given .world) a o (r .atoms) (given .unmarked))
+fill-start {o = o} {r = r} {a = a} given = let z : r .atoms - r .atoms ≡ 0 = omega arith in rw z (above-none (given .world) a o (r .atoms) (given .empty))
 
 pub fill-turn : {s t : List ℕ} {q : Square} {w o : List ℕ} {r : Extent} {a : List ℕ} {u v : List ℕ} {left : ℕ} → ToFill s t q w o r a → 0 < left → left ≤ r .atoms → Above s t u (q .names) (atomsFrom o left (r .atoms - left)) → Risen s t q w o (left - 1) u v → Above s t v (q .names) (atomsFrom o (left - 1) (r .atoms - (left - 1)))
 fill-turn {r = r} {left = left} given some-left h above risen =
@@ -85,8 +85,8 @@ module _ {s t : List ℕ} {q : Square} {w o : List ℕ} {r : Extent} {a p : List
   lose-start =
       let z : u .atoms - u .atoms ≡ 0 = omega arith in
       record {
-        nodes = rw z (kept-none (omega (arith, given .world .few)) ln p (u .atoms) (given .nodes-unmarked));
-        roots = rw z (kept-none (given .from .few) l p (u .atoms) (given .roots-unmarked));
+        nodes = rw z (kept-none ln p (u .atoms) (given .nodes-empty));
+        roots = rw z (kept-none l p (u .atoms) (given .roots-empty));
       }
 
   module _ {left : ℕ} {xn x yn y : List ℕ} (some-left : 0 < left) (h : left ≤ u .atoms) (losing : Losing s o r (q .names) p left (u .atoms) xn x) (roots-lost : RootsLost s t q w o r a p xn (left - 1) x y) (nodes-lost : NodesLost t q w p (left - 1) xn yn) where
@@ -108,7 +108,7 @@ module _ {s t : List ℕ} {q : Square} {w o : List ℕ} {r : Extent} {a p : List
     roots-before : Kept (axiomsOf s) (rootPoint o r) (r .roots) x (atomsFrom p (suc (left - 1)) (u .atoms - left))
     roots-before = rw next (losing .roots)
 
-    child-small : childAt p (left - 1) < 128
+    child-small : childAt p (left - 1) < mostRoots
     child-small = omega (arith, given .shape .child (left - 1) inside, given .shape .few)
 
     pub lose-turn : Losing s o r (q .names) p (left - 1) (u .atoms) yn y
@@ -118,7 +118,7 @@ module _ {s t : List ℕ} {q : Square} {w o : List ℕ} {r : Extent} {a p : List
         let roots-row = roots-before .row (childAt p i) child-small in
         record {
           nodes = rw z (kept-more (omega (arith, given .world .few)) (given .shape) i rest inside (λ k m b. node-below-sound (given .world) nodes-row refl (given .shape .named i inside) k (omega arith) b) (λ k m b. node-below-complete (given .world) nodes-row refl (given .shape .named i inside) k (omega arith) b) nodes-before (nodes-lost .adds));
-          roots = rw z (kept-more (given .from .few) (given .shape) i rest inside (λ k m b. root-under-sound (given .world) (given .from) nodes-row roots-row (given .filled .above) refl (given .shape .named i inside) k (omega (arith, given .from .few)) b) (λ k m b. root-under-complete (given .world) (given .from) nodes-row roots-row (given .filled .above) refl (given .shape .named i inside) k (omega (arith, given .from .few)) b) roots-before (roots-lost .adds));
+          roots = rw z (kept-more (omega (arith, given .from .few)) (given .shape) i rest inside (λ k m b. root-under-sound (given .world) (given .from) nodes-row roots-row (given .filled .above) refl (given .shape .named i inside) k (omega (arith, given .from .few)) b) (λ k m b. root-under-complete (given .world) (given .from) nodes-row roots-row (given .filled .above) refl (given .shape .named i inside) k (omega (arith, given .from .few)) b) roots-before (roots-lost .adds));
         }
 
   pub lose-end : {left : ℕ} {xn x : List ℕ} → left ≤ 0 → length x ≡ length l → Losing s o r (q .names) p left (u .atoms) xn x → Lost s o r p u x

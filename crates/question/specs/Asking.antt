@@ -12,7 +12,7 @@ use lib.ListN.{length}
 use Rattle.el.specs.Lists.{pick}
 use Rattle.el.specs.Concepts.{Concept}
 use Rattle.el.specs.Derivability.{IsAnswer}
-use Rattle.release.specs.Files.{fault, firstOf, namesOf, rolesOf, axiomsOf}
+use Rattle.release.specs.Files.{fault, firstOf, widthOf, namesOf, rolesOf, axiomsOf}
 use Rattle.release.specs.Tables.{Release}
 use Rattle.release.specs.declared.Checked.{Checked}
 use Rattle.release.specs.declared.Checked.the-variants as checked
@@ -23,10 +23,10 @@ use Rattle.question.specs.declared.Asked.the-variants.{Answer, Refused}
 
 -- the concept of an accepted text
 abbrev pub conceptIn : List ℕ → List ℕ → Concept
-conceptIn s c = readConcept (namesOf s) (rolesOf s) c .concept
+conceptIn s c = readConcept (widthOf s) (namesOf s) (rolesOf s) c .concept
 
 abbrev pub textOk : List ℕ → List ℕ → Bool
-textOk s c = conceptOk (namesOf s) (rolesOf s) c
+textOk s c = conceptOk (widthOf s) (namesOf s) (rolesOf s) c
 
 unfoldable pub refusalNumber : List ℕ → List ℕ → List ℕ → List ℕ → ℕ
 refusalNumber s c d w = firstOf (fault s) (pick (textOk s c) (pick (textOk s d) (pick (ltb (length w) (4 * size (namesOf s))) 32 0) 19) 19)
@@ -54,8 +54,9 @@ pub record AskedAs (s c d w v : List ℕ) (r : Asked) : Type 0 where
   pub cleared : refusalNumber s c d w ≡ 0 → Zeroed (4 * size (namesOf s)) w v
 
 -- answering where nothing is refused
-pub record ToAnswer (s t c d w : List ℕ) (n cells : ℕ) : Type 0 where
+pub record ToAnswer (s t : List ℕ) (width : ℕ) (c d w : List ℕ) (n cells : ℕ) : Type 0 where
   pub release : Release s t
+  pub width-is : width ≡ widthOf s
   pub names : n ≡ namesOf s
   pub below : textOk s c ≡ true
   pub above : textOk s d ≡ true

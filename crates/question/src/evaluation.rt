@@ -27,7 +27,7 @@ fn fill_above(
     table: &[u16],
     work: &[u8],
     square: Square,
-    atoms: &[u8],
+    atoms: &[u16],
     extent: Extent,
     above: &mut [u8],
 )
@@ -47,10 +47,10 @@ fn lose_all(
     table: &[u16],
     work: &[u8],
     square: Square,
-    below: &[u8],
+    below: &[u16],
     extent: Extent,
     above: &[u8],
-    atoms: &[u8],
+    atoms: &[u16],
     over: Extent,
     nodes: &mut [u8],
     roots: &mut [u8],
@@ -84,17 +84,18 @@ pub fn decide(
     table: &[u16],
     work: &[u8],
     square: Square,
+    width: usize,
     below: &[u8],
     above: &[u8],
 ) -> u8
-    requires { ⌜ ToDecide (now file) (now table) square (now work) (now below) (now above) ⌝ }
-    ensures { λ r. ⌜ ((n m : ℕ) (c d : Concept) → IsTextOf n m c (now (below .entry)) → IsTextOf n m d (now (above .entry)) → IsAnswer (axiomsOf (now (file .entry))) c d r) ⌝ }
+    requires { ⌜ ToDecide (now file) (now table) square (now work) width (now below) (now above) ⌝ }
+    ensures { λ r. ⌜ ((n m : ℕ) (c d : Concept) → IsTextOf width n m c (now (below .entry)) → IsTextOf width n m d (now (above .entry)) → IsAnswer (axiomsOf (now (file .entry))) c d r) ⌝ }
 {
-    let mut owners = [0u8; 256];
-    let mut below_atoms = [0u8; 384];
-    let below_extent = outline(below, &mut owners, &mut below_atoms);
-    let mut above_atoms = [0u8; 384];
-    let above_extent = outline(above, &mut owners, &mut above_atoms);
+    let mut owners = [0u16; 256];
+    let mut below_atoms = [0u16; 384];
+    let below_extent = outline(below, width, &mut owners, &mut below_atoms);
+    let mut above_atoms = [0u16; 384];
+    let above_extent = outline(above, width, &mut owners, &mut above_atoms);
     let mut rows = [0u8; AREA];
     fill_above(
         file,

@@ -1,5 +1,6 @@
 // The question whether an inclusion of two concepts is derivable from a release.
 ghost use mathlib.Core.Path.{_≡_};
+ghost use Rattle.release.specs.Files.{widthOf};
 ghost use Rattle.question.specs.Asking.{ofRelease, refusedBy, AskedAs, ToAnswer, Answered};
 use classification::classify;
 use marks::Square;
@@ -8,6 +9,7 @@ use marks::size;
 use outline::is_text;
 use release::Checked;
 use release::Refusal;
+use release::header::width;
 use release::read_release;
 use release::table::Table;
 
@@ -38,6 +40,16 @@ fn of_release(checked: Checked) -> Asked
     }
 }
 
+// The bytes of a name in the concepts asked of a release.
+fn name_width(file: &[u8]) -> usize
+    ensures { λ r. ⌜ r ≡ widthOf (now (file .entry)) ⌝ }
+{
+    if file.len() < 4 {
+        return 2;
+    }
+    width(file)
+}
+
 fn refused(number: u8, side: u8) -> Asked
     ensures { λ r. ⌜ r ≡ refusedBy number side ⌝ }
 {
@@ -52,13 +64,14 @@ fn refused(number: u8, side: u8) -> Asked
 fn answer(
     file: &[u8],
     table: &[u16],
+    width: usize,
     below: &[u8],
     above: &[u8],
     work: &mut [u8],
     names: usize,
     cells: usize,
 ) -> u8
-    requires { ⌜ ToAnswer (now file) (now table) (now below) (now above) (now work) names cells ⌝ }
+    requires { ⌜ ToAnswer (now file) (now table) width (now below) (now above) (now work) names cells ⌝ }
     ensures { λ r. ⌜ Answered (now (file .entry)) (now (below .entry)) (now (above .entry)) (now (work .entry)) (now (work .exit)) r ⌝ }
 {
     let square = Square {
@@ -67,7 +80,7 @@ fn answer(
     };
     clear(work, cells);
     classify(file, table, work, square);
-    let value = evaluation::decide(file, table, work, square, below, above);
+    let value = evaluation::decide(file, table, work, square, width, below, above);
     clear(work, 4 * cells);
     value
 }
@@ -83,13 +96,14 @@ pub fn ask_inclusion(file: &[u8], below: &[u8], above: &[u8], work: &mut [u8]) -
     };
     let names = counts.names;
     let roles = counts.roles;
-    if is_text(below, names, roles) {
-        if is_text(above, names, roles) {
+    let width = name_width(file);
+    if is_text(below, width, names, roles) {
+        if is_text(above, width, names, roles) {
             let cells = size(names);
             if work.len() < 4 * cells {
                 return refused(SHORT_WORK, 0);
             }
-            return Asked::Answer(answer(file, &table, below, above, work, names, cells));
+            return Asked::Answer(answer(file, &table, width, below, above, work, names, cells));
         }
         return refused(NO_CONCEPT, ABOVE);
     }

@@ -1,20 +1,23 @@
-use native.Mathlib.Omega.{arith}
-use Rattle.points.proofs.Grids.{grid-room}
+use Rattle.points.specs.Grids.{cell}
 use borrow.Author.Needs.{needs}
 use Rattle.points.proofs.is_set.Statement.{statement}
 use Rattle.points.proofs.is_set.Tie as tie
 use Rattle.points.proofs.is_set.Reads as reads
 use Rattle.points.proofs.is_set.Lts as lts
-use Rattle.marks.proofs.is_marked.Reads as is-marked-reads
+use Rattle.marks.proofs.line.has.Reads as has-reads
 
-sub-t4 : tie.Need-sub-t4
-sub-t4 c = search needs
+mul-has : tie.Need-mul-has
+mul-has c = search needs
 
-is-marked-requires : tie.Need-is-marked-requires
-is-marked-requires c κs = (grid-room (c .before .pre .0), (omega arith, omega arith))
+add-has : tie.Need-add-has
+add-has c = search needs
+
+has-requires : tie.Need-has-requires
+has-requires c κs = search needs
 
 returns : tie.Need-returns
-returns c = search needs
+unfolding cell
+returns c = c .has .ensures
 
 pub is-set-spec : {M : Type 1} → statement M
-is-set-spec = tie.close (tie.spec sub-t4 is-marked-requires returns)
+is-set-spec = tie.close (tie.spec mul-has add-has has-requires returns)

@@ -7,7 +7,7 @@ use lib.ListN.{length}
 use Rattle.outline.specs.Atoms.{ownerAt}
 use Rattle.points.specs.Grids.{Adds}
 use Rattle.points.specs.Above.{AtomBelow}
-use Rattle.points.proofs.Grids.{put-grid, adds-none, adds-end}
+use Rattle.points.proofs.Grids.{adds-none, adds-end}
 use Rattle.points.proofs.Raising.{given-after, raise-sets, raise-skips}
 use Rattle.points.proofs.above.raise.Statement.{statement}
 use Rattle.points.proofs.above.raise.Tie as tie
@@ -42,7 +42,7 @@ loop-less : tie.Need-loop-less Inv-loop μ-loop
 loop-less c = search needs
 
 loop-again : tie.Need-loop-again Inv-loop μ-loop
-loop-again c = (omega arith, put-grid (c .before .before .set .ensures) ∙ c .before .before .before .before .before .before .before .before .before .loop .inv .1, raise-sets (c .before .before .before .before .before .before .before .before .before .before .before .before .before .before .before .before .pre) (c .before .before .before .before .before .before .before .before .before .loop .inv .2) (c .before .before .before .before .before .atom-below .ensures) _ (c .before .before .before .before .before .before .before .before .before .before .owner .ensures) (c .before .before .before .before .before .before .before .if1 .taken) (c .before .before .before .before .if2 .taken) (c .before .before .set .ensures))
+loop-again c = (omega arith, c .before .before .set .ensures .long ∙ c .before .before .before .before .before .before .before .before .before .loop .inv .1, raise-sets (c .before .before .before .before .before .before .before .before .before .before .before .before .before .before .before .before .pre) (c .before .before .before .before .before .before .before .before .before .loop .inv .2) (c .before .before .before .before .before .atom-below .ensures) _ (c .before .before .before .before .before .before .before .before .before .before .owner .ensures) (c .before .before .before .before .before .before .before .if1 .taken) (c .before .before .before .before .if2 .taken) (c .before .before .set .ensures))
 
 loop-less-2 : tie.Need-loop-less-2 Inv-loop μ-loop
 loop-less-2 c = search needs

@@ -1,75 +1,78 @@
--- `lose_nodes` meets its contract: of the nodes before `next`, the owner's row gained those that do not lie below the atom.
-use Prim.Native.Nat.{suc, _≤_, _-_}
 use native.Mathlib.Omega.{arith}
-use mathlib.Core.Path.{_≡_, refl, sym, _∙_}
+use mathlib.Core.Path.{sym, _∙_}
+use Rattle.marks.proofs.Lines.{empty-zeros}
+use Rattle.points.proofs.LosingNodes.{ranged, idle-of}
 use borrow.Author.Needs.{needs}
-use lib.ListN.{length}
-use Rattle.outline.specs.Atoms.{ownerAt}
-use Rattle.points.specs.Grids.{Adds}
-use Rattle.points.specs.Nodes.{NodeBelow}
-use Rattle.points.proofs.Grids.{put-grid, adds-none, adds-end}
-use Rattle.points.proofs.LosingNodes.{given-after, node-lost, node-kept}
 use Rattle.points.proofs.nodes.lose_nodes.Statement.{statement}
 use Rattle.points.proofs.nodes.lose_nodes.Tie as tie
 use Rattle.points.proofs.nodes.lose_nodes.Reads as reads
 use Rattle.points.proofs.nodes.lose_nodes.Lts as lts
-use Rattle.outline.proofs.owner.Reads as owner-reads
-use Rattle.points.proofs.nodes.node_below.Reads as node-below-reads
-use Rattle.points.proofs.set.Reads as set-reads
+use Rattle.outline.proofs.child.Reads as child-reads
+use Rattle.outline.proofs.value.Reads as value-reads
+use Rattle.points.proofs.nodes.find_idle.Reads as find-idle-reads
+use Rattle.points.proofs.nodes.lose_nodes_but.Reads as lose-nodes-but-reads
 
-abbrev Inv-loop : tie.InvT-loop
-Inv-loop table work square atoms lost₀ i row next₀ lost next = (next ≤ suc (square .names)) × (length lost ≡ length lost₀) × Adds (ownerAt atoms i) next (λ x. NodeBelow table square work atoms lost₀ i x → ⊥) (NodeBelow table square work atoms lost₀ i) lost₀ lost
+-- src/nodes.rt:169:9
+child-requires : tie.Need-child-requires
+child-requires c κs = record { inside = c .before .before .before .before .pre .inside }
 
-abbrev μ-loop : tie.MeasureT-loop
-μ-loop table work square atoms lost₀ i row next₀ lost next = suc (square .names) - next
+-- src/nodes.rt:170:9
+value-requires : tie.Need-value-requires
+value-requires c κs = record { inside = c .before .before .before .before .before .pre .inside }
 
-owner-requires : tie.Need-owner-requires Inv-loop μ-loop
-owner-requires c κs = record { inside = c .before .before .before .before .pre .inside }
+-- src/nodes.rt:172:58
+slice-aggregate-lose-nodes-but : tie.Need-slice-aggregate-lose-nodes-but
+slice-aggregate-lose-nodes-but c = search needs
 
-loop-holds : tie.Need-loop-holds Inv-loop μ-loop
-loop-holds c = (omega arith, refl, adds-none)
+-- src/nodes.rt:172:9
+lose-nodes-but-requires : tie.Need-lose-nodes-but-requires
+lose-nodes-but-requires c κs = (c .before .before .before .before .before .before .before .before .before .pre, λ h. absurd (omega (arith, c .before .before .before .before .child .ensures, c .before .before .if1 .taken)))
 
-add-next : tie.Need-add-next Inv-loop μ-loop
-add-next c = omega (arith, c .before .before .before .before .before .before .before .before .pre .inclusive .few)
-
-node-below-requires : tie.Need-node-below-requires Inv-loop μ-loop
-node-below-requires c κs = (given-after (c .before .before .before .before .before .before .before .before .before .pre) (c .before .before .before .loop .inv .2), c .before .if1 .taken)
-
-loop-less : tie.Need-loop-less Inv-loop μ-loop
-loop-less c = omega arith
-
-loop-again : tie.Need-loop-again Inv-loop μ-loop
-loop-again c = (omega arith, c .before .before .before .before .before .loop .inv .1, node-kept (c .before .before .before .before .before .before .before .before .before .before .before .pre) (c .before .before .before .before .before .loop .inv .2) (c .before .node-below .ensures) (c .if2 .taken))
-
-set-requires : tie.Need-set-requires Inv-loop μ-loop
-set-requires c κs = (given-after (c .before .before .before .before .before .before .before .before .before .before .before .before .pre) (c .before .before .before .before .before .before .loop .inv .2) .grid, (omega (arith, c .before .before .before .before .before .before .before .owner .ensures, c .before .before .before .before .before .before .before .before .before .before .before .before .pre .owner), omega (arith, c .before .before .before .before .if1 .taken, c .before .before .before .before .before .before .before .before .before .before .before .before .pre .inclusive .few)))
-
-loop-less-2 : tie.Need-loop-less-2 Inv-loop μ-loop
-loop-less-2 c = omega arith
-
-loop-again-2 : tie.Need-loop-again-2 Inv-loop μ-loop
-loop-again-2 c = (omega arith, put-grid (c .before .before .set .ensures) ∙ c .before .before .before .before .before .before .before .before .before .loop .inv .1, node-lost (c .before .before .before .before .before .before .before .before .before .before .before .before .before .before .before .pre) (c .before .before .before .before .before .before .before .before .before .loop .inv .2) (c .before .before .before .before .before .node-below .ensures) _ (c .before .before .before .before .before .before .before .before .before .before .owner .ensures) (c .before .before .before .before .before .before .before .if1 .taken) (c .before .before .before .before .if2 .left) (c .before .before .set .ensures))
-
-same-length : tie.Need-same-length Inv-loop μ-loop
+-- src/nodes.rt:173:9
+same-length : tie.Need-same-length
 same-length c = search needs
 
-returns : tie.Need-returns Inv-loop μ-loop
-returns c = record { adds = adds-end (omega arith) (c .before .before .loop .inv .2) }
+-- src/nodes.rt:173:9
+returns : tie.Need-returns
+returns c = c .before .before .lose-nodes-but .ensures
+
+-- src/nodes.rt:175:42
+slice-aggregate-find-idle : tie.Need-slice-aggregate-find-idle
+slice-aggregate-find-idle c = search needs
+
+-- src/nodes.rt:175:5
+find-idle-requires : tie.Need-find-idle-requires
+find-idle-requires c κs = ((ranged (c .before .before .before .before .before .before .before .before .before .pre .inclusive), c .before .before .before .before .before .before .before .before .before .pre .grid), (record { inside = omega (arith, c .before .before .before .before .before .before .before .before .before .pre .inclusive .few) }, empty-zeros 128, omega (arith, c .before .before .before .before .before .before .before .before .before .pre .child, c .before .before .before .before .child .ensures)))
+
+-- src/nodes.rt:176:54
+slice-aggregate-lose-nodes-but-2 : tie.Need-slice-aggregate-lose-nodes-but-2
+slice-aggregate-lose-nodes-but-2 c = search needs
+
+-- src/nodes.rt:176:5
+lose-nodes-but-requires-2 : tie.Need-lose-nodes-but-requires-2
+lose-nodes-but-requires-2 c κs = (c .before .before .before .before .before .before .before .before .before .before .before .before .before .pre, λ h. idle-of (c .before .before .before .before .before .before .before .before .child .ensures) (c .before .before .before .before .before .before .before .value .ensures) (c .before .before .before .find-idle .ensures))
+
+-- src/nodes.rt:157:1
+same-length-2 : tie.Need-same-length-2
+same-length-2 c = search needs
+
+-- src/nodes.rt:157:1
+returns-2 : tie.Need-returns-2
+returns-2 c = c .before .before .lose-nodes-but2 .ensures
 
 pub lose-nodes-spec : {M : Type 1} → statement M
 lose-nodes-spec =
     tie.close
     (tie.spec
-    Inv-loop
-    μ-loop
-    owner-requires
-    loop-holds
-    add-next
-    node-below-requires
-    loop-less
-    loop-again
-    set-requires
-    loop-less-2
-    loop-again-2
+    child-requires
+    value-requires
+    slice-aggregate-lose-nodes-but
+    lose-nodes-but-requires
     same-length
-    returns)
+    returns
+    slice-aggregate-find-idle
+    find-idle-requires
+    slice-aggregate-lose-nodes-but-2
+    lose-nodes-but-requires-2
+    same-length-2
+    returns-2)

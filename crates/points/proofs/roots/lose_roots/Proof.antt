@@ -7,7 +7,7 @@ use lib.ListN.{length}
 use Rattle.outline.specs.Atoms.{ownerAt}
 use Rattle.points.specs.Grids.{Adds}
 use Rattle.points.specs.Roots.{RootBelowAtom}
-use Rattle.points.proofs.Grids.{put-grid, adds-none, adds-end}
+use Rattle.points.proofs.Grids.{adds-none, adds-end}
 use Rattle.points.proofs.LosingRoots.{given-after, root-lost, root-kept}
 use Rattle.points.proofs.roots.lose_roots.Statement.{statement}
 use Rattle.points.proofs.roots.lose_roots.Tie as tie
@@ -48,7 +48,7 @@ loop-less-2 : tie.Need-loop-less-2 Inv-loop μ-loop
 loop-less-2 c = omega arith
 
 loop-again-2 : tie.Need-loop-again-2 Inv-loop μ-loop
-loop-again-2 c = (omega arith, put-grid (c .before .before .set .ensures) ∙ c .before .before .before .before .before .before .before .before .before .loop .inv .1, root-lost (c .before .before .before .before .before .before .before .before .before .before .before .before .before .before .before .before .before .before .before .pre) (c .before .before .before .before .before .before .before .before .before .loop .inv .2) (c .before .before .before .before .before .root-below .ensures) _ (c .before .before .before .before .before .before .before .before .before .before .owner .ensures) (c .before .before .before .before .before .before .before .if1 .taken) (c .before .before .before .before .if2 .left) (c .before .before .set .ensures))
+loop-again-2 c = (omega arith, c .before .before .set .ensures .long ∙ c .before .before .before .before .before .before .before .before .before .loop .inv .1, root-lost (c .before .before .before .before .before .before .before .before .before .before .before .before .before .before .before .before .before .before .before .pre) (c .before .before .before .before .before .before .before .before .before .loop .inv .2) (c .before .before .before .before .before .root-below .ensures) _ (c .before .before .before .before .before .before .before .before .before .before .owner .ensures) (c .before .before .before .before .before .before .before .if1 .taken) (c .before .before .before .before .if2 .left) (c .before .before .set .ensures))
 
 same-length : tie.Need-same-length Inv-loop μ-loop
 same-length c = search needs

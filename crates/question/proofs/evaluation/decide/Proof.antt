@@ -1,7 +1,8 @@
 -- `decide` meets its contract: each call gives what the next one asks, and root 0 is the whole concept.
 use native.Mathlib.Omega.{arith}
-use Rattle.question.proofs.Verdicts.{zeros-grid, zeros-unmarked, verdict-lost, verdict-kept}
+use Rattle.question.proofs.Verdicts.{zeros-grid, verdict-lost, verdict-kept}
 use Rattle.marks.proofs.Squares.{refuted}
+use Rattle.marks.proofs.Lines.{empty-zeros}
 use borrow.Author.Needs.{needs}
 use Rattle.question.proofs.evaluation.decide.Statement.{statement}
 use Rattle.question.proofs.evaluation.decide.Tie as tie
@@ -30,7 +31,7 @@ slice-aggregate-outline-4 c = search needs
 outline-requires-2 : tie.Need-outline-requires-2
 outline-requires-2 c κs =
     let p = c .before .before .before .before .before .before .before .before .before .before .before .before .pre in
-    record { names = _; roles = _; concept = _; text = p .above-text; stack = omega arith; room = omega arith }
+    record { width = p .is-width; names = _; roles = _; concept = _; text = p .above-text; stack = omega arith; room = omega arith }
 
 slice-aggregate-fill-above : tie.Need-slice-aggregate-fill-above
 slice-aggregate-fill-above c = search needs
@@ -41,7 +42,7 @@ slice-aggregate-fill-above-2 c = search needs
 fill-above-requires : tie.Need-fill-above-requires
 fill-above-requires c κs =
     let p = c .before .before .before .before .before .before .before .before .before .before .before .before .before .before .before .before .before .pre in
-    record { world = p .world; shape = c .before .before .before .before .before .before .before .before .before .outline .ensures _ _ _ (p .below-text) .shape; rows = zeros-grid 2048 (omega arith); unmarked = zeros-unmarked 2048 (omega arith) }
+    record { world = p .world; shape = c .before .before .before .before .before .before .before .before .before .outline .ensures _ _ _ (p .below-text) .shape; rows = zeros-grid 16384 (omega arith); empty = empty-zeros 16384 }
 
 slice-aggregate-lose-all : tie.Need-slice-aggregate-lose-all
 slice-aggregate-lose-all c = search needs
@@ -61,7 +62,7 @@ slice-aggregate-lose-all-5 c = search needs
 lose-all-requires : tie.Need-lose-all-requires
 lose-all-requires c κs =
     let p = c .before .before .before .before .before .before .before .before .before .before .before .before .before .before .before .before .before .before .before .before .before .before .before .before .pre in
-    record { world = p .world; from = c .before .before .before .before .before .before .before .before .before .before .before .before .before .before .before .before .outline .ensures _ _ _ (p .below-text) .shape; filled = c .before .before .before .before .before .before .fill-above .ensures; shape = c .before .before .before .before .before .before .before .before .before .before .before .outline2 .ensures _ _ _ (p .above-text) .shape; nodes = zeros-grid 2048 (omega arith); roots = zeros-grid 2048 (omega arith); nodes-unmarked = zeros-unmarked 2048 (omega arith); roots-unmarked = zeros-unmarked 2048 (omega arith) }
+    record { world = p .world; from = c .before .before .before .before .before .before .before .before .before .before .before .before .before .before .before .before .outline .ensures _ _ _ (p .below-text) .shape; filled = c .before .before .before .before .before .before .fill-above .ensures; shape = c .before .before .before .before .before .before .before .before .before .before .before .outline2 .ensures _ _ _ (p .above-text) .shape; nodes = zeros-grid 16384 (omega arith); roots = zeros-grid 16384 (omega arith); nodes-empty = empty-zeros 16384; roots-empty = empty-zeros 16384 }
 
 slice-aggregate-is-set : tie.Need-slice-aggregate-is-set
 slice-aggregate-is-set c = search needs
