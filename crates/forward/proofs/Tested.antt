@@ -1,40 +1,38 @@
 -- Laws of the rules of forward marks.
 --   serves-not, ..                        whether a name serves for an edge
+--   joined-below, second-small, join-asks     what lies below a name, by a row of the turned inclusions
 --   kept-by, kept-not, kept-none .. kept-end     the line of the nodes that keep a partner
 --   edge-by, end-small                    whether there is an edge; its end is a node
---   second-stays, no-partner-stays        what marks put later do not change
---   kept-lost, kept-partner               what the line says of partners
+--   second-apart, below-apart, no-partner-stays     what marks put later do not change
+--   setting-stays, seen-stays             what is asked holds after marks are put, and after they are seen
 --   names-lost, edges-lost                marks put where a line has nothing, as steps of the rules;  by-name-pass, by-edge-pass: as passes
---   found-at, none-to-next, none-below    what the search for a partner finds
---   above-grows, row-from-above, taken-pass   marks taken from above, as steps of the rules
+--   found-at, none-start .. none-all      what the search for a partner finds
+--   above-grows, row-from-above, taking-pass   marks taken from above, as steps of the rules
 --   quiet-rows                            rows with nothing left to mark
---   zeros-room, zeros-unmarked            a memory of zeros, for a square
---   setting-stays                         what is asked holds after marks are put, too
-use mathlib.Core.Path.{_≡_, refl, sym, _∙_}
+use mathlib.Core.Path.{_≡_, sym, _∙_}
 use mathlib.Core.Bool.{Bool, true, false, false≢true}
 use mathlib.Core.List.{List}
-use mathlib.Core.Logic.{_⊎_, inl, inr}
-use Prim.Native.Nat.{ℕ, zero, suc, _+_, _/_, _≤_, _<_}
-use native.Mathlib.Nat.{mul-le-mul}
+use mathlib.Core.Logic.{inl, inr}
+use Prim.Native.Nat.{ℕ, suc, _+_, _≤_, _<_}
 use native.Mathlib.Omega.{arith}
 use native.Mathlib.Decide.{ℕ-discrete, decLt}
-use lib.ListN.{getD, replicate, length-replicate}
-use Rattle.el.proofs.Tests.{Tells, always, never}
+use Rattle.el.proofs.Tests.{Tells, never}
 use Rattle.release.specs.Files.{restricts}
 use Rattle.release.specs.Tables.{kindAt, roleAt, fillerAt, HasRow}
 use Rattle.marks.specs.declared.Square.{Square}
-use Rattle.marks.specs.Squares.{span, width, place, NextMarked, Room, Marked, Unmarked, Put}
+use Rattle.marks.specs.Squares as squares
+use Rattle.marks.specs.Squares.{behind, Small, Room, NextMarked, Marked, Apart, Frame, Put}
 use Rattle.marks.specs.Passes.{Grows, Pass, Below, FromRow}
-use Rattle.marks.specs.Lines.{Has, Empty, Joined, Missing, Full}
-use Rattle.marks.specs.Inclusions.{Taking, Takes, Turned}
-use Rattle.marks.proofs.Squares.{frame-marked, marked-frame, zero-unmarked}
-use Rattle.marks.proofs.Passes.{grows-frame, marks-stay, grows-as, pass-by, pass-with, put-grows}
+use Rattle.marks.specs.Lines.{Has, Spans, Empty, Joined, Missing, Full}
+use Rattle.marks.specs.Inclusions.{Taking, Takes}
+use Rattle.marks.proofs.Squares.{frame-marked, marked-frame, frame-room}
+use Rattle.marks.proofs.Passes.{grows-frame, marks-stay, grows-as, pass-by, pass-with, put-grows, kept-grows}
 use Rattle.marks.proofs.Handing.{stays-anywhere}
 use Rattle.layout.specs.declared.Layout.{Layout}
-use Rattle.layout.specs.Searches.{SomeBelow, NoneBelow}
-use Rattle.layout.specs.Layouts.{firstSquare, secondSquare, markSquare, chosen, Rowed}
+use Rattle.layout.specs.Searches.{SomeBelow}
+use Rattle.layout.specs.Layouts.{firstSquare, secondSquare, belowSquare, markSquare, chosen, Rowed}
 use Rattle.layout.proofs.Layouts as layout
-use Rattle.forward.specs.Rules.{belowSquare, Setting, NameLost, Serves, Partner, Edge, EdgeLost, Own, by-name, by-edge, FromAbove, Step, by-itself, by-above, KeptBy, Kept, ByName, ByEdge, Looked, Cell, Taken, Row}
+use Rattle.forward.specs.Rules.{Beneath, Setting, NameLost, Serves, Partner, Edge, EdgeLost, Own, by-name, by-edge, FromAbove, Step, by-itself, by-above, JoinedBelow, KeptBy, Kept, ByName, ByEdge, Looked, Row}
 
 pub rowed-row : {n x : ℕ} {t : List ℕ} → Rowed n t → x < n → HasRow t x
 rowed-row r h = record { row = omega (arith, r .rows) }
@@ -56,36 +54,52 @@ module _ {b : List ℕ} {l : Layout} {w : List ℕ} {z r c : ℕ} where
   pub serves-other : {o : ℕ} → o ≡ roleAt b c → (o ≡ r → ⊥) → Serves b l w z r c → ⊥
   serves-other i j s = j (i ∙ s .role)
 
+-- what lies below a name, by a row of the turned inclusions
+pub joined-below : {l : Layout} {w : List ℕ} {c : ℕ} {i j : List ℕ} {p : Square} → p ≡ belowSquare l → Beneath l w → c < l .names → Joined p w c i j → JoinedBelow l w c i j
+unfolding behind
+joined-below {l} {w} {c} {i} {j} e s h k =
+    let g : Joined (belowSquare l) w c i j = rw e at k in
+    record {
+      stays = g .stays;
+      has = λ y o m. g .has y o (s .turned .to y c o (omega arith) m);
+      only = λ y o m. elim (g .only y o m) [ inl f ↦ inl f | inr f ↦ inr (s .turned .from y c o (omega arith) f) ];
+    }
+
+pub second-small : {l : Layout} {w : List ℕ} → Beneath l w → Small (secondSquare l)
+unfolding behind
+second-small s = record { few = s .room .small .few; near = omega (arith, s .room .small .near) }
+
+pub join-asks : {l : Layout} {w : List ℕ} {c : ℕ} {k : List ℕ} {p : Square} → p ≡ belowSquare l → Beneath l w → c < l .names → Spans (l .names) k → Room p w × ((c ≤ p .names) × Spans (p .names) k)
+unfolding behind
+join-asks e s h k = rw e (s .room, (omega arith, k))
+
 -- the line of the nodes that keep a partner
-pub record KeptTo (b t : List ℕ) (l : Layout) (w : List ℕ) (z r m : ℕ) (k : List ℕ) : Type 0 where
-  pub has : (y c : ℕ) → y ≤ l .names → c < m → Serves b l w z r c → Marked (belowSquare l) t c y → Has k y
-  pub only : (y : ℕ) → y ≤ l .names → Has k y → SomeBelow (λ c. Serves b l w z r c × Marked (belowSquare l) t c y) m
+pub record KeptTo (b : List ℕ) (l : Layout) (w : List ℕ) (z r m : ℕ) (k : List ℕ) : Type 0 where
+  pub has : (y c : ℕ) → y ≤ l .names → c < m → Partner b l w z y r c → Has k y
+  pub only : (y : ℕ) → y ≤ l .names → Has k y → SomeBelow (Partner b l w z y r) m
 
-module _ {b t : List ℕ} {l : Layout} {w : List ℕ} {z r : ℕ} where
-  pub kept-by : {c : ℕ} {i j : List ℕ} → Serves b l w z r c → Joined (belowSquare l) t c i j → KeptBy b t l w z r c i j
-  kept-by s g = record { stays = g .stays; has = λ y h n m. g .has y h m; only = λ y h m. elim (g .only y h m) [ inl e ↦ inl e | inr e ↦ inr (s, e) ] }
+module _ {b : List ℕ} {l : Layout} {w : List ℕ} {z r : ℕ} where
+  pub kept-by : {c : ℕ} {i j : List ℕ} → Serves b l w z r c → JoinedBelow l w c i j → KeptBy b l w z r c i j
+  kept-by s g = record { stays = g .stays; has = λ y h p. g .has y h (p .second); only = λ y h m. elim (g .only y h m) [ inl e ↦ inl e | inr e ↦ inr (record { serves = s; second = e }) ] }
 
-  pub kept-not : {c : ℕ} {i : List ℕ} → (Serves b l w z r c → ⊥) → KeptBy b t l w z r c i i
-  kept-not f = record { stays = λ y h. h; has = λ y h s m. absurd (f s); only = λ y h m. inl m }
+  pub kept-not : {c : ℕ} {i : List ℕ} → (Serves b l w z r c → ⊥) → KeptBy b l w z r c i i
+  kept-not f = record { stays = λ y h. h; has = λ y h p. absurd (f (p .serves)); only = λ y h m. inl m }
 
-  pub kept-none : {k : List ℕ} → Empty k → KeptTo b t l w z r 0 k
-  kept-none e = record { has = λ y c h k s m. absurd (omega arith); only = λ y h m. absurd (e .none y m) }
+  pub kept-none : {k : List ℕ} → Empty k → KeptTo b l w z r 0 k
+  kept-none e = record { has = λ y c h k p. absurd (omega arith); only = λ y h m. absurd (e .none y m) }
 
-  pub kept-more : {c : ℕ} {i j : List ℕ} → KeptBy b t l w z r c i j → KeptTo b t l w z r c i → KeptTo b t l w z r (c + 1) j
-  kept-more {c} {i} {j} g k = record { has = λ y d h l s m. by-place y d h l s m (ℕ-discrete d c); only = λ y h m. elim (g .only y h m) [ inl e ↦ wider (k .only y h e) | inr e ↦ record { it = c; below = omega arith; holds = e } ] }
+  pub kept-more : {c : ℕ} {i j : List ℕ} → KeptBy b l w z r c i j → KeptTo b l w z r c i → KeptTo b l w z r (c + 1) j
+  kept-more {c} {i} {j} g k = record { has = λ y d h o p. by-place y d h o p (ℕ-discrete d c); only = λ y h m. elim (g .only y h m) [ inl e ↦ wider (k .only y h e) | inr e ↦ record { it = c; below = omega arith; holds = e } ] }
     where
-      by-place : (y d : ℕ) → y ≤ l .names → d < c + 1 → Serves b l w z r d → Marked (belowSquare l) t d y → Dec (d ≡ c) → Has j y
-      by-place y d h o s m (yes e) =
-          let p : Serves b l w z r c = rw e at s in
-          let q : Marked (belowSquare l) t c y = rw e at m in
-          g .has y h p q
-      by-place y d h o s m (no e) = g .stays y (k .has y d h (omega arith) s m)
+      by-place : (y d : ℕ) → y ≤ l .names → d < c + 1 → Partner b l w z y r d → Dec (d ≡ c) → Has j y
+      by-place y d h o p (yes e) = let q : Partner b l w z y r c = rw e at p in g .has y h q
+      by-place y d h o p (no e) = g .stays y (k .has y d h (omega arith) p)
 
       wider : {D : ℕ → Type 0} → SomeBelow D c → SomeBelow D (c + 1)
       wider s = record { it = s .it; below = omega (arith, s .below); holds = s .holds }
 
-  pub kept-end : {m : ℕ} {k : List ℕ} → l .names ≤ m → m ≤ l .names → KeptTo b t l w z r m k → Kept b t l w z r k
-  kept-end h o k = record { has = λ y c i j s m. k .has y c i (omega arith) s m; only = λ y i m. let s = k .only y i m in record { it = s .it; below = omega (arith, s .below); holds = s .holds } }
+  pub kept-end : {m : ℕ} {k : List ℕ} → l .names ≤ m → m ≤ l .names → KeptTo b l w z r m k → Kept b l w z r k
+  kept-end h o k = record { has = λ y c i j p. k .has y c i (omega arith) p; only = λ y i m. let s = k .only y i m in record { it = s .it; below = omega (arith, s .below); holds = s .holds } }
 
 -- edges
 pub edge-by : {g a : List ℕ} {l : Layout} {x r : ℕ} {t : Bool} → x < l .names → restricts (kindAt a x) ≡ true → r ≡ roleAt a x → t ≡ chosen l g .has-role r → Tells t (Edge g a l x)
@@ -94,37 +108,50 @@ edge-by h k e f = record { sound = λ s. record { is-name = h; is-restriction = 
 pub end-small : {g a : List ℕ} {l : Layout} {x z : ℕ} → Rowed (l .names) a → Edge g a l x → z ≡ fillerAt a x → z ≤ l .names
 end-small {x = x} r e f = rw f (r .filler x (e .is-name) (e .is-restriction))
 
-pub edge-end : {g a b t : List ℕ} {l : Layout} {w : List ℕ} {x : ℕ} → Setting g a b t l w → Edge g a l x → fillerAt a x ≤ l .names
+pub edge-end : {g a b : List ℕ} {l : Layout} {w : List ℕ} {x : ℕ} → Setting g a b l w → Edge g a l x → fillerAt a x ≤ l .names
 edge-end {x = x} s e = s .places .first-table .filler x (e .is-name) (e .is-restriction)
 
-pub setting-stays : {R : List ℕ → ℕ → ℕ → Type 0} {g a b t : List ℕ} {l : Layout} {w v : List ℕ} → Grows R (markSquare l) w v → Setting g a b t l w → Setting g a b t l v
-setting-stays {l = l} grows s = record {
-  places = layout.setting-stays grows (s .places);
-  few = s .few;
+-- marks put later change no inclusion of the second release, nor the turned ones
+second-apart : {l : Layout} {w : List ℕ} → Beneath l w → Apart (secondSquare l) (markSquare l)
+second-apart s = inl (omega (arith, s .apart))
+
+below-apart : {l : Layout} {w : List ℕ} → Beneath l w → Apart (belowSquare l) (markSquare l)
+unfolding behind
+below-apart s = inl (omega (arith, s .apart))
+
+beneath-stays : {l : Layout} {w v : List ℕ} → Frame (markSquare l) w v → Beneath l w → Beneath l v
+unfolding behind
+beneath-stays f s = record {
+  room = frame-room f (s .room);
+  turned = record {
+    to = λ x y h i m. frame-marked f (below-apart s) i h (s .turned .to x y h i (marked-frame f (second-apart s) h i m));
+    from = λ x y h i m. frame-marked f (second-apart s) h i (s .turned .from x y h i (marked-frame f (below-apart s) i h m));
+  };
   apart = s .apart;
-  room = s .room;
-  turned = record { to = λ x y h i m. s .turned .to x y h i (marked-frame (grows-frame grows) (inl (s .apart)) h i m); from = λ x y h i m. frame-marked (grows-frame grows) (inl (s .apart)) h i (s .turned .from x y h i m) };
 }
 
--- what the line says of partners
-module _ {g a b t : List ℕ} {l : Layout} {w : List ℕ} (s : Setting g a b t l w) {z r : ℕ} {k : List ℕ} where
-  pub kept-lost : {y : ℕ} → y ≤ l .names → Kept b t l w z r k → (Has k y → ⊥) → SomeBelow (Partner b l w z y r) (l .names) → ⊥
-  kept-lost {y} h e f p = f (e .has y (p .it) h (p .below) (p .holds .serves) (s .turned .to y (p .it) h (omega (arith, p .below)) (p .holds .second)))
+pub setting-stays : {R : List ℕ → ℕ → ℕ → Type 0} {g a b : List ℕ} {l : Layout} {w v : List ℕ} → Grows R (markSquare l) w v → Setting g a b l w → Setting g a b l v
+setting-stays grows s = record { places = layout.setting-stays grows (s .places); few = s .few; below = λ h. beneath-stays (grows-frame grows) (s .below h) }
 
-  pub kept-partner : {y : ℕ} → y ≤ l .names → Kept b t l w z r k → Has k y → SomeBelow (Partner b l w z y r) (l .names)
-  kept-partner {y} h e m = let p = e .only y h m in record { it = p .it; below = p .below; holds = record { serves = p .holds .0; second = s .turned .from y (p .it) h (omega (arith, p .below)) (p .holds .1) } }
+-- what is seen of the marks changes none
+pub seen-stays : {g a b : List ℕ} {l : Layout} {w v : List ℕ} → squares.Kept (markSquare l) w v → Setting g a b l w → Setting g a b l v
+seen-stays {g} {a} {b} {l} k s = setting-stays {R = Step g a b l} (kept-grows k) s
+
+-- where the line has nothing, there is no partner
+kept-lost : {b : List ℕ} {l : Layout} {w : List ℕ} {z r : ℕ} {k : List ℕ} {y : ℕ} → y ≤ l .names → Kept b l w z r k → (Has k y → ⊥) → SomeBelow (Partner b l w z y r) (l .names) → ⊥
+kept-lost {y = y} h e f p = f (e .has y (p .it) h (p .below) (p .holds))
 
 -- where there is no partner, marks put later give none
-no-partner-stays : {R : List ℕ → ℕ → ℕ → Type 0} {g a b t : List ℕ} {l : Layout} {w u : List ℕ} {z y r : ℕ} → Setting g a b t l w → Grows R (markSquare l) w u → y ≤ l .names → (SomeBelow (Partner b l w z y r) (l .names) → ⊥) → SomeBelow (Partner b l u z y r) (l .names) → ⊥
+no-partner-stays : {R : List ℕ → ℕ → ℕ → Type 0} {b : List ℕ} {l : Layout} {w u : List ℕ} {z y r : ℕ} → Beneath l w → Grows R (markSquare l) w u → y ≤ l .names → (SomeBelow (Partner b l w z y r) (l .names) → ⊥) → SomeBelow (Partner b l u z y r) (l .names) → ⊥
 no-partner-stays s grows h f p =
     let q = p .holds in
-    f (record { it = p .it; below = p .below; holds = record { serves = record { is-restriction = q .serves .is-restriction; role = q .serves .role; free = λ m. q .serves .free (marks-stay grows m) }; second = marked-frame (grows-frame grows) (inl (s .apart)) h (omega (arith, p .below)) (q .second) } })
+    f (record { it = p .it; below = p .below; holds = record { serves = record { is-restriction = q .serves .is-restriction; role = q .serves .role; free = λ m. q .serves .free (marks-stay grows m) }; second = marked-frame (grows-frame grows) (second-apart s) h (omega (arith, p .below)) (q .second) } })
 
-module _ {g a b t : List ℕ} {l : Layout} {w : List ℕ} (s : Setting g a b t l w) {x : ℕ} where
+module _ {g a b : List ℕ} {l : Layout} {w : List ℕ} (s : Setting g a b l w) {x : ℕ} where
   -- marks put where the line of an edge has nothing
-  module _ {k : List ℕ} {z r : ℕ} (edge : Edge g a l x) (end-is : z ≡ fillerAt a x) (role-is : r ≡ roleAt a x) (kept : Kept b t l w z r k) where
+  module _ {k : List ℕ} {z r : ℕ} (edge : Edge g a l x) (end-is : z ≡ fillerAt a x) (role-is : r ≡ roleAt a x) (kept : Kept b l w z r k) where
     lost-there : {u : List ℕ} {y : ℕ} → Grows (Missing k x) (markSquare l) w u → y ≤ l .names → (Has k y → ⊥) → EdgeLost g a b l u x y
-    lost-there {u} {y} grows h f = record { edge = edge; no-partner = rw (← end-is, ← role-is) (no-partner-stays s grows h (kept-lost s h kept f)) }
+    lost-there {u} {y} grows h f = record { edge = edge; no-partner = rw (← end-is, ← role-is) (no-partner-stays (s .below (omega (arith, edge .is-name))) grows h (kept-lost h kept f)) }
 
     pub edges-lost : {v : List ℕ} → Grows (Missing k x) (markSquare l) w v → Grows (Step g a b l) (markSquare l) w v
     edges-lost grows = grows-as (λ u i y h xb yb m. by-itself (by-edge (rw (m .row) (lost-there h yb (m .not-there))))) grows
@@ -133,12 +160,12 @@ module _ {g a b t : List ℕ} {l : Layout} {w : List ℕ} (s : Setting g a b t l
     by-edge-pass {v} p = pass-with done (pass-by (λ u i y h xb yb m. by-itself (by-edge (rw (m .row) (lost-there h yb (m .not-there))))) p)
       where
         done : v ≡ w → Full (markSquare l) k x v → ByEdge g a b l x v
-        done e full = record { marked = λ y h o. full .marked y h (λ m. o .no-partner (rw (← role-is, ← end-is, e) (kept-partner s h kept m))) }
+        done e full = record { marked = λ y h o. full .marked y h (λ m. o .no-partner (rw (← role-is, ← end-is, e) (kept .only y h m))) }
 
   -- marks put where what lies below a name has nothing
-  module _ {k i : List ℕ} (is-name : x < l .names) (chosen-name : chosen l g .has-name x ≡ true) (empty : Empty i) (joined : Joined (belowSquare l) t x i k) where
+  module _ {k i : List ℕ} (is-name : x < l .names) (chosen-name : chosen l g .has-name x ≡ true) (empty : Empty i) (joined : JoinedBelow l w x i k) where
     name-lost : {R : List ℕ → ℕ → ℕ → Type 0} {u : List ℕ} {y : ℕ} → Grows R (markSquare l) w u → y ≤ l .names → (Has k y → ⊥) → NameLost g l u x y
-    name-lost {y = y} grows h f = record { is-name = is-name; chosen-name = chosen-name; not-second = λ m. f (joined .has y h (s .turned .to y x h (omega arith) (marked-frame (grows-frame grows) (inl (s .apart)) h (omega arith) m))) }
+    name-lost {y = y} grows h f = record { is-name = is-name; chosen-name = chosen-name; not-second = λ m. f (joined .has y h (marked-frame (grows-frame grows) (second-apart (s .below (omega arith))) h (omega arith) m)) }
 
     pub names-lost : {v : List ℕ} → Grows (Missing k x) (markSquare l) w v → Grows (Step g a b l) (markSquare l) w v
     names-lost grows = grows-as (λ u j y h xb yb m. by-itself (by-name (rw (m .row) (name-lost h yb (m .not-there))))) grows
@@ -147,7 +174,7 @@ module _ {g a b t : List ℕ} {l : Layout} {w : List ℕ} (s : Setting g a b t l
     by-name-pass {v} p = pass-with done (pass-by (λ u j y h xb yb m. by-itself (by-name (rw (m .row) (name-lost h yb (m .not-there))))) p)
       where
         below-it : (y : ℕ) → y ≤ l .names → Has k y → Marked (secondSquare l) w y x
-        below-it y h m = elim (joined .only y h m) [ inl e ↦ absurd (empty .none y e) | inr e ↦ s .turned .from y x h (omega arith) e ]
+        below-it y h m = elim (joined .only y h m) [ inl e ↦ absurd (empty .none y e) | inr e ↦ e ]
 
         done : v ≡ w → Full (markSquare l) k x v → ByName g l x v
         done e full = record { marked = λ y h o. full .marked y h (λ m. o .not-second (rw e (below-it y h m))) }
@@ -211,16 +238,3 @@ by-name-none e = record { marked = λ y h o. absurd (false≢true (sym e ∙ o .
 
 pub by-edge-none : {g a b : List ℕ} {l : Layout} {x : ℕ} {w : List ℕ} → (Edge g a l x → ⊥) → ByEdge g a b l x w
 by-edge-none f = record { marked = λ y h o. absurd (f (o .edge)) }
-
--- a memory of zeros, for a square
-zero-bytes : (k i : ℕ) → getD (replicate {A = ℕ} k 0) i 0 ≡ 0
-zero-bytes zero i = refl
-zero-bytes (suc k) zero = refl
-zero-bytes (suc k) (suc i) = zero-bytes k i
-
-pub zeros-room : {n : ℕ} → n ≤ 127 → Room (record { base = 0; names = n }) (replicate 2048 0)
-unfolding span width
-zeros-room {n} h = record { small = record { few = omega arith; near = omega arith }; fits = omega (arith, length-replicate {A = ℕ} 2048 0, mul-le-mul {n₁ = suc n} {m₁ = n / 8 + 1} {n₂ = 128} {m₂ = 16} (omega arith) (omega arith)) }
-
-pub zeros-unmarked : {q : Square} (k : ℕ) → Unmarked q (replicate k 0)
-zeros-unmarked {q} k = record { none = λ x y h l m. zero-unmarked (zero-bytes k (place q x y)) m }

@@ -1,6 +1,6 @@
 -- The rules of forward marks, over the tables a and b of the two releases, the signature bytes g and the squares of l in the memory
--- w. Rows and columns are nodes: the names below n, then ⊤. The memory t has the second release's inclusions turned: row c has
--- what lies below c.
+-- w. Rows and columns are nodes: the names below n, then ⊤.
+--   Beneath l w                w has the second release's inclusions turned, too: row c has what lies below c
 --   NameLost g l w x y         x is a signature name, and not above y by the second release
 --   Serves b l w z r c         the restriction of c has the role r, and its filler is not marked in row z
 --   Partner b l w z y r c      so it is, and y lies below c by the second release: c gives y an edge
@@ -9,7 +9,8 @@
 --   Own g a b l w x y          x, y is lost by what x itself is: by its name, or by its edge
 --   FromAbove l w x y          x, y is lost since c, y is marked, and x lies below c by the first release
 --   Step g a b l w x y         a rule allows the mark x, y: one of these two
---   KeptBy b t l w z r c i j   the line j is i, with what lies below c if c serves;  Kept b t l w z r k: k is what lies below one that serves
+--   JoinedBelow l w c i j      the line j is i, with what lies below c by the second release
+--   KeptBy b l w z r c i j     so it is if c serves;  Kept b l w z r k: k is what lies below one that serves
 --   ByName g l x w             nothing is left to mark by the name x;  ByEdge g a b l x w: by its edge;  Looked g a b l x w: by both
 --   Cell g a b l x y w         nothing is left to mark there by x itself
 --   Taken l x c w              if x lies below c by the first release, row x has the marks of row c
@@ -19,10 +20,9 @@ use mathlib.Core.Path.{_≡_}
 use mathlib.Core.Bool.{true}
 use mathlib.Core.List.{List}
 use mathlib.Core.Logic.{_⊎_}
-use Prim.Native.Nat.{ℕ, suc, _+_, _≤_, _<_}
+use Prim.Native.Nat.{ℕ, suc, _+_, _*_, _≤_, _<_}
 use Rattle.release.specs.Files.{restricts}
 use Rattle.release.specs.Tables.{kindAt, roleAt, fillerAt}
-use Rattle.marks.specs.declared.Square.{Square}
 use Rattle.marks.specs.Squares.{span, Room, Marked, Apart, Within}
 use Rattle.marks.specs.Passes.{Below}
 use Rattle.marks.specs.Lines.{Has}
@@ -30,23 +30,19 @@ use Rattle.marks.specs.Inclusions.{Turned}
 use Rattle.layout.specs.declared.Layout.{Layout}
 use Rattle.layout.specs.Searches.{SomeBelow}
 use Rattle.layout.specs.Layouts as layout
-use Rattle.layout.specs.Layouts.{firstSquare, secondSquare, markSquare, chosen}
+use Rattle.layout.specs.Layouts.{firstSquare, secondSquare, belowSquare, markSquare, chosen}
 
--- the square of the turned inclusions, in a memory of its own
-abbrev pub belowSquare : Layout → Square
-belowSquare l = record { base = 0; names = l .names }
+-- what is asked of the turned inclusions: they are there, and marks change neither them nor the others
+pub record Beneath (l : Layout) (w : List ℕ) : Type 0 where
+  pub room : Room (belowSquare l) w
+  pub turned : Turned (secondSquare l) w (belowSquare l) w
+  pub apart : l .second + 2 * span (l .names) ≤ l .marks
 
--- what the functions ask: all is in its place, marks change no inclusion of the second release, and t has these turned
-pub record Setting (g a b t : List ℕ) (l : Layout) (w : List ℕ) : Type 0 where
+-- what the functions ask; where there is no name there need be no room for the turned inclusions
+pub record Setting (g a b : List ℕ) (l : Layout) (w : List ℕ) : Type 0 where
   pub places : layout.Setting g a b l w
-  pub few : l .names ≤ 127
-  pub apart : l .second + span (l .names) ≤ l .marks
-  pub room : Room (belowSquare l) t
-  pub turned : Turned (secondSquare l) w (belowSquare l) t
-
--- of a memory with a square in which is only looked where to look
-pub record Under (l : Layout) (t : List ℕ) : Type 0 where
-  pub room : Room (belowSquare l) t
+  pub few : l .names ≤ 1023
+  pub below : 1 ≤ l .names → Beneath l w
 
 pub record NameLost (g : List ℕ) (l : Layout) (w : List ℕ) (x y : ℕ) : Type 0 where
   pub is-name : x < l .names
@@ -87,14 +83,19 @@ pub data Step (g a b : List ℕ) (l : Layout) (w : List ℕ) (x y : ℕ) : Type 
   by-above : FromAbove l w x y → Step g a b l w x y
 
 -- lines of nodes
-pub record KeptBy (b t : List ℕ) (l : Layout) (w : List ℕ) (z r c : ℕ) (i j : List ℕ) : Type 0 where
+pub record JoinedBelow (l : Layout) (w : List ℕ) (c : ℕ) (i j : List ℕ) : Type 0 where
   pub stays : (y : ℕ) → Has i y → Has j y
-  pub has : (y : ℕ) → y ≤ l .names → Serves b l w z r c → Marked (belowSquare l) t c y → Has j y
-  pub only : (y : ℕ) → y ≤ l .names → Has j y → Has i y ⊎ (Serves b l w z r c × Marked (belowSquare l) t c y)
+  pub has : (y : ℕ) → y ≤ l .names → Marked (secondSquare l) w y c → Has j y
+  pub only : (y : ℕ) → y ≤ l .names → Has j y → Has i y ⊎ Marked (secondSquare l) w y c
 
-pub record Kept (b t : List ℕ) (l : Layout) (w : List ℕ) (z r : ℕ) (k : List ℕ) : Type 0 where
-  pub has : (y c : ℕ) → y ≤ l .names → c < l .names → Serves b l w z r c → Marked (belowSquare l) t c y → Has k y
-  pub only : (y : ℕ) → y ≤ l .names → Has k y → SomeBelow (λ c. Serves b l w z r c × Marked (belowSquare l) t c y) (l .names)
+pub record KeptBy (b : List ℕ) (l : Layout) (w : List ℕ) (z r c : ℕ) (i j : List ℕ) : Type 0 where
+  pub stays : (y : ℕ) → Has i y → Has j y
+  pub has : (y : ℕ) → y ≤ l .names → Partner b l w z y r c → Has j y
+  pub only : (y : ℕ) → y ≤ l .names → Has j y → Has i y ⊎ Partner b l w z y r c
+
+pub record Kept (b : List ℕ) (l : Layout) (w : List ℕ) (z r : ℕ) (k : List ℕ) : Type 0 where
+  pub has : (y c : ℕ) → y ≤ l .names → c < l .names → Partner b l w z y r c → Has k y
+  pub only : (y : ℕ) → y ≤ l .names → Has k y → SomeBelow (Partner b l w z y r) (l .names)
 
 pub record ByName (g : List ℕ) (l : Layout) (x : ℕ) (w : List ℕ) : Type 0 where
   pub marked : (y : ℕ) → y ≤ l .names → NameLost g l w x y → Marked (markSquare l) w x y

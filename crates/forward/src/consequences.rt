@@ -1,26 +1,26 @@
-// What new marks of a row give: in the rows below it, and in those of the edges that end there. Where to look is read from hints;
-// each edge is tested at its pair, or for all nodes at once.
+// What new marks of a row give: in the rows below it, and in those of the edges that end there. Where to look is read from hints, those
+// that classification left behind the inclusions of the two releases; each edge is tested at its pair, or for all nodes at once.
 ghost use Prim.Native.Nat.{_≤_, _<_};
 ghost use Rattle.marks.specs.Passes.{Grows};
-ghost use Rattle.marks.specs.Squares.{Room};
+ghost use Rattle.marks.specs.Squares.{Room, Area};
 ghost use Rattle.marks.specs.Lines.{Spans};
-ghost use Rattle.layout.specs.Layouts.{Rowed, firstSquare, markSquare};
-ghost use Rattle.forward.specs.Rules.{belowSquare, Setting, Under, Edge, FromAbove, Step};
+ghost use Rattle.layout.specs.Layouts.{Rowed, firstSquare, secondSquare, markSquare};
+ghost use Rattle.forward.specs.Rules.{Beneath, Setting, Edge, FromAbove, Step};
+use crate::kept::join_below;
 use crate::kept::keep;
 use crate::partner::Partners;
 use crate::partner::has_partner;
 use crate::rules::has_edge;
-use classification::chains;
-use classification::chains::Chains;
+use classification::hints::Hints;
 use layout::Layout;
 use layout::first_includes;
 use layout::is_marked;
 use layout::mark;
 use marks::Square;
+use marks::hints;
 use marks::line;
 use marks::line::Line;
 use marks::rows::hand_on;
-use marks::rows::next_marked;
 use marks::rows::seems_within;
 use marks::waiting;
 use marks::waiting::Waiting;
@@ -43,11 +43,10 @@ pub fn lose_row(
     first: &[u16],
     second: &[u16],
     work: &mut [u8],
-    below: &[u8],
     layout: Layout,
     x: usize,
 ) -> bool
-    requires { ⌜ Setting (now signature) (now first) (now second) (now below) layout (now work) ⌝ }
+    requires { ⌜ Setting (now signature) (now first) (now second) layout (now work) ⌝ }
     requires { ⌜ Edge (now signature) (now first) layout x ⌝ }
     ensures { λ _. ⌜ Grows (Step (now (signature .entry)) (now (first .entry)) (now (second .entry)) layout) (markSquare layout) (now (work .entry)) (now (work .exit)) ⌝ }
 {
@@ -58,7 +57,7 @@ pub fn lose_row(
     };
     let role = table::role(first, x);
     let end = table::filler(first, x);
-    keep(second, work, below, &mut kept, layout, end, role);
+    keep(second, work, &mut kept, layout, end, role);
     if line::seems_full(work, marks, x, &kept) {
         return false;
     }
@@ -72,14 +71,13 @@ fn lose(
     first: &[u16],
     second: &[u16],
     work: &mut [u8],
-    below: &[u8],
-    partners: &mut [u8; Partners::NODES],
-    waiting: &mut [u8; Waiting::LENGTH],
+    partners: &mut [u16; Partners::NODES],
+    waiting: &mut [u16; Waiting::LENGTH],
     layout: Layout,
     x: usize,
     y: usize,
 )
-    requires { ⌜ Setting (now signature) (now first) (now second) (now below) layout (now work) ⌝ }
+    requires { ⌜ Setting (now signature) (now first) (now second) layout (now work) ⌝ }
     requires { ⌜ Edge (now signature) (now first) layout x ⌝ }
     requires { ⌜ y ≤ layout .names ⌝ }
     ensures { λ _. ⌜ Grows (Step (now (signature .entry)) (now (first .entry)) (now (second .entry)) layout) (markSquare layout) (now (work .entry)) (now (work .exit)) ⌝ }
@@ -97,37 +95,28 @@ fn lose(
 // Adds to the line what lies below the restrictions of the second release with this role and this filler.
 fn touch_by(
     second: &[u16],
-    below: &[u8],
-    second_edges: &[u16; Chains::LENGTH],
+    work: &[u8],
     touched: &mut [u8],
     layout: Layout,
     role: usize,
     filler: usize,
 )
     requires { ⌜ Rowed (layout .names) (now second) ⌝ }
-    requires { ⌜ Room (belowSquare layout) (now below) ⌝ }
+    requires { ⌜ Area (secondSquare layout) (now work) × Beneath layout (now work) ⌝ }
     requires { ⌜ Spans (layout .names) (now touched) ⌝ }
+    requires { ⌜ filler ≤ layout .names ⌝ }
 {
-    let mut entry = chains::entry(second_edges, Chains::FILLERS, filler);
-    let mut left = Chains::ENTRIES;
-    while 0 < left {
-        left -= 1;
-        let name = entry;
-        if layout.names <= name {
-            return;
-        }
-        entry = chains::entry(second_edges, Chains::NEXT, name);
+    let inclusions = Square {
+        base: layout.second,
+        names: layout.names,
+    };
+    let mut next = hints::next(work, inclusions, Hints::FILLERS, filler, 0);
+    while next < layout.names {
+        let name = next;
+        next = hints::next(work, inclusions, Hints::FILLERS, filler, name + 1);
         let own = table::role(second, name);
         if own == role {
-            line::join(
-                touched,
-                below,
-                Square {
-                    base: 0,
-                    names: layout.names,
-                },
-                name,
-            );
+            join_below(touched, work, layout, name);
         }
     }
 }
@@ -136,36 +125,35 @@ fn touch_by(
 // none from it.
 fn touch(
     second: &[u16],
-    below: &[u8],
-    second_edges: &[u16; Chains::LENGTH],
+    work: &[u8],
     new: &[u8; Line::LENGTH],
     touched: &mut [u8],
     layout: Layout,
     role: usize,
 )
     requires { ⌜ Rowed (layout .names) (now second) ⌝ }
-    requires { ⌜ Room (belowSquare layout) (now below) ⌝ }
+    requires { ⌜ Area (secondSquare layout) (now work) × Beneath layout (now work) ⌝ }
     requires { ⌜ Spans (layout .names) (now touched) ⌝ }
-    requires { ⌜ layout .names ≤ 127 ⌝ }
+    requires { ⌜ layout .names ≤ 1023 ⌝ }
 {
-    let mut next = waiting::next(new, 0);
+    let mut next = waiting::next(new, layout.names, 0);
     while next <= layout.names {
         let filler = next;
-        next = waiting::next(new, filler + 1);
-        touch_by(second, below, second_edges, touched, layout, role, filler);
+        next = waiting::next(new, layout.names, filler + 1);
+        touch_by(second, work, touched, layout, role, filler);
     }
 }
 
 // How many nodes of the line x is not marked with. Where that is more than a few, the rest is not counted.
 fn count_left(work: &[u8], layout: Layout, touched: &[u8; Line::LENGTH], x: usize) -> usize
     requires { ⌜ Room (markSquare layout) (now work) ⌝ }
-    requires { ⌜ (x ≤ layout .names) × (layout .names ≤ 127) ⌝ }
+    requires { ⌜ (x ≤ layout .names) × (layout .names ≤ 1023) ⌝ }
 {
     let mut count = 0;
-    let mut next = waiting::next(touched, 0);
+    let mut next = waiting::next(touched, layout.names, 0);
     while next <= layout.names {
         let y = next;
-        next = waiting::next(touched, y + 1);
+        next = waiting::next(touched, layout.names, y + 1);
         if is_marked(work, layout, x, y) {
             continue;
         }
@@ -183,27 +171,25 @@ fn lose_each(
     first: &[u16],
     second: &[u16],
     work: &mut [u8],
-    below: &[u8],
-    partners: &mut [u8; Partners::NODES],
-    waiting: &mut [u8; Waiting::LENGTH],
+    partners: &mut [u16; Partners::NODES],
+    waiting: &mut [u16; Waiting::LENGTH],
     layout: Layout,
     touched: &[u8; Line::LENGTH],
     x: usize,
 )
-    requires { ⌜ Setting (now signature) (now first) (now second) (now below) layout (now work) ⌝ }
+    requires { ⌜ Setting (now signature) (now first) (now second) layout (now work) ⌝ }
     requires { ⌜ Edge (now signature) (now first) layout x ⌝ }
     ensures { λ _. ⌜ Grows (Step (now (signature .entry)) (now (first .entry)) (now (second .entry)) layout) (markSquare layout) (now (work .entry)) (now (work .exit)) ⌝ }
 {
-    let mut next = waiting::next(touched, 0);
+    let mut next = waiting::next(touched, layout.names, 0);
     while next <= layout.names {
         let y = next;
-        next = waiting::next(touched, y + 1);
+        next = waiting::next(touched, layout.names, y + 1);
         lose(
             signature,
             first,
             second,
             work,
-            below,
             partners,
             waiting,
             layout,
@@ -220,14 +206,13 @@ fn lose_touched(
     first: &[u16],
     second: &[u16],
     work: &mut [u8],
-    below: &[u8],
-    partners: &mut [u8; Partners::NODES],
-    waiting: &mut [u8; Waiting::LENGTH],
+    partners: &mut [u16; Partners::NODES],
+    waiting: &mut [u16; Waiting::LENGTH],
     layout: Layout,
     touched: &[u8; Line::LENGTH],
     x: usize,
 )
-    requires { ⌜ Setting (now signature) (now first) (now second) (now below) layout (now work) ⌝ }
+    requires { ⌜ Setting (now signature) (now first) (now second) layout (now work) ⌝ }
     requires { ⌜ Edge (now signature) (now first) layout x ⌝ }
     ensures { λ _. ⌜ Grows (Step (now (signature .entry)) (now (first .entry)) (now (second .entry)) layout) (markSquare layout) (now (work .entry)) (now (work .exit)) ⌝ }
 {
@@ -236,7 +221,7 @@ fn lose_touched(
         return;
     }
     if Few::NODES < count {
-        if lose_row(signature, first, second, work, below, layout, x) {
+        if lose_row(signature, first, second, work, layout, x) {
             wait(waiting, x);
         }
         return;
@@ -246,7 +231,6 @@ fn lose_touched(
         first,
         second,
         work,
-        below,
         partners,
         waiting,
         layout,
@@ -261,27 +245,24 @@ fn lose_by_new(
     first: &[u16],
     second: &[u16],
     work: &mut [u8],
-    below: &[u8],
-    second_edges: &[u16; Chains::LENGTH],
-    partners: &mut [u8; Partners::NODES],
-    waiting: &mut [u8; Waiting::LENGTH],
+    partners: &mut [u16; Partners::NODES],
+    waiting: &mut [u16; Waiting::LENGTH],
     layout: Layout,
     new: &[u8; Line::LENGTH],
     x: usize,
 )
-    requires { ⌜ Setting (now signature) (now first) (now second) (now below) layout (now work) ⌝ }
+    requires { ⌜ Setting (now signature) (now first) (now second) layout (now work) ⌝ }
     requires { ⌜ Edge (now signature) (now first) layout x ⌝ }
     ensures { λ _. ⌜ Grows (Step (now (signature .entry)) (now (first .entry)) (now (second .entry)) layout) (markSquare layout) (now (work .entry)) (now (work .exit)) ⌝ }
 {
     let mut touched = [0u8; Line::LENGTH];
     let role = table::role(first, x);
-    touch(second, below, second_edges, new, &mut touched, layout, role);
+    touch(second, work, new, &mut touched, layout, role);
     lose_touched(
         signature,
         first,
         second,
         work,
-        below,
         partners,
         waiting,
         layout,
@@ -296,21 +277,19 @@ fn lose_edge(
     first: &[u16],
     second: &[u16],
     work: &mut [u8],
-    below: &[u8],
-    second_edges: &[u16; Chains::LENGTH],
-    partners: &mut [u8; Partners::NODES],
-    waiting: &mut [u8; Waiting::LENGTH],
+    partners: &mut [u16; Partners::NODES],
+    waiting: &mut [u16; Waiting::LENGTH],
     layout: Layout,
     new: &[u8; Line::LENGTH],
     fresh: usize,
     x: usize,
 )
-    requires { ⌜ Setting (now signature) (now first) (now second) (now below) layout (now work) ⌝ }
+    requires { ⌜ Setting (now signature) (now first) (now second) layout (now work) ⌝ }
     requires { ⌜ Edge (now signature) (now first) layout x ⌝ }
     ensures { λ _. ⌜ Grows (Step (now (signature .entry)) (now (first .entry)) (now (second .entry)) layout) (markSquare layout) (now (work .entry)) (now (work .exit)) ⌝ }
 {
     if Few::BYTES < fresh {
-        if lose_row(signature, first, second, work, below, layout, x) {
+        if lose_row(signature, first, second, work, layout, x) {
             wait(waiting, x);
         }
         return;
@@ -320,8 +299,6 @@ fn lose_edge(
         first,
         second,
         work,
-        below,
-        second_edges,
         partners,
         waiting,
         layout,
@@ -336,36 +313,31 @@ fn lose_edges(
     first: &[u16],
     second: &[u16],
     work: &mut [u8],
-    below: &[u8],
-    edges: &[u16; Chains::LENGTH],
-    second_edges: &[u16; Chains::LENGTH],
-    partners: &mut [u8; Partners::NODES],
-    waiting: &mut [u8; Waiting::LENGTH],
+    partners: &mut [u16; Partners::NODES],
+    waiting: &mut [u16; Waiting::LENGTH],
     layout: Layout,
     new: &[u8; Line::LENGTH],
     fresh: usize,
     end: usize,
 )
-    requires { ⌜ Setting (now signature) (now first) (now second) (now below) layout (now work) ⌝ }
+    requires { ⌜ Setting (now signature) (now first) (now second) layout (now work) ⌝ }
+    requires { ⌜ end ≤ layout .names ⌝ }
     ensures { λ _. ⌜ Grows (Step (now (signature .entry)) (now (first .entry)) (now (second .entry)) layout) (markSquare layout) (now (work .entry)) (now (work .exit)) ⌝ }
 {
-    let mut entry = chains::entry(edges, Chains::FILLERS, end);
-    let mut left = Chains::ENTRIES;
-    while 0 < left {
-        left -= 1;
-        let x = entry;
-        if layout.names <= x {
-            return;
-        }
-        entry = chains::entry(edges, Chains::NEXT, x);
+    let inclusions = Square {
+        base: layout.first,
+        names: layout.names,
+    };
+    let mut next = hints::next(work, inclusions, Hints::FILLERS, end, 0);
+    while next < layout.names {
+        let x = next;
+        next = hints::next(work, inclusions, Hints::FILLERS, end, x + 1);
         if has_edge(signature, first, layout, x) {
             lose_edge(
                 signature,
                 first,
                 second,
                 work,
-                below,
-                second_edges,
                 partners,
                 waiting,
                 layout,
@@ -378,15 +350,8 @@ fn lose_edges(
 }
 
 // Hands the marks of row x on to each row below it.
-fn hand_down(
-    work: &mut [u8],
-    under: &[u8],
-    waiting: &mut [u8; Waiting::LENGTH],
-    layout: Layout,
-    x: usize,
-)
-    requires { ⌜ Room (firstSquare layout) (now work) × Room (markSquare layout) (now work) ⌝ }
-    requires { ⌜ Under layout (now under) ⌝ }
+fn hand_down(work: &mut [u8], waiting: &mut [u16; Waiting::LENGTH], layout: Layout, x: usize)
+    requires { ⌜ Area (firstSquare layout) (now work) × Room (markSquare layout) (now work) ⌝ }
     requires { ⌜ x ≤ layout .names ⌝ }
     ensures { λ _. ⌜ Grows (FromAbove layout) (markSquare layout) (now (work .entry)) (now (work .exit)) ⌝ }
 {
@@ -394,20 +359,20 @@ fn hand_down(
         base: layout.marks,
         names: layout.names,
     };
-    let square = Square {
-        base: 0,
+    let inclusions = Square {
+        base: layout.first,
         names: layout.names,
     };
-    let mut lower = next_marked(under, square, x, 0);
-    while lower <= layout.names {
-        let old = lower;
-        lower = next_marked(under, square, x, lower + 1);
-        if seems_within(work, marks, x, old) {
+    let mut next = hints::next(work, inclusions, Hints::BELOW, x, 0);
+    while next <= layout.names {
+        let lower = next;
+        next = hints::next(work, inclusions, Hints::BELOW, x, lower + 1);
+        if seems_within(work, marks, x, lower) {
             continue;
         }
-        if first_includes(work, layout, old, x) {
-            hand_on(work, marks, x, old);
-            wait(waiting, old);
+        if first_includes(work, layout, lower, x) {
+            hand_on(work, marks, x, lower);
+            wait(waiting, lower);
         }
     }
 }
@@ -418,17 +383,12 @@ pub fn deal(
     first: &[u16],
     second: &[u16],
     work: &mut [u8],
-    under: &[u8],
-    below: &[u8],
-    edges: &[u16; Chains::LENGTH],
-    second_edges: &[u16; Chains::LENGTH],
-    partners: &mut [u8; Partners::NODES],
-    waiting: &mut [u8; Waiting::LENGTH],
+    partners: &mut [u16; Partners::NODES],
+    waiting: &mut [u16; Waiting::LENGTH],
     layout: Layout,
     x: usize,
 )
-    requires { ⌜ Setting (now signature) (now first) (now second) (now below) layout (now work) ⌝ }
-    requires { ⌜ Under layout (now under) ⌝ }
+    requires { ⌜ Setting (now signature) (now first) (now second) layout (now work) ⌝ }
     requires { ⌜ x ≤ layout .names ⌝ }
     ensures { λ _. ⌜ Grows (Step (now (signature .entry)) (now (first .entry)) (now (second .entry)) layout) (markSquare layout) (now (work .entry)) (now (work .exit)) ⌝ }
 {
@@ -437,16 +397,13 @@ pub fn deal(
         names: layout.names,
     };
     let mut new = [0u8; Line::LENGTH];
-    let fresh = waiting::see(work, marks, x, waiting, x, &mut new);
-    hand_down(work, under, waiting, layout, x);
+    let fresh = hints::see(work, marks, x, &mut new);
+    hand_down(work, waiting, layout, x);
     lose_edges(
         signature,
         first,
         second,
         work,
-        below,
-        edges,
-        second_edges,
         partners,
         waiting,
         layout,

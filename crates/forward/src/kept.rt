@@ -4,10 +4,12 @@ ghost use Rattle.el.proofs.Tests.{Tells};
 ghost use Rattle.marks.specs.Squares.{Room};
 ghost use Rattle.marks.specs.Lines.{Spans, Empty};
 ghost use Rattle.layout.specs.Layouts.{Rowed, markSquare};
-ghost use Rattle.forward.specs.Rules.{Setting, belowSquare, Serves, KeptBy, Kept};
+ghost use Rattle.forward.specs.Rules.{Beneath, JoinedBelow, Serves, KeptBy, Kept};
 use layout::Layout;
 use layout::is_marked;
 use marks::Square;
+use marks::behind;
+use marks::hints::Hint;
 use marks::line;
 use release::table;
 
@@ -40,11 +42,26 @@ pub fn serves(
     false
 }
 
+// Adds to the line what lies below the name by the second release: a row of the turned inclusions. They lie behind the others, where it
+// was noted what was seen of these, which is asked for no more.
+pub fn join_below(line: &mut [u8], work: &[u8], layout: Layout, name: usize)
+    requires { ⌜ Beneath layout (now work) ⌝ }
+    requires { ⌜ Spans (layout .names) (now line) ⌝ }
+    requires { ⌜ name < layout .names ⌝ }
+    ensures { λ _. ⌜ JoinedBelow layout (now (work .entry)) name (now (line .entry)) (now (line .exit)) ⌝ }
+{
+    let second = Square {
+        base: layout.second,
+        names: layout.names,
+    };
+    let below = behind(second, Hint::SEEN);
+    line::join(line, work, below, name);
+}
+
 // Adds what lies below the name, if it serves.
 fn keep_by(
     second: &[u16],
     work: &[u8],
-    below: &[u8],
     kept: &mut [u8],
     layout: Layout,
     end: usize,
@@ -52,44 +69,28 @@ fn keep_by(
     name: usize,
 )
     requires { ⌜ Rowed (layout .names) (now second) ⌝ }
-    requires { ⌜ Room (markSquare layout) (now work) × Room (belowSquare layout) (now below) ⌝ }
+    requires { ⌜ Room (markSquare layout) (now work) × Beneath layout (now work) ⌝ }
     requires { ⌜ Spans (layout .names) (now kept) ⌝ }
     requires { ⌜ (end ≤ layout .names) × (name < layout .names) ⌝ }
-    ensures { λ _. ⌜ KeptBy (now (second .entry)) (now (below .entry)) layout (now (work .entry)) end role name (now (kept .entry)) (now (kept .exit)) ⌝ }
+    ensures { λ _. ⌜ KeptBy (now (second .entry)) layout (now (work .entry)) end role name (now (kept .entry)) (now (kept .exit)) ⌝ }
 {
     if serves(second, work, layout, end, role, name) {
-        line::join(
-            kept,
-            below,
-            Square {
-                base: 0,
-                names: layout.names,
-            },
-            name,
-        );
+        join_below(kept, work, layout, name);
     }
 }
 
 // Adds all nodes that have an edge with the role by the second release, to a node that `end` is not marked with.
-pub fn keep(
-    second: &[u16],
-    work: &[u8],
-    below: &[u8],
-    kept: &mut [u8],
-    layout: Layout,
-    end: usize,
-    role: usize,
-)
+pub fn keep(second: &[u16], work: &[u8], kept: &mut [u8], layout: Layout, end: usize, role: usize)
     requires { ⌜ Rowed (layout .names) (now second) ⌝ }
-    requires { ⌜ Room (markSquare layout) (now work) × Room (belowSquare layout) (now below) ⌝ }
+    requires { ⌜ Room (markSquare layout) (now work) × Beneath layout (now work) ⌝ }
     requires { ⌜ Spans (layout .names) (now kept) × Empty (now kept) ⌝ }
-    requires { ⌜ (end ≤ layout .names) × (layout .names ≤ 127) ⌝ }
-    ensures { λ _. ⌜ Kept (now (second .entry)) (now (below .entry)) layout (now (work .entry)) end role (now (kept .exit)) ⌝ }
+    requires { ⌜ (end ≤ layout .names) × (layout .names ≤ 1023) ⌝ }
+    ensures { λ _. ⌜ Kept (now (second .entry)) layout (now (work .entry)) end role (now (kept .exit)) ⌝ }
 {
     let mut next = 0;
     while next < layout.names {
         let name = next;
         next += 1;
-        keep_by(second, work, below, kept, layout, end, role, name);
+        keep_by(second, work, kept, layout, end, role, name);
     }
 }

@@ -1,14 +1,11 @@
 // Forward marks: the pairs x, y such that some signature concept lies above x by the first release and not above y by the second.
-ghost use Prim.Native.Nat.{_+_, _≤_};
+ghost use Prim.Native.Nat.{_≤_};
 ghost use Rattle.release.specs.Files.{mostNames};
-ghost use Rattle.marks.specs.Squares.{span};
 ghost use Rattle.layout.specs.Layouts.{Setting};
+ghost use Rattle.forward.specs.Rules.{Beneath};
 ghost use Rattle.forward.specs.Forward.{ForwardFrom};
 use layout::Layout;
-use marks::Square;
 use marks::order::Order;
-use marks::turned::Turning;
-use marks::turned::turn;
 use marks::waiting::Waiting;
 
 mod consequences;
@@ -18,8 +15,8 @@ mod propagation;
 mod rules;
 mod sweep;
 
-// Marks those pairs, given the tables of the two releases and the squares of their inclusions. `below` has the inclusions of the
-// second release with rows and columns exchanged; the other locals are hints.
+// Marks those pairs, given the tables of the two releases and the squares of their inclusions, those of the second release also with
+// rows and columns exchanged. The locals are hints.
 pub fn mark_lost_above(
     signature: &[u8],
     first: &[u16],
@@ -29,43 +26,12 @@ pub fn mark_lost_above(
 )
     requires { ⌜ Setting (now signature) (now first) (now second) layout (now work) ⌝ }
     requires { ⌜ layout .names ≤ mostNames ⌝ }
-    requires { ⌜ layout .second + span (layout .names) ≤ layout .marks ⌝ }
+    requires { ⌜ (1 ≤ layout .names → Beneath layout (now work)) ⌝ }
     ensures { λ _. ⌜ ForwardFrom (now (signature .entry)) (now (first .entry)) (now (second .entry)) layout (now (work .entry)) (now (work .exit)) ⌝ }
 {
-    let mut below = [0u8; Turning::LENGTH];
     let mut order = [Order::NONE; Order::NODES];
-    let mut waiting = [0u8; Waiting::LENGTH];
-    turn(
-        work,
-        Square {
-            base: layout.second,
-            names: layout.names,
-        },
-        &mut below,
-        Square {
-            base: 0,
-            names: layout.names,
-        },
-    );
+    let mut waiting = [0u16; Waiting::LENGTH];
     propagation::sort(first, work, layout, &mut order);
-    propagation::begin(
-        signature,
-        first,
-        second,
-        work,
-        &below,
-        &mut waiting,
-        &order,
-        layout,
-    );
-    sweep::close(
-        signature,
-        first,
-        second,
-        work,
-        &below,
-        &mut waiting,
-        &order,
-        layout,
-    );
+    propagation::begin(signature, first, second, work, &mut waiting, &order, layout);
+    sweep::close(signature, first, second, work, &mut waiting, &order, layout);
 }

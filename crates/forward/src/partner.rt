@@ -13,29 +13,29 @@ use marks::Square;
 use marks::rows::next_marked;
 use release::table;
 
-// The partner found last for each node, a byte, of whatever edge it was one: that it often is one of the next edge too is only a hint,
+// The partner found last for each node, of whatever edge it was one: that it often is one of the next edge too is only a hint,
 // so the search begins with it, and then looks at all.
 pub struct Partners {}
 
 impl Partners {
-    pub const NODES: usize = 128;
+    pub const NODES: usize = 1024;
 }
 
-fn wide(x: u8) -> usize
+fn wide(x: u16) -> usize
     ensures { λ r. ⌜ r ≡ x ⌝ }
 {
     x as usize
 }
 
-fn narrow(x: usize) -> u8
-    requires { ⌜ x ≤ 255 ⌝ }
+fn narrow(x: usize) -> u16
+    requires { ⌜ x ≤ 65535 ⌝ }
     ensures { λ r. ⌜ r ≡ x ⌝ }
 {
-    x as u8
+    x as u16
 }
 
 // The partner noted last, or a number out of range.
-fn noted(partners: &[u8; Partners::NODES], y: usize) -> usize {
+fn noted(partners: &[u16; Partners::NODES], y: usize) -> usize {
     if y < Partners::NODES {
         return wide(partners[y]);
     }
@@ -43,7 +43,7 @@ fn noted(partners: &[u8; Partners::NODES], y: usize) -> usize {
 }
 
 // Notes a partner. Out of range nothing happens.
-fn note(partners: &mut [u8; Partners::NODES], y: usize, name: usize) {
+fn note(partners: &mut [u16; Partners::NODES], y: usize, name: usize) {
     if y < Partners::NODES {
         if name < Partners::NODES {
             partners[y] = narrow(name);
@@ -52,7 +52,7 @@ fn note(partners: &mut [u8; Partners::NODES], y: usize, name: usize) {
 }
 
 // Where the search begins.
-fn begin(partners: &[u8; Partners::NODES], names: usize, y: usize) -> usize
+fn begin(partners: &[u16; Partners::NODES], names: usize, y: usize) -> usize
     ensures { λ r. ⌜ r ≤ names ⌝ }
 {
     let name = noted(partners, y);
@@ -78,7 +78,7 @@ pub fn has_partner(
     first: &[u16],
     second: &[u16],
     work: &[u8],
-    partners: &mut [u8; Partners::NODES],
+    partners: &mut [u16; Partners::NODES],
     layout: Layout,
     x: usize,
     y: usize,

@@ -6,13 +6,12 @@ ghost use Rattle.marks.specs.Squares.{Room};
 ghost use Rattle.marks.specs.Lines.{Spans};
 ghost use Rattle.marks.specs.Passes.{Grows};
 ghost use Rattle.layout.specs.Layouts.{firstSquare, markSquare};
-ghost use Rattle.forward.specs.Rules.{Setting, Under, Step};
+ghost use Rattle.forward.specs.Rules.{Setting, Step};
 use crate::consequences::deal;
 use crate::consequences::lose_row;
+use crate::kept::join_below;
 use crate::partner::Partners;
 use crate::rules::has_edge;
-use classification::chains::Chains;
-use classification::chains::list_fillers;
 use layout::Layout;
 use layout::has_name;
 use marks::Square;
@@ -21,18 +20,16 @@ use marks::line;
 use marks::line::Line;
 use marks::order;
 use marks::order::Order;
-use marks::turned::Turning;
-use marks::turned::turn;
 use marks::waiting;
 use marks::waiting::Waiting;
 use marks::waiting::wait;
 use release::table;
 
 // Writes an order in which ends come before their edges, and what lies above before what lies below, as far as that can be had.
-pub fn sort(first: &[u16], work: &[u8], layout: Layout, order: &mut [u8; Order::NODES])
+pub fn sort(first: &[u16], work: &[u8], layout: Layout, order: &mut [u16; Order::NODES])
     requires { ⌜ 4 * layout .names ≤ length (now first) ⌝ }
     requires { ⌜ Room (firstSquare layout) (now work) ⌝ }
-    requires { ⌜ layout .names ≤ 127 ⌝ }
+    requires { ⌜ layout .names ≤ 1023 ⌝ }
 {
     let mut ends = [Order::NONE; Order::NODES];
     let mut next = 0;
@@ -60,25 +57,16 @@ fn mark_name(
     first: &[u16],
     second: &[u16],
     work: &mut [u8],
-    below: &[u8],
     layout: Layout,
     x: usize,
 )
-    requires { ⌜ Setting (now signature) (now first) (now second) (now below) layout (now work) ⌝ }
+    requires { ⌜ Setting (now signature) (now first) (now second) layout (now work) ⌝ }
     requires { ⌜ x < layout .names ⌝ }
     ensures { λ _. ⌜ Grows (Step (now (signature .entry)) (now (first .entry)) (now (second .entry)) layout) (markSquare layout) (now (work .entry)) (now (work .exit)) ⌝ }
 {
     if has_name(signature, layout, x) {
         let mut kept = [0u8; Line::LENGTH];
-        line::join(
-            &mut kept,
-            below,
-            Square {
-                base: 0,
-                names: layout.names,
-            },
-            x,
-        );
+        join_below(&mut kept, work, layout, x);
         line::mark_missing(
             work,
             Square {
@@ -92,36 +80,29 @@ fn mark_name(
 }
 
 // Does so for all names.
-fn mark_names(
-    signature: &[u8],
-    first: &[u16],
-    second: &[u16],
-    work: &mut [u8],
-    below: &[u8],
-    layout: Layout,
-)
-    requires { ⌜ Setting (now signature) (now first) (now second) (now below) layout (now work) ⌝ }
+fn mark_names(signature: &[u8], first: &[u16], second: &[u16], work: &mut [u8], layout: Layout)
+    requires { ⌜ Setting (now signature) (now first) (now second) layout (now work) ⌝ }
     ensures { λ _. ⌜ Grows (Step (now (signature .entry)) (now (first .entry)) (now (second .entry)) layout) (markSquare layout) (now (work .entry)) (now (work .exit)) ⌝ }
 {
     let mut next = 0;
     while next < layout.names {
         let x = next;
         next += 1;
-        mark_name(signature, first, second, work, below, layout, x);
+        mark_name(signature, first, second, work, layout, x);
     }
 }
 
 // Lets the rows above row x wait that are not done.
 fn wait_for_above(
     work: &[u8],
-    waiting: &mut [u8; Waiting::LENGTH],
+    waiting: &mut [u16; Waiting::LENGTH],
     done: &[u8],
     layout: Layout,
     x: usize,
 )
     requires { ⌜ Room (firstSquare layout) (now work) ⌝ }
     requires { ⌜ Spans (layout .names) (now done) ⌝ }
-    requires { ⌜ (x ≤ layout .names) × (layout .names ≤ 127) ⌝ }
+    requires { ⌜ (x ≤ layout .names) × (layout .names ≤ 1023) ⌝ }
 {
     let inclusions = Square {
         base: layout.first,
@@ -142,20 +123,19 @@ fn first_edge(
     first: &[u16],
     second: &[u16],
     work: &mut [u8],
-    below: &[u8],
-    waiting: &mut [u8; Waiting::LENGTH],
+    waiting: &mut [u16; Waiting::LENGTH],
     done: &[u8],
     layout: Layout,
     x: usize,
 )
-    requires { ⌜ Setting (now signature) (now first) (now second) (now below) layout (now work) ⌝ }
+    requires { ⌜ Setting (now signature) (now first) (now second) layout (now work) ⌝ }
     requires { ⌜ Spans (layout .names) (now done) ⌝ }
     requires { ⌜ x < layout .names ⌝ }
     ensures { λ _. ⌜ Grows (Step (now (signature .entry)) (now (first .entry)) (now (second .entry)) layout) (markSquare layout) (now (work .entry)) (now (work .exit)) ⌝ }
 {
     if has_edge(signature, first, layout, x) {
         let end = table::filler(first, x);
-        lose_row(signature, first, second, work, below, layout, x);
+        lose_row(signature, first, second, work, layout, x);
         if line::has(done, end) {
             return;
         }
@@ -169,14 +149,13 @@ fn first_row(
     first: &[u16],
     second: &[u16],
     work: &mut [u8],
-    below: &[u8],
-    waiting: &mut [u8; Waiting::LENGTH],
+    waiting: &mut [u16; Waiting::LENGTH],
     done: &[u8],
     layout: Layout,
     x: usize,
     near: usize,
 )
-    requires { ⌜ Setting (now signature) (now first) (now second) (now below) layout (now work) ⌝ }
+    requires { ⌜ Setting (now signature) (now first) (now second) layout (now work) ⌝ }
     requires { ⌜ Spans (layout .names) (now done) ⌝ }
     requires { ⌜ x ≤ layout .names ⌝ }
     ensures { λ _. ⌜ Grows (Step (now (signature .entry)) (now (first .entry)) (now (second .entry)) layout) (markSquare layout) (now (work .entry)) (now (work .exit)) ⌝ }
@@ -197,17 +176,7 @@ fn first_row(
     );
     wait_for_above(work, waiting, done, layout, x);
     if x < layout.names {
-        first_edge(
-            signature,
-            first,
-            second,
-            work,
-            below,
-            waiting,
-            done,
-            layout,
-            x,
-        );
+        first_edge(signature, first, second, work, waiting, done, layout, x);
     }
 }
 
@@ -217,13 +186,12 @@ fn first_rows(
     first: &[u16],
     second: &[u16],
     work: &mut [u8],
-    below: &[u8],
-    waiting: &mut [u8; Waiting::LENGTH],
+    waiting: &mut [u16; Waiting::LENGTH],
     done: &mut [u8],
-    order: &[u8; Order::NODES],
+    order: &[u16; Order::NODES],
     layout: Layout,
 )
-    requires { ⌜ Setting (now signature) (now first) (now second) (now below) layout (now work) ⌝ }
+    requires { ⌜ Setting (now signature) (now first) (now second) layout (now work) ⌝ }
     requires { ⌜ Spans (layout .names) (now done) ⌝ }
     ensures { λ _. ⌜ Grows (Step (now (signature .entry)) (now (first .entry)) (now (second .entry)) layout) (markSquare layout) (now (work .entry)) (now (work .exit)) ⌝ }
 {
@@ -238,7 +206,6 @@ fn first_rows(
                 first,
                 second,
                 work,
-                below,
                 waiting,
                 done,
                 layout,
@@ -257,20 +224,13 @@ fn deal_with_all(
     first: &[u16],
     second: &[u16],
     work: &mut [u8],
-    under: &[u8],
-    below: &[u8],
-    waiting: &mut [u8; Waiting::LENGTH],
+    waiting: &mut [u16; Waiting::LENGTH],
     layout: Layout,
 )
-    requires { ⌜ Setting (now signature) (now first) (now second) (now below) layout (now work) ⌝ }
-    requires { ⌜ Under layout (now under) ⌝ }
+    requires { ⌜ Setting (now signature) (now first) (now second) layout (now work) ⌝ }
     ensures { λ _. ⌜ Grows (Step (now (signature .entry)) (now (first .entry)) (now (second .entry)) layout) (markSquare layout) (now (work .entry)) (now (work .exit)) ⌝ }
 {
-    let mut edges = [0u16; Chains::LENGTH];
-    let mut second_edges = [0u16; Chains::LENGTH];
-    let mut partners = [0u8; Partners::NODES];
-    list_fillers(first, &mut edges, layout.names);
-    list_fillers(second, &mut second_edges, layout.names);
+    let mut partners = [0u16; Partners::NODES];
     let mut left = Waiting::TURNS;
     while 0 < left {
         left -= 1;
@@ -283,10 +243,6 @@ fn deal_with_all(
             first,
             second,
             work,
-            under,
-            below,
-            &edges,
-            &second_edges,
             &mut partners,
             waiting,
             layout,
@@ -295,77 +251,32 @@ fn deal_with_all(
     }
 }
 
-// The same, if a row waits.
-fn propagate(
-    signature: &[u8],
-    first: &[u16],
-    second: &[u16],
-    work: &mut [u8],
-    below: &[u8],
-    waiting: &mut [u8; Waiting::LENGTH],
-    layout: Layout,
-)
-    requires { ⌜ Setting (now signature) (now first) (now second) (now below) layout (now work) ⌝ }
-    ensures { λ _. ⌜ Grows (Step (now (signature .entry)) (now (first .entry)) (now (second .entry)) layout) (markSquare layout) (now (work .entry)) (now (work .exit)) ⌝ }
-{
-    let x = waiting::take(waiting);
-    if layout.names < x {
-        return;
-    }
-    wait(waiting, x);
-    let mut under = [0u8; Turning::LENGTH];
-    turn(
-        work,
-        Square {
-            base: layout.first,
-            names: layout.names,
-        },
-        &mut under,
-        Square {
-            base: 0,
-            names: layout.names,
-        },
-    );
-    deal_with_all(
-        signature,
-        first,
-        second,
-        work,
-        &under,
-        below,
-        waiting,
-        layout,
-    );
-}
-
 // The marks that names give, and what follows from them by edges, as far as the hints lead.
 pub fn begin(
     signature: &[u8],
     first: &[u16],
     second: &[u16],
     work: &mut [u8],
-    below: &[u8],
-    waiting: &mut [u8; Waiting::LENGTH],
-    order: &[u8; Order::NODES],
+    waiting: &mut [u16; Waiting::LENGTH],
+    order: &[u16; Order::NODES],
     layout: Layout,
 )
-    requires { ⌜ Setting (now signature) (now first) (now second) (now below) layout (now work) ⌝ }
+    requires { ⌜ Setting (now signature) (now first) (now second) layout (now work) ⌝ }
     ensures { λ _. ⌜ Grows (Step (now (signature .entry)) (now (first .entry)) (now (second .entry)) layout) (markSquare layout) (now (work .entry)) (now (work .exit)) ⌝ }
 {
     let mut done = [0u8; Line::LENGTH];
-    mark_names(signature, first, second, work, below, layout);
+    mark_names(signature, first, second, work, layout);
     first_rows(
         signature,
         first,
         second,
         work,
-        below,
         waiting,
         &mut done,
         order,
         layout,
     );
-    propagate(signature, first, second, work, below, waiting, layout);
+    deal_with_all(signature, first, second, work, waiting, layout);
 }
 
 // What follows from the marks that a pass found.
@@ -374,13 +285,12 @@ pub fn resume(
     first: &[u16],
     second: &[u16],
     work: &mut [u8],
-    below: &[u8],
-    waiting: &mut [u8; Waiting::LENGTH],
+    waiting: &mut [u16; Waiting::LENGTH],
     layout: Layout,
 )
-    requires { ⌜ Setting (now signature) (now first) (now second) (now below) layout (now work) ⌝ }
+    requires { ⌜ Setting (now signature) (now first) (now second) layout (now work) ⌝ }
     ensures { λ _. ⌜ Grows (Step (now (signature .entry)) (now (first .entry)) (now (second .entry)) layout) (markSquare layout) (now (work .entry)) (now (work .exit)) ⌝ }
 {
     waiting::wait_all(waiting, layout.names);
-    propagate(signature, first, second, work, below, waiting, layout);
+    deal_with_all(signature, first, second, work, waiting, layout);
 }

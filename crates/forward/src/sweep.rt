@@ -1,8 +1,9 @@
 // Passes over all names and rows, until one finds nothing left to mark.
-ghost use Prim.Native.Nat.{suc, _≤_, _<_};
+ghost use Prim.Native.Nat.{suc, _<_};
 ghost use Rattle.marks.specs.Passes.{Pass, Closed, Below};
 ghost use Rattle.layout.specs.Layouts.{markSquare};
 ghost use Rattle.forward.specs.Rules.{Setting, Step, ByName, ByEdge, Looked, Row};
+use crate::kept::join_below;
 use crate::kept::keep;
 use crate::propagation::resume;
 use crate::rules::has_edge;
@@ -22,25 +23,16 @@ fn look_at_name(
     first: &[u16],
     second: &[u16],
     work: &mut [u8],
-    below: &[u8],
     layout: Layout,
     x: usize,
 ) -> bool
-    requires { ⌜ Setting (now signature) (now first) (now second) (now below) layout (now work) ⌝ }
+    requires { ⌜ Setting (now signature) (now first) (now second) layout (now work) ⌝ }
     requires { ⌜ x < layout .names ⌝ }
     ensures { λ r. ⌜ Pass (Step (now (signature .entry)) (now (first .entry)) (now (second .entry)) layout) (markSquare layout) (ByName (now (signature .entry)) layout x) (now (work .entry)) (now (work .exit)) r ⌝ }
 {
     if has_name(signature, layout, x) {
         let mut kept = [0u8; Line::LENGTH];
-        line::join(
-            &mut kept,
-            below,
-            Square {
-                base: 0,
-                names: layout.names,
-            },
-            x,
-        );
+        join_below(&mut kept, work, layout, x);
         return line::absorb_missing(
             work,
             Square {
@@ -60,11 +52,10 @@ fn look_at_edge(
     first: &[u16],
     second: &[u16],
     work: &mut [u8],
-    below: &[u8],
     layout: Layout,
     x: usize,
 ) -> bool
-    requires { ⌜ Setting (now signature) (now first) (now second) (now below) layout (now work) ⌝ }
+    requires { ⌜ Setting (now signature) (now first) (now second) layout (now work) ⌝ }
     requires { ⌜ x < layout .names ⌝ }
     ensures { λ r. ⌜ Pass (Step (now (signature .entry)) (now (first .entry)) (now (second .entry)) layout) (markSquare layout) (ByEdge (now (signature .entry)) (now (first .entry)) (now (second .entry)) layout x) (now (work .entry)) (now (work .exit)) r ⌝ }
 {
@@ -72,7 +63,7 @@ fn look_at_edge(
         let mut kept = [0u8; Line::LENGTH];
         let role = table::role(first, x);
         let end = table::filler(first, x);
-        keep(second, work, below, &mut kept, layout, end, role);
+        keep(second, work, &mut kept, layout, end, role);
         return line::absorb_missing(
             work,
             Square {
@@ -92,10 +83,9 @@ fn look_at_names(
     first: &[u16],
     second: &[u16],
     work: &mut [u8],
-    below: &[u8],
     layout: Layout,
 ) -> bool
-    requires { ⌜ Setting (now signature) (now first) (now second) (now below) layout (now work) ⌝ }
+    requires { ⌜ Setting (now signature) (now first) (now second) layout (now work) ⌝ }
     ensures { λ r. ⌜ Pass (Step (now (signature .entry)) (now (first .entry)) (now (second .entry)) layout) (markSquare layout) (Below (Looked (now (signature .entry)) (now (first .entry)) (now (second .entry)) layout) (layout .names)) (now (work .entry)) (now (work .exit)) r ⌝ }
 {
     let mut changed = false;
@@ -103,8 +93,8 @@ fn look_at_names(
     while next < layout.names {
         let x = next;
         next += 1;
-        let name = look_at_name(signature, first, second, work, below, layout, x);
-        let edge = look_at_edge(signature, first, second, work, below, layout, x);
+        let name = look_at_name(signature, first, second, work, layout, x);
+        let edge = look_at_edge(signature, first, second, work, layout, x);
         changed = changed | (name | edge);
     }
     changed
@@ -116,14 +106,13 @@ fn pass(
     first: &[u16],
     second: &[u16],
     work: &mut [u8],
-    below: &[u8],
-    order: &[u8; Order::NODES],
+    order: &[u16; Order::NODES],
     layout: Layout,
 ) -> bool
-    requires { ⌜ Setting (now signature) (now first) (now second) (now below) layout (now work) ⌝ }
+    requires { ⌜ Setting (now signature) (now first) (now second) layout (now work) ⌝ }
     ensures { λ r. ⌜ Pass (Step (now (signature .entry)) (now (first .entry)) (now (second .entry)) layout) (markSquare layout) (Below (Row (now (signature .entry)) (now (first .entry)) (now (second .entry)) layout) (suc (layout .names))) (now (work .entry)) (now (work .exit)) r ⌝ }
 {
-    if look_at_names(signature, first, second, work, below, layout) {
+    if look_at_names(signature, first, second, work, layout) {
         return true;
     }
     take_all(
@@ -146,15 +135,14 @@ pub fn close(
     first: &[u16],
     second: &[u16],
     work: &mut [u8],
-    below: &[u8],
-    waiting: &mut [u8; Waiting::LENGTH],
-    order: &[u8; Order::NODES],
+    waiting: &mut [u16; Waiting::LENGTH],
+    order: &[u16; Order::NODES],
     layout: Layout,
 )
-    requires { ⌜ Setting (now signature) (now first) (now second) (now below) layout (now work) ⌝ }
+    requires { ⌜ Setting (now signature) (now first) (now second) layout (now work) ⌝ }
     ensures { λ _. ⌜ Closed (Step (now (signature .entry)) (now (first .entry)) (now (second .entry)) layout) (markSquare layout) (Below (Row (now (signature .entry)) (now (first .entry)) (now (second .entry)) layout) (suc (layout .names))) (now (work .entry)) (now (work .exit)) ⌝ }
 {
-    while pass(signature, first, second, work, below, order, layout) {
-        resume(signature, first, second, work, below, waiting, layout);
+    while pass(signature, first, second, work, order, layout) {
+        resume(signature, first, second, work, waiting, layout);
     }
 }

@@ -44,7 +44,7 @@ module _ {g s t a b : List ℕ} {l : Layout} {w : List ℕ} (c : Comparing g s t
   second-shaped = ranges (c .second-release) (c .second-names)
 
   pub setting : Setting g a b l w
-  setting = record { signature = c .signature; first-table = rowed first-shaped; second-table = rowed second-shaped; first = c .first-room; second = c .second-room; marks = c .room }
+  setting = record { signature = c .signature; first-table = rowed first-shaped; second-table = rowed second-shaped; first = c .first-room; second = c .second-room; marks = c .room; areas = c .areas }
 
   -- while the marks change
   module _ {v : List ℕ} (f : Frame (markSquare l) w v) where

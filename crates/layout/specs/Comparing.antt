@@ -10,7 +10,7 @@ use Rattle.release.specs.Tables.{Release}
 use Rattle.marks.specs.Squares.{span, Room, Unmarked}
 use Rattle.classification.specs.Inclusions.{Inclusions}
 use Rattle.layout.specs.declared.Layout.{Layout}
-use Rattle.layout.specs.Layouts.{firstSquare, secondSquare, markSquare}
+use Rattle.layout.specs.Layouts.{firstSquare, secondSquare, markSquare, Areas}
 
 pub record Comparing (g s t a b : List ℕ) (l : Layout) (w : List ℕ) : Type 0 where
   pub signature : l .names + l .roles ≤ length g
@@ -21,6 +21,7 @@ pub record Comparing (g s t a b : List ℕ) (l : Layout) (w : List ℕ) : Type 0
   pub first-room : Room (firstSquare l) w
   pub second-room : Room (secondSquare l) w
   pub room : Room (markSquare l) w
+  pub areas : Areas l w
   pub first-inclusions : Inclusions s (firstSquare l) w
   pub second-inclusions : Inclusions t (secondSquare l) w
   pub unmarked : Unmarked (markSquare l) w

@@ -1,6 +1,7 @@
 -- What a comparison of two releases reads: signature bytes g, the tables a and b of the two, and three squares in the memory w.
 --   firstSquare l, secondSquare l     the squares of the inclusions of the first and the second release
 --   markSquare l                      the square of the marks of the comparison
+--   belowSquare l                     the square of the second release's inclusions, turned
 --   chosen l g                        the signature that the bytes g give
 --   Setting g a b l w                 all of these are where the functions of a comparison read and write
 use Prim.Native.Nat.{ℕ, _+_, _*_, _≤_, _<_}
@@ -13,7 +14,7 @@ use Rattle.release.specs.Files.{restricts}
 use Rattle.release.specs.Tables.{kindAt, fillerAt}
 use Rattle.signature.specs.Bytes.{signatureOf}
 use Rattle.marks.specs.declared.Square.{Square}
-use Rattle.marks.specs.Squares.{Room}
+use Rattle.marks.specs.Squares.{Room, Area, behind}
 use Rattle.layout.specs.declared.Layout.{Layout}
 
 abbrev pub firstSquare : Layout → Square
@@ -25,6 +26,10 @@ secondSquare l = record { base = l .second; names = l .names }
 abbrev pub markSquare : Layout → Square
 markSquare l = record { base = l .marks; names = l .names }
 
+-- the inclusions of the second release with rows and columns exchanged, behind the rows of its square
+abbrev pub belowSquare : Layout → Square
+belowSquare l = behind (secondSquare l) 1
+
 abbrev pub chosen : Layout → List ℕ → Signature
 chosen l g = signatureOf (l .names) (l .roles) g
 
@@ -33,6 +38,12 @@ pub record Rowed (n : ℕ) (t : List ℕ) : Type 0 where
   pub rows : 4 * n ≤ length t
   pub filler : (x : ℕ) → x < n → restricts (kindAt t x) ≡ true → fillerAt t x ≤ n
 
+-- the memory lent for the three squares is there
+pub record Areas (l : Layout) (w : List ℕ) : Type 0 where
+  pub first : Area (firstSquare l) w
+  pub second : Area (secondSquare l) w
+  pub marks : Area (markSquare l) w
+
 pub record Setting (g a b : List ℕ) (l : Layout) (w : List ℕ) : Type 0 where
   pub signature : l .names + l .roles ≤ length g
   pub first-table : Rowed (l .names) a
@@ -40,3 +51,4 @@ pub record Setting (g a b : List ℕ) (l : Layout) (w : List ℕ) : Type 0 where
   pub first : Room (firstSquare l) w
   pub second : Room (secondSquare l) w
   pub marks : Room (markSquare l) w
+  pub areas : Areas l w

@@ -24,13 +24,13 @@ add-next : tie.Need-add-next Inv-loop μ-loop
 add-next c = omega (arith, c .if1 .taken, c .before .before .before .before .before .pre .1 .1)
 
 next-requires-2 : tie.Need-next-requires-2 Inv-loop μ-loop
-next-requires-2 c κs = omega (arith, c .if1 .taken, c .before .before .before .before .before .pre .1 .1)
+next-requires-2 c κs = (c .before .before .before .before .before .pre .1 .1, omega (arith, c .if1 .taken))
 
 is-marked-requires : tie.Need-is-marked-requires Inv-loop μ-loop
 is-marked-requires c κs = (c .before .before .before .before .before .before .pre .0, (c .before .before .before .before .before .before .pre .1 .0, c .before .if1 .taken))
 
 loop-less : tie.Need-loop-less Inv-loop μ-loop
-loop-less c = omega (arith, c .before .before .before .if1 .taken, c .before .before .next2 .ensures)
+loop-less c = omega (arith, c .before .before .before .if1 .taken, c .before .before .next2 .ensures .0)
 
 loop-again : tie.Need-loop-again Inv-loop μ-loop
 loop-again c = c .before .before .before .before .before .loop .inv
@@ -42,7 +42,7 @@ returns : tie.Need-returns Inv-loop μ-loop
 returns c = search needs
 
 loop-less-2 : tie.Need-loop-less-2 Inv-loop μ-loop
-loop-less-2 c = omega (arith, c .before .before .before .before .if1 .taken, c .before .before .before .next2 .ensures)
+loop-less-2 c = omega (arith, c .before .before .before .before .if1 .taken, c .before .before .before .next2 .ensures .0)
 
 loop-again-2 : tie.Need-loop-again-2 Inv-loop μ-loop
 loop-again-2 c = omega (arith, c .if3 .left)

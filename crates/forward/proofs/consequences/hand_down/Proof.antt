@@ -3,9 +3,9 @@ use borrow.Author.Needs.{needs}
 use Prim.Native.Nat.{suc, _≤_, _-_}
 use mathlib.Core.Path.{_≡_, refl, _∙_}
 use lib.ListN.{length}
-use Rattle.marks.specs.Squares.{Room}
+use Rattle.marks.specs.Squares.{Room, Area}
 use Rattle.marks.specs.Passes.{Grows, none}
-use Rattle.marks.proofs.Squares.{frame-room}
+use Rattle.marks.proofs.Squares.{frame-room, frame-area}
 use Rattle.marks.proofs.Passes.{grows-frame, grows-further}
 use Rattle.layout.specs.Layouts.{firstSquare, markSquare}
 use Rattle.forward.specs.Rules.{FromAbove}
@@ -15,58 +15,58 @@ use Rattle.forward.proofs.consequences.hand_down.Tie as tie
 use Rattle.forward.proofs.consequences.hand_down.Reads as reads
 use Rattle.forward.proofs.consequences.hand_down.Lts as lts
 use Rattle.layout.proofs.first_includes.Reads as first-includes-reads
+use Rattle.marks.proofs.hints.next.Reads as next-reads
 use Rattle.marks.proofs.rows.hand_on.Reads as hand-on-reads
-use Rattle.marks.proofs.rows.next_marked.Reads as next-marked-reads
 use Rattle.marks.proofs.rows.seems_within.Reads as seems-within-reads
 use Rattle.marks.proofs.waiting.wait.Reads as wait-reads
 
 abbrev Inv-loop : tie.InvT-loop
-Inv-loop work₀ under waiting₀ layout x marks square lower₀ work waiting lower = (lower ≤ suc (layout .names)) × (length work ≡ length work₀) × (Room (firstSquare layout) work × Room (markSquare layout) work) × Grows (FromAbove layout) (markSquare layout) work₀ work
+Inv-loop work₀ waiting₀ layout x marks inclusions next₀ work waiting next = (next ≤ suc (layout .names)) × (length work ≡ length work₀) × (Area (firstSquare layout) work × Room (markSquare layout) work) × Grows (FromAbove layout) (markSquare layout) work₀ work
 
 abbrev μ-loop : tie.MeasureT-loop
-μ-loop work₀ under waiting₀ layout x marks square lower₀ work waiting lower = suc (layout .names) - lower
+μ-loop work₀ waiting₀ layout x marks inclusions next₀ work waiting next = suc (layout .names) - next
 
-next-marked-requires : tie.Need-next-marked-requires Inv-loop μ-loop
-next-marked-requires c κs = (c .before .before .pre .1 .0 .room, (c .before .before .pre .1 .1, omega arith))
+next-requires : tie.Need-next-requires Inv-loop μ-loop
+next-requires c κs = (c .before .before .pre .0 .0, (omega arith, c .before .before .pre .1, omega arith))
 
 loop-holds : tie.Need-loop-holds Inv-loop μ-loop
-loop-holds c = (c .next-marked .ensures .inside, refl, c .before .before .before .pre .0, none)
+loop-holds c = (c .next .ensures .1, refl, c .before .before .before .pre .0, none)
 
-add-next-marked : tie.Need-add-next-marked Inv-loop μ-loop
-add-next-marked c = omega (arith, c .if1 .taken, c .before .before .before .before .before .before .pre .0 .0 .small .few)
+add-next : tie.Need-add-next Inv-loop μ-loop
+add-next c = omega (arith, c .before .if1 .taken, c .before .before .before .before .before .before .before .pre .0 .1 .small .few)
 
-next-marked-requires-2 : tie.Need-next-marked-requires-2 Inv-loop μ-loop
-next-marked-requires-2 c κs = (c .before .before .before .before .before .before .pre .1 .0 .room, (c .before .before .before .before .before .before .pre .1 .1, omega (arith, c .if1 .taken)))
+next-requires-2 : tie.Need-next-requires-2 Inv-loop μ-loop
+next-requires-2 c κs = (c .before .before .before .loop .inv .2 .0, (omega arith, c .before .before .before .before .before .before .before .pre .1, omega (arith, c .before .if1 .taken)))
 
 seems-within-requires : tie.Need-seems-within-requires Inv-loop μ-loop
-seems-within-requires c κs = (c .before .before .before .before .loop .inv .2 .1, (c .before .before .before .before .before .before .before .before .pre .1 .1, c .before .before .if1 .taken))
+seems-within-requires c κs = (c .before .before .before .before .before .loop .inv .2 .1, (c .before .before .before .before .before .before .before .before .before .pre .1, c .before .before .before .if1 .taken))
 
 loop-less : tie.Need-loop-less Inv-loop μ-loop
-loop-less c = omega (arith, c .before .before .before .before .if1 .taken, c .before .before .before .next-marked2 .ensures .after)
+loop-less c = omega (arith, c .before .before .before .before .before .if1 .taken, c .before .before .before .next2 .ensures .0)
 
 loop-again : tie.Need-loop-again Inv-loop μ-loop
-loop-again c = (c .before .before .before .next-marked2 .ensures .inside, c .before .before .before .before .before .before .loop .inv .1, c .before .before .before .before .before .before .loop .inv .2, c .before .before .before .before .before .before .loop .inv .3)
+loop-again c = (c .before .before .before .next2 .ensures .1, c .before .before .before .before .before .before .before .loop .inv .1, c .before .before .before .before .before .before .before .loop .inv .2, c .before .before .before .before .before .before .before .loop .inv .3)
 
 first-includes-requires : tie.Need-first-includes-requires Inv-loop μ-loop
-first-includes-requires c κs = (c .before .before .before .before .before .before .before .loop .inv .2 .0, (c .before .before .before .before .before .if1 .taken, c .before .before .before .before .before .before .before .before .before .before .before .pre .1 .1))
+first-includes-requires c κs = (c .before .before .before .before .before .before .before .before .loop .inv .2 .0 .room, (c .before .before .before .before .before .before .if1 .taken, c .before .before .before .before .before .before .before .before .before .before .before .before .pre .1))
 
 hand-on-requires : tie.Need-hand-on-requires Inv-loop μ-loop
-hand-on-requires c κs = (c .before .before .before .before .before .before .before .before .before .before .loop .inv .2 .1, (c .before .before .before .before .before .before .before .before .before .before .before .before .before .before .pre .1 .1, c .before .before .before .before .before .before .before .before .if1 .taken))
+hand-on-requires c κs = (c .before .before .before .before .before .before .before .before .before .before .before .loop .inv .2 .1, (c .before .before .before .before .before .before .before .before .before .before .before .before .before .before .before .pre .1, c .before .before .before .before .before .before .before .before .before .if1 .taken))
 
 wait-requires : tie.Need-wait-requires Inv-loop μ-loop
 wait-requires c κs = search needs
 
 loop-less-2 : tie.Need-loop-less-2 Inv-loop μ-loop
-loop-less-2 c = omega (arith, c .before .before .before .before .before .before .before .before .before .before .before .before .before .if1 .taken, c .before .before .before .before .before .before .before .before .before .before .before .before .next-marked2 .ensures .after)
+loop-less-2 c = omega (arith, c .before .before .before .before .before .before .before .before .before .before .before .before .before .before .if1 .taken, c .before .before .before .before .before .before .before .before .before .before .before .before .next2 .ensures .0)
 
 loop-again-2 : tie.Need-loop-again-2 Inv-loop μ-loop
-loop-again-2 c = (c .before .before .before .before .before .before .before .before .before .before .before .before .next-marked2 .ensures .inside, grows-frame (c .before .before .before .before .hand-on .ensures) .long ∙ c .before .before .before .before .before .before .before .before .before .before .before .before .before .before .before .loop .inv .1, (frame-room (grows-frame (c .before .before .before .before .hand-on .ensures)) (c .before .before .before .before .before .before .before .before .before .before .before .before .before .before .before .loop .inv .2 .0), frame-room (grows-frame (c .before .before .before .before .hand-on .ensures)) (c .before .before .before .before .before .before .before .before .before .before .before .before .before .before .before .loop .inv .2 .1)), grows-further (c .before .before .before .before .before .before .before .before .before .before .before .before .before .before .before .loop .inv .3) (row-from-above (c .before .before .before .before .before .before .before .before .before .before .before .before .before .before .before .before .before .before .before .pre .1 .1) (c .before .before .before .before .before .before .before .first-includes .ensures .sound (c .before .before .before .before .before .before .if3 .taken)) (c .before .before .before .before .hand-on .ensures)))
+loop-again-2 c = (c .before .before .before .before .before .before .before .before .before .before .before .before .next2 .ensures .1, grows-frame (c .before .before .before .before .hand-on .ensures) .long ∙ c .before .before .before .before .before .before .before .before .before .before .before .before .before .before .before .before .loop .inv .1, (frame-area (grows-frame (c .before .before .before .before .hand-on .ensures)) (c .before .before .before .before .before .before .before .before .before .before .before .before .before .before .before .before .loop .inv .2 .0), frame-room (grows-frame (c .before .before .before .before .hand-on .ensures)) (c .before .before .before .before .before .before .before .before .before .before .before .before .before .before .before .before .loop .inv .2 .1)), grows-further (c .before .before .before .before .before .before .before .before .before .before .before .before .before .before .before .before .loop .inv .3) (row-from-above (c .before .before .before .before .before .before .before .before .before .before .before .before .before .before .before .before .before .before .before .before .pre .1) (c .before .before .before .before .before .before .before .first-includes .ensures .sound (c .before .before .before .before .before .before .if3 .taken)) (c .before .before .before .before .hand-on .ensures)))
 
 loop-less-3 : tie.Need-loop-less-3 Inv-loop μ-loop
-loop-less-3 c = omega (arith, c .before .before .before .before .before .before .before .if1 .taken, c .before .before .before .before .before .before .next-marked2 .ensures .after)
+loop-less-3 c = omega (arith, c .before .before .before .before .before .before .before .before .if1 .taken, c .before .before .before .before .before .before .next2 .ensures .0)
 
 loop-again-3 : tie.Need-loop-again-3 Inv-loop μ-loop
-loop-again-3 c = (c .before .before .before .before .before .before .next-marked2 .ensures .inside, c .before .before .before .before .before .before .before .before .before .loop .inv .1, c .before .before .before .before .before .before .before .before .before .loop .inv .2, c .before .before .before .before .before .before .before .before .before .loop .inv .3)
+loop-again-3 c = (c .before .before .before .before .before .before .next2 .ensures .1, c .before .before .before .before .before .before .before .before .before .before .loop .inv .1, c .before .before .before .before .before .before .before .before .before .before .loop .inv .2, c .before .before .before .before .before .before .before .before .before .before .loop .inv .3)
 
 same-length : tie.Need-same-length Inv-loop μ-loop
 same-length c = c .before .before .loop .inv .1
@@ -80,10 +80,10 @@ hand-down-spec =
     (tie.spec
     Inv-loop
     μ-loop
-    next-marked-requires
+    next-requires
     loop-holds
-    add-next-marked
-    next-marked-requires-2
+    add-next
+    next-requires-2
     seems-within-requires
     loop-less
     loop-again

@@ -13,7 +13,7 @@ use Rattle.layout.proofs.mark.Reads as mark-reads
 use Rattle.marks.proofs.waiting.wait.Reads as wait-reads
 
 is-marked-requires : tie.Need-is-marked-requires
-is-marked-requires c κs = (c .before .before .before .before .before .before .pre .0 .places .marks, (omega (arith, c .before .before .before .before .before .before .pre .1 .0 .is-name), c .before .before .before .before .before .before .pre .1 .1))
+is-marked-requires c κs = (c .before .before .before .before .before .pre .0 .places .marks, (omega (arith, c .before .before .before .before .before .pre .1 .0 .is-name), c .before .before .before .before .before .pre .1 .1))
 
 same-length : tie.Need-same-length
 same-length c = search needs
@@ -22,7 +22,7 @@ returns : tie.Need-returns
 returns c = none
 
 has-partner-requires : tie.Need-has-partner-requires
-has-partner-requires c κs = ((c .before .before .before .before .before .before .before .before .before .before .pre .0 .places .first-table, c .before .before .before .before .before .before .before .before .before .before .pre .0 .places .second-table), ((c .before .before .before .before .before .before .before .before .before .before .pre .0 .places .second, c .before .before .before .before .before .before .before .before .before .before .pre .0 .places .marks), ((c .before .before .before .before .before .before .before .before .before .before .pre .1 .0 .is-name, c .before .before .before .before .before .before .before .before .before .before .pre .1 .1), edge-end (c .before .before .before .before .before .before .before .before .before .before .pre .0) (c .before .before .before .before .before .before .before .before .before .before .pre .1 .0))))
+has-partner-requires c κs = ((c .before .before .before .before .before .before .before .before .before .pre .0 .places .first-table, c .before .before .before .before .before .before .before .before .before .pre .0 .places .second-table), ((c .before .before .before .before .before .before .before .before .before .pre .0 .places .second, c .before .before .before .before .before .before .before .before .before .pre .0 .places .marks), ((c .before .before .before .before .before .before .before .before .before .pre .1 .0 .is-name, c .before .before .before .before .before .before .before .before .before .pre .1 .1), edge-end (c .before .before .before .before .before .before .before .before .before .pre .0) (c .before .before .before .before .before .before .before .before .before .pre .1 .0))))
 
 same-length-2 : tie.Need-same-length-2
 same-length-2 c = search needs
@@ -31,7 +31,7 @@ returns-2 : tie.Need-returns-2
 returns-2 c = none
 
 mark-requires : tie.Need-mark-requires
-mark-requires c κs = (c .before .before .before .before .before .before .before .before .before .before .before .before .before .pre .0 .places .marks, (omega (arith, c .before .before .before .before .before .before .before .before .before .before .before .before .before .pre .1 .0 .is-name), c .before .before .before .before .before .before .before .before .before .before .before .before .before .pre .1 .1))
+mark-requires c κs = (c .before .before .before .before .before .before .before .before .before .before .before .before .pre .0 .places .marks, (omega (arith, c .before .before .before .before .before .before .before .before .before .before .before .before .pre .1 .0 .is-name), c .before .before .before .before .before .before .before .before .before .before .before .before .pre .1 .1))
 
 wait-requires : tie.Need-wait-requires
 wait-requires c κs = search needs
@@ -40,7 +40,7 @@ same-length-3 : tie.Need-same-length-3
 same-length-3 c = search needs
 
 returns-3 : tie.Need-returns-3
-returns-3 c = edge-put (record { edge = c .before .before .before .before .before .before .before .before .before .before .before .before .before .before .before .before .before .before .pre .1 .0; no-partner = refuted (c .before .before .before .before .before .before .before .has-partner .ensures) (c .before .before .before .before .before .before .if2 .left) }) (c .before .before .before .before .mark .ensures)
+returns-3 c = edge-put (record { edge = c .before .before .before .before .before .before .before .before .before .before .before .before .before .before .before .before .before .pre .1 .0; no-partner = refuted (c .before .before .before .before .before .before .before .has-partner .ensures) (c .before .before .before .before .before .before .if2 .left) }) (c .before .before .before .before .mark .ensures)
 
 pub lose-spec : {M : Type 1} → statement M
 lose-spec =

@@ -15,7 +15,7 @@ slice-aggregate-touch : tie.Need-slice-aggregate-touch
 slice-aggregate-touch c = search needs
 
 touch-requires : tie.Need-touch-requires
-touch-requires c κs = (c .before .before .before .before .before .before .before .pre .0 .places .second-table, (c .before .before .before .before .before .before .before .pre .0 .room, (record { inside = omega (arith, c .before .before .before .before .before .before .before .pre .0 .few) }, c .before .before .before .before .before .before .before .pre .0 .few)))
+touch-requires c κs = (c .before .before .before .before .before .before .before .pre .0 .places .second-table, ((c .before .before .before .before .before .before .before .pre .0 .places .areas .second, c .before .before .before .before .before .before .before .pre .0 .below (omega (arith, c .before .before .before .before .before .before .before .pre .1 .is-name))), (record { inside = omega (arith, c .before .before .before .before .before .before .before .pre .0 .few) }, c .before .before .before .before .before .before .before .pre .0 .few)))
 
 lose-touched-requires : tie.Need-lose-touched-requires
 lose-touched-requires c κs = search needs

@@ -14,22 +14,22 @@ use Rattle.release.proofs.table.filler.Reads as filler-reads
 use Rattle.release.proofs.table.role.Reads as role-reads
 
 role-requires : tie.Need-role-requires
-role-requires c κs = rowed-row (c .before .before .before .before .before .pre .0 .places .first-table) (c .before .before .before .before .before .pre .1 .is-name)
+role-requires c κs = rowed-row (c .before .before .before .before .pre .0 .places .first-table) (c .before .before .before .before .pre .1 .is-name)
 
 filler-requires : tie.Need-filler-requires
-filler-requires c κs = rowed-row (c .before .before .before .before .before .before .pre .0 .places .first-table) (c .before .before .before .before .before .before .pre .1 .is-name)
+filler-requires c κs = rowed-row (c .before .before .before .before .before .pre .0 .places .first-table) (c .before .before .before .before .before .pre .1 .is-name)
 
 slice-aggregate-keep : tie.Need-slice-aggregate-keep
 slice-aggregate-keep c = search needs
 
 keep-requires : tie.Need-keep-requires
-keep-requires c κs = (c .before .before .before .before .before .before .before .before .before .pre .0 .places .second-table, ((c .before .before .before .before .before .before .before .before .before .pre .0 .places .marks, c .before .before .before .before .before .before .before .before .before .pre .0 .room), ((record { inside = omega (arith, c .before .before .before .before .before .before .before .before .before .pre .0 .few) }, empty-zeros 16), (end-small (c .before .before .before .before .before .before .before .before .before .pre .0 .places .first-table) (c .before .before .before .before .before .before .before .before .before .pre .1) (c .before .before .filler .ensures), c .before .before .before .before .before .before .before .before .before .pre .0 .few))))
+keep-requires c κs = (c .before .before .before .before .before .before .before .before .pre .0 .places .second-table, ((c .before .before .before .before .before .before .before .before .pre .0 .places .marks, c .before .before .before .before .before .before .before .before .pre .0 .below (omega (arith, c .before .before .before .before .before .before .before .before .pre .1 .is-name))), ((record { inside = omega (arith, c .before .before .before .before .before .before .before .before .pre .0 .few) }, empty-zeros 128), (end-small (c .before .before .before .before .before .before .before .before .pre .0 .places .first-table) (c .before .before .before .before .before .before .before .before .pre .1) (c .before .before .filler .ensures), c .before .before .before .before .before .before .before .before .pre .0 .few))))
 
 slice-aggregate-seems-full : tie.Need-slice-aggregate-seems-full
 slice-aggregate-seems-full c = search needs
 
 seems-full-requires : tie.Need-seems-full-requires
-seems-full-requires c κs = (c .before .before .before .before .before .before .before .before .before .before .before .before .before .pre .0 .places .marks, (omega (arith, c .before .before .before .before .before .before .before .before .before .before .before .before .before .pre .1 .is-name), record { inside = search (needs, c .before .before .before .before .before .before .before .before .before .before .before .before .before .pre .0 .few) }))
+seems-full-requires c κs = (c .before .before .before .before .before .before .before .before .before .before .before .before .pre .0 .places .marks, (omega (arith, c .before .before .before .before .before .before .before .before .before .before .before .before .pre .1 .is-name), record { inside = search (needs, c .before .before .before .before .before .before .before .before .before .before .before .before .pre .0 .few) }))
 
 same-length : tie.Need-same-length
 same-length c = search needs
@@ -41,13 +41,13 @@ slice-aggregate-mark-missing : tie.Need-slice-aggregate-mark-missing
 slice-aggregate-mark-missing c = search needs
 
 mark-missing-requires : tie.Need-mark-missing-requires
-mark-missing-requires c κs = (c .before .before .before .before .before .before .before .before .before .before .before .before .before .before .before .before .before .pre .0 .places .marks, (omega (arith, c .before .before .before .before .before .before .before .before .before .before .before .before .before .before .before .before .before .pre .1 .is-name), record { inside = search (needs, c .before .before .before .before .before .before .before .before .before .before .before .before .before .before .before .before .before .pre .0 .few) }))
+mark-missing-requires c κs = (c .before .before .before .before .before .before .before .before .before .before .before .before .before .before .before .before .pre .0 .places .marks, (omega (arith, c .before .before .before .before .before .before .before .before .before .before .before .before .before .before .before .before .pre .1 .is-name), record { inside = search (needs, c .before .before .before .before .before .before .before .before .before .before .before .before .before .before .before .before .pre .0 .few) }))
 
 same-length-2 : tie.Need-same-length-2
 same-length-2 c = search needs
 
 returns-2 : tie.Need-returns-2
-returns-2 c = edges-lost (c .before .before .before .before .before .before .before .before .before .before .before .before .before .before .before .before .before .before .before .before .pre .0) (c .before .before .before .before .before .before .before .before .before .before .before .before .before .before .before .before .before .before .before .before .pre .1) (c .before .before .before .before .before .before .before .before .before .before .before .before .before .filler .ensures) (c .before .before .before .before .before .before .before .before .before .before .before .before .before .before .role .ensures) (c .before .before .before .before .before .before .before .before .before .before .keep .ensures) (c .before .before .mark-missing .ensures)
+returns-2 c = edges-lost (c .before .before .before .before .before .before .before .before .before .before .before .before .before .before .before .before .before .before .before .pre .0) (c .before .before .before .before .before .before .before .before .before .before .before .before .before .before .before .before .before .before .before .pre .1) (c .before .before .before .before .before .before .before .before .before .before .before .before .before .filler .ensures) (c .before .before .before .before .before .before .before .before .before .before .before .before .before .before .role .ensures) (c .before .before .before .before .before .before .before .before .before .before .keep .ensures) (c .before .before .mark-missing .ensures)
 
 pub lose-row-spec : {M : Type 1} → statement M
 lose-row-spec =

@@ -11,13 +11,13 @@ use Rattle.forward.proofs.consequences.touch_by.Reads as touch-by-reads
 use Rattle.marks.proofs.waiting.next.Reads as next-reads
 
 abbrev Inv-loop : tie.InvT-loop
-Inv-loop second below second-edges new touched₀ layout role next₀ touched next = length touched ≡ length touched₀
+Inv-loop second work new touched₀ layout role next₀ touched next = length touched ≡ length touched₀
 
 abbrev μ-loop : tie.MeasureT-loop
-μ-loop second below second-edges new touched₀ layout role next₀ touched next = suc (layout .names) - next
+μ-loop second work new touched₀ layout role next₀ touched next = suc (layout .names) - next
 
 next-requires : tie.Need-next-requires Inv-loop μ-loop
-next-requires c κs = search needs
+next-requires c κs = (c .before .before .before .pre .1 .1 .1, omega arith)
 
 loop-holds : tie.Need-loop-holds Inv-loop μ-loop
 loop-holds c = refl
@@ -26,13 +26,13 @@ add-next : tie.Need-add-next Inv-loop μ-loop
 add-next c = omega (arith, c .if1 .taken, c .before .before .before .before .before .before .before .pre .1 .1 .1)
 
 next-requires-2 : tie.Need-next-requires-2 Inv-loop μ-loop
-next-requires-2 c κs = omega (arith, c .if1 .taken, c .before .before .before .before .before .before .before .pre .1 .1 .1)
+next-requires-2 c κs = (c .before .before .before .before .before .before .before .pre .1 .1 .1, omega (arith, c .if1 .taken))
 
 touch-by-requires : tie.Need-touch-by-requires Inv-loop μ-loop
-touch-by-requires c κs = (c .before .before .before .before .before .before .before .before .before .pre .0, (c .before .before .before .before .before .before .before .before .before .pre .1 .0, record { inside = omega (arith, c .before .before .before .before .before .before .before .before .before .pre .1 .1 .0 .inside, c .before .before .before .before .loop .inv) }))
+touch-by-requires c κs = (c .before .before .before .before .before .before .before .before .before .pre .0, (c .before .before .before .before .before .before .before .before .before .pre .1 .0, (record { inside = omega (arith, c .before .before .before .before .before .before .before .before .before .pre .1 .1 .0 .inside, c .before .before .before .before .loop .inv) }, c .before .before .if1 .taken)))
 
 loop-less : tie.Need-loop-less Inv-loop μ-loop
-loop-less c = omega (arith, c .before .before .before .before .before .if1 .taken, c .before .before .before .before .next2 .ensures)
+loop-less c = omega (arith, c .before .before .before .before .before .if1 .taken, c .before .before .before .before .next2 .ensures .0)
 
 loop-again : tie.Need-loop-again Inv-loop μ-loop
 loop-again c = c .before .touched .given ∙ c .before .before .before .before .before .before .before .loop .inv

@@ -10,19 +10,19 @@ use Rattle.forward.proofs.kept.keep.Lts as lts
 use Rattle.forward.proofs.kept.keep_by.Reads as keep-by-reads
 
 abbrev Inv-loop : tie.InvT-loop
-Inv-loop second work below kept₀ layout end role next₀ kept next = (next ≤ layout .names) × (length kept ≡ length kept₀) × KeptTo second below layout work end role next kept
+Inv-loop second work kept₀ layout end role next₀ kept next = (next ≤ layout .names) × (length kept ≡ length kept₀) × KeptTo second layout work end role next kept
 
 abbrev μ-loop : tie.MeasureT-loop
-μ-loop second work below kept₀ layout end role next₀ kept next = layout .names - next
+μ-loop second work kept₀ layout end role next₀ kept next = layout .names - next
 
 loop-holds : tie.Need-loop-holds Inv-loop μ-loop
-loop-holds c = (omega arith, refl, kept-none (c .before .before .before .before .pre .1 .1 .0 .1))
+loop-holds c = (omega arith, refl, kept-none (c .before .before .before .pre .1 .1 .0 .1))
 
 add-next : tie.Need-add-next Inv-loop μ-loop
-add-next c = omega (arith, c .if1 .taken, c .before .before .before .before .before .before .before .pre .1 .1 .1 .1)
+add-next c = omega (arith, c .if1 .taken, c .before .before .before .before .before .before .pre .1 .1 .1 .1)
 
 keep-by-requires : tie.Need-keep-by-requires Inv-loop μ-loop
-keep-by-requires c κs = (c .before .before .before .before .before .before .before .before .pre .0, (c .before .before .before .before .before .before .before .before .pre .1 .0, (record { inside = omega (arith, c .before .before .before .before .before .before .before .before .pre .1 .1 .0 .0 .inside, c .before .before .before .loop .inv .1) }, (c .before .before .before .before .before .before .before .before .pre .1 .1 .1 .0, c .before .if1 .taken))))
+keep-by-requires c κs = (c .before .before .before .before .before .before .before .pre .0, (c .before .before .before .before .before .before .before .pre .1 .0, (record { inside = omega (arith, c .before .before .before .before .before .before .before .pre .1 .1 .0 .0 .inside, c .before .before .before .loop .inv .1) }, (c .before .before .before .before .before .before .before .pre .1 .1 .1 .0, c .before .if1 .taken))))
 
 loop-less : tie.Need-loop-less Inv-loop μ-loop
 loop-less c = omega (arith, c .before .before .before .before .if1 .taken)

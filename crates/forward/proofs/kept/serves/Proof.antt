@@ -2,7 +2,6 @@ use mathlib.Core.Path.{sym, _∙_}
 use Rattle.el.proofs.Tests.{always, never}
 use Rattle.marks.proofs.Squares.{refuted}
 use Rattle.forward.proofs.Tested.{rowed-row, serves-not, serves-marked, serves-is, serves-other}
-use borrow.Author.Needs.{needs}
 use Rattle.forward.proofs.kept.serves.Statement.{statement}
 use Rattle.forward.proofs.kept.serves.Tie as tie
 use Rattle.forward.proofs.kept.serves.Reads as reads

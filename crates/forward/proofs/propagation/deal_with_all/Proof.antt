@@ -11,24 +11,17 @@ use Rattle.forward.proofs.propagation.deal_with_all.Statement.{statemen
 use Rattle.forward.proofs.propagation.deal_with_all.Tie as tie
 use Rattle.forward.proofs.propagation.deal_with_all.Reads as reads
 use Rattle.forward.proofs.propagation.deal_with_all.Lts as lts
-use Rattle.classification.proofs.chains.list_fillers.Reads as list-fillers-reads
 use Rattle.forward.proofs.consequences.deal.Reads as deal-reads
 use Rattle.marks.proofs.waiting.take.Reads as take-reads
 
 abbrev Inv-loop : tie.InvT-loop
-Inv-loop signature first second work₀ under below waiting₀ layout edges second-edges partners₀ left₀ work waiting partners left = (length work ≡ length work₀) × Setting signature first second below layout work × Grows (Step signature first second layout) (markSquare layout) work₀ work
+Inv-loop signature first second work₀ waiting₀ layout partners₀ left₀ work waiting partners left = (length work ≡ length work₀) × Setting signature first second layout work × Grows (Step signature first second layout) (markSquare layout) work₀ work
 
 abbrev μ-loop : tie.MeasureT-loop
-μ-loop signature first second work₀ under below waiting₀ layout edges second-edges partners₀ left₀ work waiting partners left = left
-
-list-fillers-requires : tie.Need-list-fillers-requires Inv-loop μ-loop
-list-fillers-requires c κs = (c .before .before .before .before .before .before .before .pre .0 .places .first-table .rows, omega (arith, c .before .before .before .before .before .before .before .pre .0 .few))
-
-list-fillers-requires-2 : tie.Need-list-fillers-requires-2 Inv-loop μ-loop
-list-fillers-requires-2 c κs = (c .before .before .before .before .before .before .before .before .before .pre .0 .places .second-table .rows, omega (arith, c .before .before .before .before .before .before .before .before .before .pre .0 .few))
+μ-loop signature first second work₀ waiting₀ layout partners₀ left₀ work waiting partners left = left
 
 loop-holds : tie.Need-loop-holds Inv-loop μ-loop
-loop-holds c = (refl, c .before .before .before .before .before .before .before .before .before .before .pre .0, none)
+loop-holds c = (refl, c .before .before .before .before .pre, none)
 
 sub-left : tie.Need-sub-left Inv-loop μ-loop
 sub-left c = search needs
@@ -43,13 +36,13 @@ returns : tie.Need-returns Inv-loop μ-loop
 returns c = c .before .before .before .before .before .loop .inv .2
 
 deal-requires : tie.Need-deal-requires Inv-loop μ-loop
-deal-requires c κs = (c .before .before .before .before .before .before .before .before .before .before .loop .inv .1, (c .before .before .before .before .before .before .before .before .before .before .before .before .before .before .before .before .before .before .before .before .before .pre .1, omega (arith, c .before .before .before .before .before .if1 .left)))
+deal-requires c κs = (c .before .before .before .before .before .before .before .before .loop .inv .1, omega (arith, c .before .before .before .if1 .left))
 
 loop-less : tie.Need-loop-less Inv-loop μ-loop
 loop-less c = search needs
 
 loop-again : tie.Need-loop-again Inv-loop μ-loop
-loop-again c = (grows-frame (c .before .before .deal .ensures) .long ∙ c .before .before .before .before .before .before .before .before .before .before .before .before .before .loop .inv .0, setting-stays (c .before .before .deal .ensures) (c .before .before .before .before .before .before .before .before .before .before .before .before .before .loop .inv .1), grows-further (c .before .before .before .before .before .before .before .before .before .before .before .before .before .loop .inv .2) (c .before .before .deal .ensures))
+loop-again c = (grows-frame (c .before .before .deal .ensures) .long ∙ c .before .before .before .before .before .before .before .before .before .before .before .loop .inv .0, setting-stays (c .before .before .deal .ensures) (c .before .before .before .before .before .before .before .before .before .before .before .loop .inv .1), grows-further (c .before .before .before .before .before .before .before .before .before .before .before .loop .inv .2) (c .before .before .deal .ensures))
 
 same-length-2 : tie.Need-same-length-2 Inv-loop μ-loop
 same-length-2 c = c .before .loop .inv .0
@@ -63,8 +56,6 @@ deal-with-all-spec =
     (tie.spec
     Inv-loop
     μ-loop
-    list-fillers-requires
-    list-fillers-requires-2
     loop-holds
     sub-left
     take-requires

@@ -13,16 +13,16 @@ use Rattle.marks.proofs.waiting.wait.Reads as wait-reads
 use Rattle.release.proofs.table.filler.Reads as filler-reads
 
 has-edge-requires : tie.Need-has-edge-requires
-has-edge-requires c κs = (c .before .before .before .before .before .before .pre .0 .places .signature, (c .before .before .before .before .before .before .pre .0 .places .first-table, c .before .before .before .before .before .before .pre .1 .1))
+has-edge-requires c κs = (c .before .before .before .before .before .pre .0 .places .signature, (c .before .before .before .before .before .pre .0 .places .first-table, c .before .before .before .before .before .pre .1 .1))
 
 filler-requires : tie.Need-filler-requires
-filler-requires c κs = rowed-row (c .before .before .before .before .before .before .before .before .pre .0 .places .first-table) (c .before .before .before .before .before .before .before .before .pre .1 .1)
+filler-requires c κs = rowed-row (c .before .before .before .before .before .before .before .pre .0 .places .first-table) (c .before .before .before .before .before .before .before .pre .1 .1)
 
 lose-row-requires : tie.Need-lose-row-requires
-lose-row-requires c κs = (c .before .before .before .before .before .before .before .before .before .before .pre .0, c .before .before .before .has-edge .ensures .sound (c .before .before .if1 .taken))
+lose-row-requires c κs = (c .before .before .before .before .before .before .before .before .before .pre .0, c .before .before .before .has-edge .ensures .sound (c .before .before .if1 .taken))
 
 has-requires : tie.Need-has-requires
-has-requires c κs = record { inside = omega (arith, end-small (c .before .before .before .before .before .before .before .before .before .before .before .before .before .pre .0 .places .first-table) (c .before .before .before .before .before .before .has-edge .ensures .sound (c .before .before .before .before .before .if1 .taken)) (c .before .before .before .before .filler .ensures), c .before .before .before .before .before .before .before .before .before .before .before .before .before .pre .1 .0 .inside) }
+has-requires c κs = record { inside = omega (arith, end-small (c .before .before .before .before .before .before .before .before .before .before .before .before .pre .0 .places .first-table) (c .before .before .before .before .before .before .has-edge .ensures .sound (c .before .before .before .before .before .if1 .taken)) (c .before .before .before .before .filler .ensures), c .before .before .before .before .before .before .before .before .before .before .before .before .pre .1 .0 .inside) }
 
 same-length : tie.Need-same-length
 same-length c = search needs

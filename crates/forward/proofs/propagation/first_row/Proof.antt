@@ -12,13 +12,13 @@ use Rattle.forward.proofs.propagation.wait_for_above.Reads as wait-for-
 use Rattle.marks.proofs.inclusions.take.Reads as take-reads
 
 take-requires : tie.Need-take-requires
-take-requires c κs = ((c .before .before .before .before .before .before .before .pre .0 .places .first, c .before .before .before .before .before .before .before .pre .0 .places .marks), (record { same = refl; few = c .before .before .before .before .before .before .before .pre .0 .few }, (c .before .before .before .before .before .before .before .pre .1 .0, c .before .before .before .before .before .before .before .pre .1 .1)))
+take-requires c κs = ((c .before .before .before .before .before .before .pre .0 .places .first, c .before .before .before .before .before .before .pre .0 .places .marks), (record { same = refl; few = c .before .before .before .before .before .before .pre .0 .few }, (c .before .before .before .before .before .before .pre .1 .0, c .before .before .before .before .before .before .pre .1 .1)))
 
 wait-for-above-requires : tie.Need-wait-for-above-requires
-wait-for-above-requires c κs = (frame-room (grows-frame (c .before .before .before .before .take .ensures .grows)) (c .before .before .before .before .before .before .before .before .before .before .before .before .pre .0 .places .first), (c .before .before .before .before .before .before .before .before .before .before .before .before .pre .1 .0, (c .before .before .before .before .before .before .before .before .before .before .before .before .pre .1 .1, c .before .before .before .before .before .before .before .before .before .before .before .before .pre .0 .few)))
+wait-for-above-requires c κs = (frame-room (grows-frame (c .before .before .before .before .take .ensures .grows)) (c .before .before .before .before .before .before .before .before .before .before .before .pre .0 .places .first), (c .before .before .before .before .before .before .before .before .before .before .before .pre .1 .0, (c .before .before .before .before .before .before .before .before .before .before .before .pre .1 .1, c .before .before .before .before .before .before .before .before .before .before .before .pre .0 .few)))
 
 first-edge-requires : tie.Need-first-edge-requires
-first-edge-requires c κs = (setting-stays (c .before .before .before .before .before .before .before .before .before .take .ensures .grows) (c .before .before .before .before .before .before .before .before .before .before .before .before .before .before .before .before .before .pre .0), (c .before .before .before .before .before .before .before .before .before .before .before .before .before .before .before .before .before .pre .1 .0, c .before .before .if1 .taken))
+first-edge-requires c κs = (setting-stays (c .before .before .before .before .before .before .before .before .before .take .ensures .grows) (c .before .before .before .before .before .before .before .before .before .before .before .before .before .before .before .before .pre .0), (c .before .before .before .before .before .before .before .before .before .before .before .before .before .before .before .before .pre .1 .0, c .before .before .if1 .taken))
 
 same-length : tie.Need-same-length
 same-length c = search needs

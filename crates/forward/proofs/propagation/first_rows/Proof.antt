@@ -17,25 +17,25 @@ use Rattle.marks.proofs.line.add.Reads as add-reads
 use Rattle.marks.proofs.order.at.Reads as at-reads
 
 abbrev Inv-loop : tie.InvT-loop
-Inv-loop signature first second work₀ below waiting₀ done₀ order layout near₀ k₀ work waiting done near k = (k ≤ suc (layout .names)) × ((length work ≡ length work₀) × (length done ≡ length done₀)) × Setting signature first second below layout work × Grows (Step signature first second layout) (markSquare layout) work₀ work
+Inv-loop signature first second work₀ waiting₀ done₀ order layout near₀ k₀ work waiting done near k = (k ≤ suc (layout .names)) × ((length work ≡ length work₀) × (length done ≡ length done₀)) × Setting signature first second layout work × Grows (Step signature first second layout) (markSquare layout) work₀ work
 
 abbrev μ-loop : tie.MeasureT-loop
-μ-loop signature first second work₀ below waiting₀ done₀ order layout near₀ k₀ work waiting done near k = suc (layout .names) - k
+μ-loop signature first second work₀ waiting₀ done₀ order layout near₀ k₀ work waiting done near k = suc (layout .names) - k
 
 loop-holds : tie.Need-loop-holds Inv-loop μ-loop
-loop-holds c = (omega arith, (refl, refl), c .before .before .before .before .before .before .pre .0, none)
+loop-holds c = (omega arith, (refl, refl), c .before .before .before .before .before .pre .0, none)
 
 at-requires : tie.Need-at-requires Inv-loop μ-loop
 at-requires c κs = search needs
 
 add-k : tie.Need-add-k Inv-loop μ-loop
-add-k c = omega (arith, c .before .if1 .taken, c .before .before .before .before .before .before .before .before .before .before .pre .0 .few)
+add-k c = omega (arith, c .before .if1 .taken, c .before .before .before .before .before .before .before .before .before .pre .0 .few)
 
 first-row-requires : tie.Need-first-row-requires Inv-loop μ-loop
-first-row-requires c κs = (c .before .before .before .before .before .before .before .before .loop .inv .2, (record { inside = omega (arith, c .before .before .before .before .before .before .before .before .before .before .before .before .before .before .before .pre .1 .inside, c .before .before .before .before .before .before .before .before .loop .inv .1 .1) }, c .before .before .before .if2 .taken))
+first-row-requires c κs = (c .before .before .before .before .before .before .before .before .loop .inv .2, (record { inside = omega (arith, c .before .before .before .before .before .before .before .before .before .before .before .before .before .before .pre .1 .inside, c .before .before .before .before .before .before .before .before .loop .inv .1 .1) }, c .before .before .before .if2 .taken))
 
 add-requires : tie.Need-add-requires Inv-loop μ-loop
-add-requires c κs = record { inside = omega (arith, c .before .before .before .before .before .before .before .before .before .before .before .before .before .before .before .before .before .before .before .pre .1 .inside, c .before .before .before .before .before .before .before .before .before .before .before .before .loop .inv .1 .1, c .before .before .before .before .before .before .before .if2 .taken) }
+add-requires c κs = record { inside = omega (arith, c .before .before .before .before .before .before .before .before .before .before .before .before .before .before .before .before .before .before .pre .1 .inside, c .before .before .before .before .before .before .before .before .before .before .before .before .loop .inv .1 .1, c .before .before .before .before .before .before .before .if2 .taken) }
 
 loop-less : tie.Need-loop-less Inv-loop μ-loop
 loop-less c = omega (arith, c .before .before .before .before .before .before .before .before .before .before .before .before .before .if1 .taken)

@@ -14,16 +14,16 @@ use Rattle.forward.proofs.propagation.mark_names.Lts as lts
 use Rattle.forward.proofs.propagation.mark_name.Reads as mark-name-reads
 
 abbrev Inv-loop : tie.InvT-loop
-Inv-loop signature first second work₀ below layout next₀ work next = (next ≤ layout .names) × (length work ≡ length work₀) × Setting signature first second below layout work × Grows (Step signature first second layout) (markSquare layout) work₀ work
+Inv-loop signature first second work₀ layout next₀ work next = (next ≤ layout .names) × (length work ≡ length work₀) × Setting signature first second layout work × Grows (Step signature first second layout) (markSquare layout) work₀ work
 
 abbrev μ-loop : tie.MeasureT-loop
-μ-loop signature first second work₀ below layout next₀ work next = layout .names - next
+μ-loop signature first second work₀ layout next₀ work next = layout .names - next
 
 loop-holds : tie.Need-loop-holds Inv-loop μ-loop
-loop-holds c = (omega arith, refl, c .before .before .before .before .before .pre, none)
+loop-holds c = (omega arith, refl, c .before .before .before .before .pre, none)
 
 add-next : tie.Need-add-next Inv-loop μ-loop
-add-next c = omega (arith, c .if1 .taken, c .before .before .before .before .before .before .before .before .pre .few)
+add-next c = omega (arith, c .if1 .taken, c .before .before .before .before .before .before .before .pre .few)
 
 mark-name-requires : tie.Need-mark-name-requires Inv-loop μ-loop
 mark-name-requires c κs = (c .before .before .before .loop .inv .2, c .before .if1 .taken)

@@ -15,13 +15,13 @@ use Rattle.forward.proofs.propagation.resume.Reads as resume-reads
 use Rattle.forward.proofs.sweep.pass.Reads as pass-reads
 
 abbrev Inv-loop : tie.InvT-loop
-Inv-loop signature first second work₀ below waiting₀ order layout work waiting = (length work ≡ length work₀) × Setting signature first second below layout work × Grows (Step signature first second layout) (markSquare layout) work₀ work
+Inv-loop signature first second work₀ waiting₀ order layout work waiting = (length work ≡ length work₀) × Setting signature first second layout work × Grows (Step signature first second layout) (markSquare layout) work₀ work
 
 abbrev μ-loop : tie.MeasureT-loop
-μ-loop signature first second work₀ below waiting₀ order layout work waiting = unset work
+μ-loop signature first second work₀ waiting₀ order layout work waiting = unset work
 
 loop-holds : tie.Need-loop-holds Inv-loop μ-loop
-loop-holds c = (refl, c .before .before .before .before .before .pre, none)
+loop-holds c = (refl, c .before .before .before .before .pre, none)
 
 pass-requires : tie.Need-pass-requires Inv-loop μ-loop
 pass-requires c κs = c .before .loop .inv .1

@@ -15,31 +15,31 @@ use Rattle.release.proofs.table.filler.Reads as filler-reads
 use Rattle.release.proofs.table.role.Reads as role-reads
 
 has-edge-requires : tie.Need-has-edge-requires
-has-edge-requires c κs = (c .before .before .before .before .before .pre .0 .places .signature, (c .before .before .before .before .before .pre .0 .places .first-table, c .before .before .before .before .before .pre .1))
+has-edge-requires c κs = (c .before .before .before .before .pre .0 .places .signature, (c .before .before .before .before .pre .0 .places .first-table, c .before .before .before .before .pre .1))
 
 role-requires : tie.Need-role-requires
-role-requires c κs = rowed-row (c .before .before .before .before .before .before .before .pre .0 .places .first-table) (c .before .before .before .before .before .before .before .pre .1)
+role-requires c κs = rowed-row (c .before .before .before .before .before .before .pre .0 .places .first-table) (c .before .before .before .before .before .before .pre .1)
 
 filler-requires : tie.Need-filler-requires
-filler-requires c κs = rowed-row (c .before .before .before .before .before .before .before .before .pre .0 .places .first-table) (c .before .before .before .before .before .before .before .before .pre .1)
+filler-requires c κs = rowed-row (c .before .before .before .before .before .before .before .pre .0 .places .first-table) (c .before .before .before .before .before .before .before .pre .1)
 
 slice-aggregate-keep : tie.Need-slice-aggregate-keep
 slice-aggregate-keep c = search needs
 
 keep-requires : tie.Need-keep-requires
-keep-requires c κs = (c .before .before .before .before .before .before .before .before .before .before .before .pre .0 .places .second-table, ((c .before .before .before .before .before .before .before .before .before .before .before .pre .0 .places .marks, c .before .before .before .before .before .before .before .before .before .before .before .pre .0 .room), ((record { inside = omega (arith, c .before .before .before .before .before .before .before .before .before .before .before .pre .0 .few) }, empty-zeros 16), (end-small (c .before .before .before .before .before .before .before .before .before .before .before .pre .0 .places .first-table) (c .before .before .before .before .before .has-edge .ensures .sound (c .before .before .before .before .if1 .taken)) (c .before .before .filler .ensures), c .before .before .before .before .before .before .before .before .before .before .before .pre .0 .few))))
+keep-requires c κs = (c .before .before .before .before .before .before .before .before .before .before .pre .0 .places .second-table, ((c .before .before .before .before .before .before .before .before .before .before .pre .0 .places .marks, c .before .before .before .before .before .before .before .before .before .before .pre .0 .below (omega (arith, c .before .before .before .before .before .before .before .before .before .before .pre .1))), ((record { inside = omega (arith, c .before .before .before .before .before .before .before .before .before .before .pre .0 .few) }, empty-zeros 128), (end-small (c .before .before .before .before .before .before .before .before .before .before .pre .0 .places .first-table) (c .before .before .before .before .before .has-edge .ensures .sound (c .before .before .before .before .if1 .taken)) (c .before .before .filler .ensures), c .before .before .before .before .before .before .before .before .before .before .pre .0 .few))))
 
 slice-aggregate-absorb-missing : tie.Need-slice-aggregate-absorb-missing
 slice-aggregate-absorb-missing c = search needs
 
 absorb-missing-requires : tie.Need-absorb-missing-requires
-absorb-missing-requires c κs = (c .before .before .before .before .before .before .before .before .before .before .before .before .before .before .before .pre .0 .places .marks, (omega (arith, c .before .before .before .before .before .before .before .before .before .before .before .before .before .before .before .pre .1), record { inside = search (needs, c .before .before .before .before .before .before .before .before .before .before .before .before .before .before .before .pre .0 .few) }))
+absorb-missing-requires c κs = (c .before .before .before .before .before .before .before .before .before .before .before .before .before .before .pre .0 .places .marks, (omega (arith, c .before .before .before .before .before .before .before .before .before .before .before .before .before .before .pre .1), record { inside = search (needs, c .before .before .before .before .before .before .before .before .before .before .before .before .before .before .pre .0 .few) }))
 
 same-length : tie.Need-same-length
 same-length c = search needs
 
 returns : tie.Need-returns
-returns c = by-edge-pass (c .before .before .before .before .before .before .before .before .before .before .before .before .before .before .before .before .before .before .pre .0) (c .before .before .before .before .before .before .before .before .before .before .before .before .has-edge .ensures .sound (c .before .before .before .before .before .before .before .before .before .before .before .if1 .taken)) (c .before .before .before .before .before .before .before .before .before .filler .ensures) (c .before .before .before .before .before .before .before .before .before .before .role .ensures) (c .before .before .before .before .before .before .keep .ensures) (c .before .before .absorb-missing .ensures)
+returns c = by-edge-pass (c .before .before .before .before .before .before .before .before .before .before .before .before .before .before .before .before .before .pre .0) (c .before .before .before .before .before .before .before .before .before .before .before .before .has-edge .ensures .sound (c .before .before .before .before .before .before .before .before .before .before .before .if1 .taken)) (c .before .before .before .before .before .before .before .before .before .filler .ensures) (c .before .before .before .before .before .before .before .before .before .before .role .ensures) (c .before .before .before .before .before .before .keep .ensures) (c .before .before .absorb-missing .ensures)
 
 returns-2 : tie.Need-returns-2
 returns-2 c = pass-none (by-edge-none (refuted (c .before .has-edge .ensures) (c .if1 .left)))

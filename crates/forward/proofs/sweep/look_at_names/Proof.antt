@@ -15,16 +15,16 @@ use Rattle.forward.proofs.sweep.look_at_edge.Reads as look-at-edge-read
 use Rattle.forward.proofs.sweep.look_at_name.Reads as look-at-name-reads
 
 abbrev Inv-loop : tie.InvT-loop
-Inv-loop signature first second work₀ below layout changed₀ next₀ work changed next = (next ≤ layout .names) × (length work ≡ length work₀) × Setting signature first second below layout work × Pass (Step signature first second layout) (markSquare layout) (Below (Looked signature first second layout) next) work₀ work changed
+Inv-loop signature first second work₀ layout changed₀ next₀ work changed next = (next ≤ layout .names) × (length work ≡ length work₀) × Setting signature first second layout work × Pass (Step signature first second layout) (markSquare layout) (Below (Looked signature first second layout) next) work₀ work changed
 
 abbrev μ-loop : tie.MeasureT-loop
-μ-loop signature first second work₀ below layout changed₀ next₀ work changed next = layout .names - next
+μ-loop signature first second work₀ layout changed₀ next₀ work changed next = layout .names - next
 
 loop-holds : tie.Need-loop-holds Inv-loop μ-loop
-loop-holds c = (omega arith, refl, c .before .before .before .before .before .pre, turns-none)
+loop-holds c = (omega arith, refl, c .before .before .before .before .pre, turns-none)
 
 add-next : tie.Need-add-next Inv-loop μ-loop
-add-next c = omega (arith, c .if1 .taken, c .before .before .before .before .before .before .before .before .pre .few)
+add-next c = omega (arith, c .if1 .taken, c .before .before .before .before .before .before .before .pre .few)
 
 look-at-name-requires : tie.Need-look-at-name-requires Inv-loop μ-loop
 look-at-name-requires c κs = (c .before .before .before .loop .inv .2, c .before .if1 .taken)
