@@ -7,7 +7,7 @@
 --   no-rule-row, not-joined-column          a row or a column that needs no look
 --   missing-grows, name-row                 the columns that a line has not, which has what lies above a name
 --   over-grows                              a restriction over another one
---   setting, rows, named, squares           what the functions ask is there;  setting-stays, ..: after marks are put, too
+--   setting, rows, named, squares           what the functions ask is there;  setting-stays, ..: after marks are put, too, or hints (setting-kept)
 --   given-below, handed-below               the marks of a row handed on
 --   below-grows, name-grows                 growth by what lies below, or by names, is growth by the rules
 --   Looked, looked, looked-end              the row and the column of a name looked at, and those of all
@@ -25,12 +25,12 @@ use Rattle.release.specs.Tables.{kindAt, roleAt, fillerAt, countAt, partAt, Has
 use Rattle.release.proofs.DefinedParts as parts
 use Rattle.release.proofs.Checks.{header-sound}
 use Rattle.release.proofs.Linked.{no-header-fault}
-use Rattle.marks.specs.Squares.{NextUnmarked, Marked, Put}
+use Rattle.marks.specs.Squares.{NextUnmarked, Marked, Put, Kept}
 use Rattle.marks.specs.Passes.{Grows, Pass, Below, FromRow}
 use Rattle.marks.specs.Lines.{Empty, Joined, Missing, Full}
 use Rattle.marks.specs.Inclusions.{Giving, Gives}
 use Rattle.marks.proofs.Squares.{not-true, frame-room, marked-frame}
-use Rattle.marks.proofs.Passes.{grows-frame, grows-as, marks-stay, grows-further, pass-none, pass-as, pass-by, pass-both, put-pass, put-grows}
+use Rattle.marks.proofs.Passes.{grows-frame, grows-as, marks-stay, grows-further, pass-none, pass-as, pass-by, pass-both, put-pass, put-grows, kept-grows}
 use Rattle.marks.proofs.Handing.{stays-anywhere}
 use Rattle.layout.specs.declared.Layout.{Layout}
 use Rattle.layout.specs.Searches.{SomeBelow, EachBelow}
@@ -38,7 +38,7 @@ use Rattle.layout.specs.Layouts.{firstSquare, secondSquare, markSquare, chosen}
 use Rattle.layout.specs.Comparing.{Comparing}
 use Rattle.layout.proofs.Layouts as layout
 use Rattle.layout.proofs.Comparing as comparing
-use Rattle.backward.specs.Rules.{Setting, Rows, Named, Squares, PlainColumn, ColumnPart, RowPart, NameLost, Filled, PartnerLost, of-filler, of-nothing, RoleLost, NoRule, PartLost, RowLost, by-top, by-parts, by-role, PlainLost, Defined, by-part, by-row, Own, by-definition, by-name, Over, FromBelow, Step, by-own, by-below, Cell, Row, Column, Quiet}
+use Rattle.backward.specs.Rules.{Setting, Rows, Named, Squares, PlainColumn, ColumnPart, RowPart, NameLost, Filled, PartnerLost, of-filler, of-nothing, RoleLost, Filling, NoRule, PartLost, RowLost, by-top, by-parts, by-role, PlainLost, Defined, by-part, by-row, Own, by-definition, by-name, Over, FromBelow, Step, by-own, by-below, Cell, Row, Column, Quiet}
 
 pub restricted : (t : List ℕ) (x : ℕ) → kindAt t x ≡ 4 → restricts (kindAt t x) ≡ true
 restricted t x e = rw e refl
@@ -206,13 +206,13 @@ module _ {g : List ℕ} {l : Layout} {w : List ℕ} {x : ℕ} {i k : List ℕ} (
       }
 
 -- a restriction over another one
-module _ {g s t a b : List ℕ} {l : Layout} {w : List ℕ} {x y z : ℕ} (x-in : x < l .names) (kind : kindAt a x ≡ 4) (filler : fillerAt a x ≡ z) (has : chosen l g .has-role (roleAt a x) ≡ true) (y-in : y < l .names) (m : Marked (markSquare l) w z y) where
+module _ {g s t a b : List ℕ} {l : Layout} {w : List ℕ} {x y z : ℕ} (filling : Filling g a l x z) (y-in : y < l .names) (m : Marked (markSquare l) w z y) where
   over-lost : (u : List ℕ) (p c : ℕ) → Grows (Over a b l x y) (markSquare l) w u → p ≤ l .names → c ≤ l .names → Over a b l x y u p c → Step g s t a b l u p c
   over-lost u p c grows p-in c-in o =
       let lost : PartnerLost b l u c (roleAt a x) z = of-filler (o .filled) (omega (arith, o .filler)) (rw (o .filler) (marks-stay grows m)) in
       rw (o .row) (by-own (by-definition (by-row (record {
         plain = record { not-joined = λ h e. omega (arith, o .filled .kind) };
-        row = by-role x-in kind (record { chosen-role = has; partner = rw filler lost });
+        row = by-role (filling .is-name) (filling .kind) (record { chosen-role = filling .chosen-role; partner = rw (filling .filler) lost });
       }))))
 
   pub over-grows : {v : List ℕ} → Grows (Over a b l x y) (markSquare l) w v → Grows (Step g s t a b l) (markSquare l) w v
@@ -244,6 +244,10 @@ module _ {Rule : List ℕ → ℕ → ℕ → Type 0} {l : Layout} {w v : List �
 
   pub squares-stay : Squares l w → Squares l v
   squares-stay h = let f = grows-frame grows in record { first = frame-room f (h .first); marks = frame-room f (h .marks); few = h .few }
+
+-- hints change none of it
+pub setting-kept : {g s t a b : List ℕ} {l : Layout} {w v : List ℕ} → Kept (markSquare l) w v → Setting g s t a b l w → Setting g s t a b l v
+setting-kept {g} {s} {t} {a} {b} {l} k h = setting-stays (kept-grows {Rule = Step g s t a b l} k) h
 
 -- the marks of a row handed on
 pub given-below : {l : Layout} {w v : List ℕ} → Grows (Giving (firstSquare l) (markSquare l)) (markSquare l) w v → Grows (FromBelow l) (markSquare l) w v

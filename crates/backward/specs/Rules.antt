@@ -7,6 +7,7 @@
 --   Filled b n y r            y is defined by a restriction with the role r
 --   PartnerLost b l w y r z   z is marked with the filler of such a y, which is not ⊤; for another y, with nothing
 --   RoleLost g a b l w x y    so is the filler of x, and the role of x is in the signature
+--   Filling g a l x z         x is defined by a restriction with the filler z, and its role is in the signature
 --   NoRule g a l x            the definition of x allows no mark: it has none, or one with a role that is not in the signature
 --   PartLost t b l w x y      y is a conjunction, and x is marked with one of its conjuncts
 --   RowLost g s a b l w x y   the definition of x allows the mark x, y;  PlainLost g s a b l w x y: and y is a plain column
@@ -39,7 +40,7 @@ pub record Setting (g s t a b : List ℕ) (l : Layout) (w : List ℕ) : Type 0 w
   pub first-shaped : Shaped (l .names) s a
   pub second-shaped : Shaped (l .names) t b
   pub second-apart : l .second + span (l .names) ≤ l .marks
-  pub few : l .names ≤ 127
+  pub few : l .names ≤ 1023
 
 -- what those ask that look at rows
 pub record Rows (g s a b : List ℕ) (l : Layout) (w : List ℕ) : Type 0 where
@@ -52,13 +53,13 @@ pub record Named (g : List ℕ) (l : Layout) (w : List ℕ) : Type 0 where
   pub second : Room (secondSquare l) w
   pub marks : Room (markSquare l) w
   pub apart : l .second + span (l .names) ≤ l .marks
-  pub few : l .names ≤ 127
+  pub few : l .names ≤ 1023
 
 -- what those ask that hand marks on
 pub record Squares (l : Layout) (w : List ℕ) : Type 0 where
   pub first : Room (firstSquare l) w
   pub marks : Room (markSquare l) w
-  pub few : l .names ≤ 127
+  pub few : l .names ≤ 1023
 
 pub record PlainColumn (b : List ℕ) (n y : ℕ) : Type 0 where
   pub not-joined : y < n → kindAt b y ≡ 2 → ⊥
@@ -85,6 +86,12 @@ pub data PartnerLost (b : List ℕ) (l : Layout) (w : List ℕ) (y r z : ℕ) : 
 pub record RoleLost (g a b : List ℕ) (l : Layout) (w : List ℕ) (x y : ℕ) : Type 0 where
   pub chosen-role : chosen l g .has-role (roleAt a x) ≡ true
   pub partner : PartnerLost b l w y (roleAt a x) (fillerAt a x)
+
+pub record Filling (g a : List ℕ) (l : Layout) (x z : ℕ) : Type 0 where
+  pub is-name : x < l .names
+  pub kind : kindAt a x ≡ 4
+  pub filler : fillerAt a x ≡ z
+  pub chosen-role : chosen l g .has-role (roleAt a x) ≡ true
 
 pub record NoRule (g a : List ℕ) (l : Layout) (x : ℕ) : Type 0 where
   pub is-name : x < l .names

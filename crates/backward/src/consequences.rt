@@ -1,21 +1,17 @@
 // What new marks give: marks put at the pairs that depend on them, each as a rule allows. A row with a new mark waits, to be dealt with
-// in its turn. Where to look is read from chains and lines that are only hints, so each rule is tested at its pair.
-ghost use mathlib.Core.Path.{_≡_};
-ghost use mathlib.Core.Bool.{true};
+// in its turn. Where to look is read from hints and lines of which nothing is said, so each rule is tested at its pair.
 ghost use Prim.Native.Nat.{_≤_, _<_};
-ghost use Rattle.release.specs.Tables.{kindAt, roleAt, fillerAt};
-ghost use Rattle.marks.specs.Squares.{Room};
 ghost use Rattle.marks.specs.Passes.{Grows};
-ghost use Rattle.layout.specs.Layouts.{markSquare, chosen, Rowed};
-ghost use Rattle.backward.specs.Rules.{Setting, Squares, Over, FromBelow, Step};
+ghost use Rattle.layout.specs.Layouts.{markSquare, Rowed, Areas};
+ghost use Rattle.backward.specs.Rules.{Setting, Squares, Filling, Over, FromBelow, Step};
+use crate::rules::is_filling;
 use crate::rules::is_lost;
-use classification::chains;
-use classification::chains::Chains;
+use classification::hints::Hints;
 use layout::Layout;
-use layout::has_role;
 use layout::is_marked;
 use layout::mark;
 use marks::Square;
+use marks::hints;
 use marks::line::Line;
 use marks::rows::hand_on;
 use marks::rows::next_marked;
@@ -34,7 +30,7 @@ fn put_lost(
     first_table: &[u16],
     second_table: &[u16],
     work: &mut [u8],
-    waiting: &mut [u8; Waiting::LENGTH],
+    waiting: &mut [u16; Waiting::LENGTH],
     layout: Layout,
     x: usize,
     y: usize,
@@ -70,7 +66,7 @@ fn put_row(
     first_table: &[u16],
     second_table: &[u16],
     work: &mut [u8],
-    waiting: &mut [u8; Waiting::LENGTH],
+    waiting: &mut [u16; Waiting::LENGTH],
     layout: Layout,
     x: usize,
 )
@@ -108,7 +104,7 @@ fn put_line(
     first_table: &[u16],
     second_table: &[u16],
     work: &mut [u8],
-    waiting: &mut [u8; Waiting::LENGTH],
+    waiting: &mut [u16; Waiting::LENGTH],
     layout: Layout,
     line: &[u8; Line::LENGTH],
     x: usize,
@@ -117,7 +113,7 @@ fn put_line(
     requires { ⌜ x ≤ layout .names ⌝ }
     ensures { λ _. ⌜ Grows (Step (now (signature .entry)) (now (first .entry)) (now (second .entry)) (now («first_table» .entry)) (now («second_table» .entry)) layout) (markSquare layout) (now (work .entry)) (now (work .exit)) ⌝ }
 {
-    let mut y = waiting::next(line, 0);
+    let mut y = waiting::next(line, layout.names, 0);
     while y <= layout.names {
         put_lost(
             signature,
@@ -131,7 +127,7 @@ fn put_line(
             x,
             y,
         );
-        y = waiting::next(line, y + 1);
+        y = waiting::next(line, layout.names, y + 1);
     }
 }
 
@@ -141,27 +137,25 @@ fn put_over(
     first_table: &[u16],
     second_table: &[u16],
     work: &mut [u8],
-    chains: &[u16; Chains::LENGTH],
-    waiting: &mut [u8; Waiting::LENGTH],
+    waiting: &mut [u16; Waiting::LENGTH],
     layout: Layout,
     x: usize,
     y: usize,
 )
     requires { ⌜ Rowed (layout .names) (now «first_table») × Rowed (layout .names) (now «second_table») ⌝ }
-    requires { ⌜ Room (markSquare layout) (now work) ⌝ }
-    requires { ⌜ x < layout .names ⌝ }
+    requires { ⌜ Areas layout (now work) ⌝ }
+    requires { ⌜ (x < layout .names) × (y ≤ layout .names) ⌝ }
     ensures { λ _. ⌜ Grows (Over (now («first_table» .entry)) (now («second_table» .entry)) layout x y) (markSquare layout) (now (work .entry)) (now (work .exit)) ⌝ }
 {
+    let inclusions = Square {
+        base: layout.second,
+        names: layout.names,
+    };
     let role = table::role(first_table, x);
-    let mut entry = chains::entry(chains, Chains::FILLERS, y);
-    let mut left = Chains::ENTRIES;
-    while 0 < left {
-        left -= 1;
-        let z = entry;
-        if layout.names <= z {
-            return;
-        }
-        entry = chains::entry(chains, Chains::NEXT, z);
+    let mut next = hints::next(work, inclusions, Hints::FILLERS, y, 0);
+    while next < layout.names {
+        let z = next;
+        next = hints::next(work, inclusions, Hints::FILLERS, y, z + 1);
         let kind = table::kind(second_table, z);
         let filler = table::filler(second_table, z);
         let own = table::role(second_table, z);
@@ -189,33 +183,22 @@ fn put_filled(
     first_table: &[u16],
     second_table: &[u16],
     work: &mut [u8],
-    chains: &[u16; Chains::LENGTH],
-    waiting: &mut [u8; Waiting::LENGTH],
+    waiting: &mut [u16; Waiting::LENGTH],
     layout: Layout,
     line: &[u8; Line::LENGTH],
     filler: usize,
     x: usize,
 )
     requires { ⌜ Setting (now signature) (now first) (now second) (now «first_table») (now «second_table») layout (now work) ⌝ }
-    requires { ⌜ (x < layout .names) × (kindAt (now «first_table») x ≡ 4) × (fillerAt (now «first_table») x ≡ filler) ⌝ }
-    requires { ⌜ chosen layout (now signature) .has-role (roleAt (now «first_table») x) ≡ true ⌝ }
+    requires { ⌜ Filling (now signature) (now «first_table») layout x filler ⌝ }
     ensures { λ _. ⌜ Grows (Step (now (signature .entry)) (now (first .entry)) (now (second .entry)) (now («first_table» .entry)) (now («second_table» .entry)) layout) (markSquare layout) (now (work .entry)) (now (work .exit)) ⌝ }
 {
-    let mut next = waiting::next(line, 0);
+    let mut next = waiting::next(line, layout.names, 0);
     while next < layout.names {
         let y = next;
-        next = waiting::next(line, y + 1);
+        next = waiting::next(line, layout.names, y + 1);
         if is_marked(work, layout, filler, y) {
-            put_over(
-                first_table,
-                second_table,
-                work,
-                chains,
-                waiting,
-                layout,
-                x,
-                y,
-            );
+            put_over(first_table, second_table, work, waiting, layout, x, y);
         }
     }
     if next == layout.names {
@@ -241,35 +224,24 @@ fn put_by_filler(
     first_table: &[u16],
     second_table: &[u16],
     work: &mut [u8],
-    first_chains: &[u16; Chains::LENGTH],
-    second_chains: &[u16; Chains::LENGTH],
-    waiting: &mut [u8; Waiting::LENGTH],
+    waiting: &mut [u16; Waiting::LENGTH],
     layout: Layout,
     line: &[u8; Line::LENGTH],
     filler: usize,
 )
     requires { ⌜ Setting (now signature) (now first) (now second) (now «first_table») (now «second_table») layout (now work) ⌝ }
+    requires { ⌜ filler ≤ layout .names ⌝ }
     ensures { λ _. ⌜ Grows (Step (now (signature .entry)) (now (first .entry)) (now (second .entry)) (now («first_table» .entry)) (now («second_table» .entry)) layout) (markSquare layout) (now (work .entry)) (now (work .exit)) ⌝ }
 {
-    let mut entry = chains::entry(first_chains, Chains::FILLERS, filler);
-    let mut left = Chains::ENTRIES;
-    while 0 < left {
-        left -= 1;
-        let x = entry;
-        if layout.names <= x {
-            return;
-        }
-        entry = chains::entry(first_chains, Chains::NEXT, x);
-        let kind = table::kind(first_table, x);
-        let own = table::filler(first_table, x);
-        let role = table::role(first_table, x);
-        if kind != 4 {
-            continue;
-        }
-        if own != filler {
-            continue;
-        }
-        if has_role(signature, layout, role) {
+    let inclusions = Square {
+        base: layout.first,
+        names: layout.names,
+    };
+    let mut next = hints::next(work, inclusions, Hints::FILLERS, filler, 0);
+    while next < layout.names {
+        let x = next;
+        next = hints::next(work, inclusions, Hints::FILLERS, filler, x + 1);
+        if is_filling(signature, first_table, layout, x, filler) {
             put_filled(
                 signature,
                 first,
@@ -277,7 +249,6 @@ fn put_by_filler(
                 first_table,
                 second_table,
                 work,
-                second_chains,
                 waiting,
                 layout,
                 line,
@@ -296,24 +267,23 @@ fn put_by_part(
     first_table: &[u16],
     second_table: &[u16],
     work: &mut [u8],
-    chains: &[u16; Chains::LENGTH],
-    waiting: &mut [u8; Waiting::LENGTH],
+    waiting: &mut [u16; Waiting::LENGTH],
     layout: Layout,
     line: &[u8; Line::LENGTH],
     part: usize,
 )
     requires { ⌜ Setting (now signature) (now first) (now second) (now «first_table») (now «second_table») layout (now work) ⌝ }
+    requires { ⌜ part ≤ layout .names ⌝ }
     ensures { λ _. ⌜ Grows (Step (now (signature .entry)) (now (first .entry)) (now (second .entry)) (now («first_table» .entry)) (now («second_table» .entry)) layout) (markSquare layout) (now (work .entry)) (now (work .exit)) ⌝ }
 {
-    let mut entry = chains::entry(chains, Chains::CONJUNCTS, part);
-    let mut left = Chains::ENTRIES;
-    while 0 < left {
-        left -= 1;
-        let x = entry / 16;
-        if layout.names <= x {
-            return;
-        }
-        entry = chains::entry(chains, Chains::LINKS, entry);
+    let inclusions = Square {
+        base: layout.first,
+        names: layout.names,
+    };
+    let mut next = hints::next(work, inclusions, Hints::CONJUNCTS, part, 0);
+    while next < layout.names {
+        let x = next;
+        next = hints::next(work, inclusions, Hints::CONJUNCTS, part, x + 1);
         put_line(
             signature,
             first,
@@ -337,25 +307,23 @@ fn put_columns(
     first_table: &[u16],
     second_table: &[u16],
     work: &mut [u8],
-    chains: &[u16; Chains::LENGTH],
-    waiting: &mut [u8; Waiting::LENGTH],
+    waiting: &mut [u16; Waiting::LENGTH],
     layout: Layout,
     x: usize,
     y: usize,
 )
     requires { ⌜ Setting (now signature) (now first) (now second) (now «first_table») (now «second_table») layout (now work) ⌝ }
-    requires { ⌜ x ≤ layout .names ⌝ }
+    requires { ⌜ (x ≤ layout .names) × (y ≤ layout .names) ⌝ }
     ensures { λ _. ⌜ Grows (Step (now (signature .entry)) (now (first .entry)) (now (second .entry)) (now («first_table» .entry)) (now («second_table» .entry)) layout) (markSquare layout) (now (work .entry)) (now (work .exit)) ⌝ }
 {
-    let mut entry = chains::entry(chains, Chains::CONJUNCTS, y);
-    let mut left = Chains::ENTRIES;
-    while 0 < left {
-        left -= 1;
-        let z = entry / 16;
-        if layout.names <= z {
-            return;
-        }
-        entry = chains::entry(chains, Chains::LINKS, entry);
+    let inclusions = Square {
+        base: layout.second,
+        names: layout.names,
+    };
+    let mut next = hints::next(work, inclusions, Hints::CONJUNCTS, y, 0);
+    while next < layout.names {
+        let z = next;
+        next = hints::next(work, inclusions, Hints::CONJUNCTS, y, z + 1);
         put_lost(
             signature,
             first,
@@ -379,8 +347,7 @@ fn put_all_columns(
     first_table: &[u16],
     second_table: &[u16],
     work: &mut [u8],
-    chains: &[u16; Chains::LENGTH],
-    waiting: &mut [u8; Waiting::LENGTH],
+    waiting: &mut [u16; Waiting::LENGTH],
     layout: Layout,
     line: &[u8; Line::LENGTH],
     x: usize,
@@ -389,7 +356,7 @@ fn put_all_columns(
     requires { ⌜ x ≤ layout .names ⌝ }
     ensures { λ _. ⌜ Grows (Step (now (signature .entry)) (now (first .entry)) (now (second .entry)) (now («first_table» .entry)) (now («second_table» .entry)) layout) (markSquare layout) (now (work .entry)) (now (work .exit)) ⌝ }
 {
-    let mut y = waiting::next(line, 0);
+    let mut y = waiting::next(line, layout.names, 0);
     while y < layout.names {
         put_columns(
             signature,
@@ -398,18 +365,17 @@ fn put_all_columns(
             first_table,
             second_table,
             work,
-            chains,
             waiting,
             layout,
             x,
             y,
         );
-        y = waiting::next(line, y + 1);
+        y = waiting::next(line, layout.names, y + 1);
     }
 }
 
 // The marks of row `lower` in each row above it by the first release.
-fn put_above(work: &mut [u8], waiting: &mut [u8; Waiting::LENGTH], layout: Layout, lower: usize)
+fn put_above(work: &mut [u8], waiting: &mut [u16; Waiting::LENGTH], layout: Layout, lower: usize)
     requires { ⌜ Squares layout (now work) ⌝ }
     requires { ⌜ lower ≤ layout .names ⌝ }
     ensures { λ _. ⌜ Grows (FromBelow layout) (markSquare layout) (now (work .entry)) (now (work .exit)) ⌝ }
@@ -442,9 +408,7 @@ pub fn deal(
     first_table: &[u16],
     second_table: &[u16],
     work: &mut [u8],
-    first_chains: &[u16; Chains::LENGTH],
-    second_chains: &[u16; Chains::LENGTH],
-    waiting: &mut [u8; Waiting::LENGTH],
+    waiting: &mut [u16; Waiting::LENGTH],
     layout: Layout,
     x: usize,
 )
@@ -457,7 +421,7 @@ pub fn deal(
         names: layout.names,
     };
     let mut line = [0u8; Line::LENGTH];
-    waiting::see(work, marks, x, waiting, x, &mut line);
+    hints::see(work, marks, x, &mut line);
     put_above(work, waiting, layout, x);
     put_by_filler(
         signature,
@@ -466,8 +430,6 @@ pub fn deal(
         first_table,
         second_table,
         work,
-        first_chains,
-        second_chains,
         waiting,
         layout,
         &line,
@@ -480,7 +442,6 @@ pub fn deal(
         first_table,
         second_table,
         work,
-        first_chains,
         waiting,
         layout,
         &line,
@@ -493,7 +454,6 @@ pub fn deal(
         first_table,
         second_table,
         work,
-        second_chains,
         waiting,
         layout,
         &line,

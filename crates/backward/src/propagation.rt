@@ -5,11 +5,11 @@ ghost use Rattle.marks.specs.Passes.{Grows};
 ghost use Rattle.layout.specs.Layouts.{markSquare};
 ghost use Rattle.backward.specs.Rules.{Setting, Named, Squares, NameLost, FromBelow, Step};
 use crate::consequences::deal;
-use classification::chains::Chains;
 use layout::Layout;
 use layout::has_name;
 use layout::mark;
 use marks::Square;
+use marks::hints::wait_for_new;
 use marks::inclusions::give;
 use marks::line;
 use marks::line::Line;
@@ -62,7 +62,7 @@ pub fn mark_names(signature: &[u8], work: &mut [u8], layout: Layout)
 }
 
 // The node before a place of the order, or a number that is none.
-fn before(order: &[u8; Order::NODES], place: usize) -> usize {
+fn before(order: &[u16; Order::NODES], place: usize) -> usize {
     if 0 < place {
         return order::at(order, place - 1);
     }
@@ -93,7 +93,7 @@ fn hand_up(work: &mut [u8], left: &mut [u8; Line::LENGTH], layout: Layout, x: us
 }
 
 // Hands the marks of all rows on, those of lower rows first.
-pub fn hand_all_up(work: &mut [u8], order: &[u8; Order::NODES], layout: Layout)
+pub fn hand_all_up(work: &mut [u8], order: &[u16; Order::NODES], layout: Layout)
     requires { ⌜ Squares layout (now work) ⌝ }
     ensures { λ _. ⌜ Grows (FromBelow layout) (markSquare layout) (now (work .entry)) (now (work .exit)) ⌝ }
 {
@@ -117,9 +117,7 @@ pub fn propagate(
     first_table: &[u16],
     second_table: &[u16],
     work: &mut [u8],
-    first_chains: &[u16; Chains::LENGTH],
-    second_chains: &[u16; Chains::LENGTH],
-    waiting: &mut [u8; Waiting::LENGTH],
+    waiting: &mut [u16; Waiting::LENGTH],
     layout: Layout,
 )
     requires { ⌜ Setting (now signature) (now first) (now second) (now «first_table») (now «second_table») layout (now work) ⌝ }
@@ -129,7 +127,7 @@ pub fn propagate(
         base: layout.marks,
         names: layout.names,
     };
-    waiting::wait_for_new(work, marks, waiting);
+    wait_for_new(work, marks, waiting);
     let mut left = Waiting::TURNS;
     while 0 < left {
         left -= 1;
@@ -144,8 +142,6 @@ pub fn propagate(
             first_table,
             second_table,
             work,
-            first_chains,
-            second_chains,
             waiting,
             layout,
             x,

@@ -1,6 +1,6 @@
 // The rules by which a pair x, y is marked. What they ask is said in specs/Rules.
 ghost use mathlib.Core.Path.{_≡_};
-ghost use mathlib.Core.Bool.{false};
+ghost use mathlib.Core.Bool.{true, false};
 ghost use Prim.Native.Nat.{_+_, _≤_, _<_};
 ghost use lib.ListN.{length};
 ghost use Rattle.el.proofs.Tests.{Tells};
@@ -8,7 +8,7 @@ ghost use Rattle.release.specs.Tables.{kindAt, countAt, Shaped};
 ghost use Rattle.marks.specs.Squares.{Room};
 ghost use Rattle.layout.specs.Searches.{SomeBelow, EachBelow};
 ghost use Rattle.layout.specs.Layouts.{secondSquare, markSquare, Rowed};
-ghost use Rattle.backward.specs.Rules.{Setting, Rows, PlainColumn, ColumnPart, RowPart, NameLost, Filled, RoleLost, NoRule, RowLost, Defined, Own};
+ghost use Rattle.backward.specs.Rules.{Setting, Rows, PlainColumn, ColumnPart, RowPart, NameLost, Filled, RoleLost, Filling, NoRule, RowLost, Defined, Own};
 use layout::Layout;
 use layout::has_name;
 use layout::has_role;
@@ -241,6 +241,25 @@ pub fn is_lost(
         x,
         y,
     )
+}
+
+// Whether x is defined by a restriction with this filler and a role of the signature. Where it says no, nothing is said.
+pub fn is_filling(signature: &[u8], table: &[u16], layout: Layout, x: usize, filler: usize) -> bool
+    requires { ⌜ layout .names + layout .roles ≤ length (now signature) ⌝ }
+    requires { ⌜ Rowed (layout .names) (now table) ⌝ }
+    requires { ⌜ x < layout .names ⌝ }
+    ensures { λ r. ⌜ (r ≡ true → Filling (now (signature .entry)) (now (table .entry)) layout x filler) ⌝ }
+{
+    let kind = table::kind(table, x);
+    let own = table::filler(table, x);
+    let role = table::role(table, x);
+    if kind != 4 {
+        return false;
+    }
+    if own != filler {
+        return false;
+    }
+    has_role(signature, layout, role)
 }
 
 // Whether the definition of x may allow a mark. Where it says yes, nothing is said.

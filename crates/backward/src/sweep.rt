@@ -11,19 +11,17 @@ use crate::rules::column_lost;
 use crate::rules::is_plain;
 use crate::rules::may_be_lost;
 use crate::rules::some_part_lost;
-use classification::chains::Chains;
-use classification::chains::fill;
 use layout::Layout;
 use layout::has_name;
 use layout::is_marked;
 use layout::mark;
 use marks::Square;
+use marks::hints::see_all;
 use marks::inclusions::give_all;
 use marks::line;
 use marks::line::Line;
 use marks::order::Order;
 use marks::rows::next_unmarked;
-use marks::waiting;
 use marks::waiting::Waiting;
 use release::table;
 
@@ -236,7 +234,7 @@ fn pass(
     first_table: &[u16],
     second_table: &[u16],
     work: &mut [u8],
-    order: &[u8; Order::NODES],
+    order: &[u16; Order::NODES],
     layout: Layout,
 ) -> bool
     requires { ⌜ Setting (now signature) (now first) (now second) (now «first_table») (now «second_table») layout (now work) ⌝ }
@@ -275,25 +273,18 @@ pub fn close(
     first_table: &[u16],
     second_table: &[u16],
     work: &mut [u8],
-    order: &[u8; Order::NODES],
+    order: &[u16; Order::NODES],
     layout: Layout,
 )
     requires { ⌜ Setting (now signature) (now first) (now second) (now «first_table») (now «second_table») layout (now work) ⌝ }
     ensures { λ _. ⌜ Closed (Step (now (signature .entry)) (now (first .entry)) (now (second .entry)) (now («first_table» .entry)) (now («second_table» .entry)) layout) (markSquare layout) (Quiet (now (signature .entry)) (now (first .entry)) (now (second .entry)) (now («first_table» .entry)) (now («second_table» .entry)) layout) (now (work .entry)) (now (work .exit)) ⌝ }
 {
-    let mut waiting = [0u8; Waiting::LENGTH];
-    let mut first_chains = [0u16; Chains::LENGTH];
-    let mut second_chains = [0u16; Chains::LENGTH];
-    fill(first, first_table, &mut first_chains, layout.names);
-    fill(second, second_table, &mut second_chains, layout.names);
-    waiting::see_all(
-        work,
-        Square {
-            base: layout.marks,
-            names: layout.names,
-        },
-        &mut waiting,
-    );
+    let marks = Square {
+        base: layout.marks,
+        names: layout.names,
+    };
+    let mut waiting = [0u16; Waiting::LENGTH];
+    see_all(work, marks);
     while pass(
         signature,
         first,
@@ -311,8 +302,6 @@ pub fn close(
             first_table,
             second_table,
             work,
-            &first_chains,
-            &second_chains,
             &mut waiting,
             layout,
         );

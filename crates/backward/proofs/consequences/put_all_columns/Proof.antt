@@ -17,10 +17,10 @@ use Rattle.marks.proofs.waiting.next.Reads as next-reads
 
 -- marks put by the rules
 abbrev Inv-loop : tie.InvT-loop
-Inv-loop signature first second first-table second-table work₀ chains waiting₀ layout line x y₀ work waiting y = (length work ≡ length work₀) × Grows (Step signature first second first-table second-table layout) (markSquare layout) work₀ work
+Inv-loop signature first second first-table second-table work₀ waiting₀ layout line x y₀ work waiting y = (length work ≡ length work₀) × Grows (Step signature first second first-table second-table layout) (markSquare layout) work₀ work
 
 abbrev μ-loop : tie.MeasureT-loop
-μ-loop signature first second first-table second-table work₀ chains waiting₀ layout line x y₀ work waiting y = layout .names - y
+μ-loop signature first second first-table second-table work₀ waiting₀ layout line x y₀ work waiting y = layout .names - y
 
 next-requires : tie.Need-next-requires Inv-loop μ-loop
 next-requires c κs = search needs
@@ -29,7 +29,7 @@ loop-holds : tie.Need-loop-holds Inv-loop μ-loop
 loop-holds c = (refl, none)
 
 put-columns-requires : tie.Need-put-columns-requires Inv-loop μ-loop
-put-columns-requires c κs = (setting-stays (c .before .before .before .before .loop .inv .1) (c .before .before .before .before .before .before .before .before .before .before .before .before .pre .0), c .before .before .before .before .before .before .before .before .before .before .before .before .pre .1)
+put-columns-requires c κs = (setting-stays (c .before .before .before .before .loop .inv .1) (c .before .before .before .before .before .before .before .before .before .before .before .before .pre .0), (c .before .before .before .before .before .before .before .before .before .before .before .before .pre .1, omega (arith, c .before .before .if1 .taken)))
 
 add-next : tie.Need-add-next Inv-loop μ-loop
 add-next c = omega (arith, c .before .before .before .before .before .if1 .taken, c .before .before .before .before .before .before .before .before .before .before .before .before .before .before .before .pre .0 .few)
@@ -38,7 +38,7 @@ next-requires-2 : tie.Need-next-requires-2 Inv-loop μ-loop
 next-requires-2 c κs = omega (arith, c .before .before .before .before .before .if1 .taken, c .before .before .before .before .before .before .before .before .before .before .before .before .before .before .before .pre .0 .few)
 
 loop-less : tie.Need-loop-less Inv-loop μ-loop
-loop-less c = omega (arith, c .next2 .ensures, c .before .before .before .before .before .before .if1 .taken)
+loop-less c = omega (arith, c .next2 .ensures .0, c .before .before .before .before .before .before .if1 .taken)
 
 loop-again : tie.Need-loop-again Inv-loop μ-loop
 loop-again c = (search needs, grows-further (c .before .before .before .before .before .before .before .before .loop .inv .1) (c .before .before .before .put-columns .ensures))

@@ -19,10 +19,10 @@ use Rattle.marks.proofs.waiting.next.Reads as next-reads
 
 -- marks put by the rules
 abbrev Inv-loop : tie.InvT-loop
-Inv-loop signature first second first-table second-table work₀ chains waiting₀ layout line filler x next₀ work waiting next = (length work ≡ length work₀) × Grows (Step signature first second first-table second-table layout) (markSquare layout) work₀ work
+Inv-loop signature first second first-table second-table work₀ waiting₀ layout line filler x next₀ work waiting next = (length work ≡ length work₀) × Grows (Step signature first second first-table second-table layout) (markSquare layout) work₀ work
 
 abbrev μ-loop : tie.MeasureT-loop
-μ-loop signature first second first-table second-table work₀ chains waiting₀ layout line filler x next₀ work waiting next = layout .names - next
+μ-loop signature first second first-table second-table work₀ waiting₀ layout line filler x next₀ work waiting next = layout .names - next
 
 next-requires : tie.Need-next-requires Inv-loop μ-loop
 next-requires c κs = search needs
@@ -37,25 +37,25 @@ next-requires-2 : tie.Need-next-requires-2 Inv-loop μ-loop
 next-requires-2 c κs = omega (arith, c .if1 .taken, c .before .before .before .before .before .before .before .before .before .before .pre .0 .few)
 
 is-marked-requires : tie.Need-is-marked-requires Inv-loop μ-loop
-is-marked-requires c κs = let p = c .before .before .before .before .before .before .before .before .before .before .before .before .pre in (setting-stays (c .before .before .before .before .loop .inv .1) (p .0) .places .marks, (omega (arith, p .1 .0 .2, p .0 .places .first-table .filler (c .before .before .before .before .before .before .before .before .before .before .before .before .args .x) (p .1 .0 .0) (restricted _ _ (p .1 .0 .1))), omega (arith, c .before .before .if1 .taken)))
+is-marked-requires c κs = let p = c .before .before .before .before .before .before .before .before .before .before .before .before .pre in (setting-stays (c .before .before .before .before .loop .inv .1) (p .0) .places .marks, (omega (arith, p .1 .filler, p .0 .places .first-table .filler (c .before .before .before .before .before .before .before .before .before .before .before .before .args .x) (p .1 .is-name) (restricted _ _ (p .1 .kind))), omega (arith, c .before .before .if1 .taken)))
 
 put-over-requires : tie.Need-put-over-requires Inv-loop μ-loop
-put-over-requires c κs = let h = setting-stays (c .before .before .before .before .before .before .before .before .loop .inv .1) (c .before .before .before .before .before .before .before .before .before .before .before .before .before .before .before .before .pre .0) .places in ((h .first-table, h .second-table), (h .marks, c .before .before .before .before .before .before .before .before .before .before .before .before .before .before .before .before .pre .1 .0 .0))
+put-over-requires c κs = let h = setting-stays (c .before .before .before .before .before .before .before .before .loop .inv .1) (c .before .before .before .before .before .before .before .before .before .before .before .before .before .before .before .before .pre .0) .places in ((h .first-table, h .second-table), (h .areas, (c .before .before .before .before .before .before .before .before .before .before .before .before .before .before .before .before .pre .1 .is-name, omega (arith, c .before .before .before .before .before .before .if1 .taken))))
 
 loop-less : tie.Need-loop-less Inv-loop μ-loop
-loop-less c = omega (arith, c .before .before .before .before .before .before .before .before .next2 .ensures, c .before .before .before .before .before .before .before .before .before .if1 .taken)
+loop-less c = omega (arith, c .before .before .before .before .before .before .before .before .next2 .ensures .0, c .before .before .before .before .before .before .before .before .before .if1 .taken)
 
 loop-again : tie.Need-loop-again Inv-loop μ-loop
-loop-again c = let p = c .before .before .before .before .before .before .before .before .before .before .before .before .before .before .before .before .before .before .before .pre .1 in (search needs, grows-further (c .before .before .before .before .before .before .before .before .before .before .before .loop .inv .1) (over-grows (p .0 .0) (p .0 .1) (p .0 .2) (p .1) (c .before .before .before .before .before .before .before .before .before .if1 .taken) (c .before .before .before .before .before .before .is-marked .ensures .sound (c .before .before .before .before .before .if2 .taken)) (c .before .before .put-over .ensures)))
+loop-again c = let p = c .before .before .before .before .before .before .before .before .before .before .before .before .before .before .before .before .before .before .before .pre .1 in (search needs, grows-further (c .before .before .before .before .before .before .before .before .before .before .before .loop .inv .1) (over-grows p (c .before .before .before .before .before .before .before .before .before .if1 .taken) (c .before .before .before .before .before .before .is-marked .ensures .sound (c .before .before .before .before .before .if2 .taken)) (c .before .before .put-over .ensures)))
 
 loop-less-2 : tie.Need-loop-less-2 Inv-loop μ-loop
-loop-less-2 c = omega (arith, c .before .before .before .next2 .ensures, c .before .before .before .before .if1 .taken)
+loop-less-2 c = omega (arith, c .before .before .before .next2 .ensures .0, c .before .before .before .before .if1 .taken)
 
 loop-again-2 : tie.Need-loop-again-2 Inv-loop μ-loop
 loop-again-2 c = c .before .before .before .before .before .before .loop .inv
 
 put-row-requires : tie.Need-put-row-requires Inv-loop μ-loop
-put-row-requires c κs = (setting-stays (c .before .before .before .before .before .before .loop .inv .1) (c .before .before .before .before .before .before .before .before .before .before .before .before .before .before .pre .0), omega (arith, c .before .before .before .before .before .before .before .before .before .before .before .before .before .before .pre .1 .0 .0))
+put-row-requires c κs = (setting-stays (c .before .before .before .before .before .before .loop .inv .1) (c .before .before .before .before .before .before .before .before .before .before .before .before .before .before .pre .0), omega (arith, c .before .before .before .before .before .before .before .before .before .before .before .before .before .before .pre .1 .is-name))
 
 same-length : tie.Need-same-length Inv-loop μ-loop
 same-length c = search needs

@@ -37,7 +37,7 @@ same-length : tie.Need-same-length
 same-length c = search needs
 
 returns : tie.Need-returns
-returns c = let has = sym (c .before .before .before .before .before .before .before .before .before .before .before .before .before .before .has-name .ensures) ∙ c .before .before .before .before .before .before .before .before .before .before .before .before .before .if1 .taken in grows-further (missing-grows (c .before .before .before .before .before .before .before .before .before .before .before .before .before .before .before .before .before .pre .0) (c .before .before .before .before .before .before .before .before .before .before .before .before .before .before .before .before .before .pre .1) has (empty-zeros 16) (c .before .before .before .before .before .before .before .before .before .before .join .ensures) (c .before .before .before .before .before .before .mark-missing .ensures)) (put-grows (c .before .before .mark .ensures) (record { chosen-name = has; not-second = inl refl }))
+returns c = let has = sym (c .before .before .before .before .before .before .before .before .before .before .before .before .before .before .has-name .ensures) ∙ c .before .before .before .before .before .before .before .before .before .before .before .before .before .if1 .taken in grows-further (missing-grows (c .before .before .before .before .before .before .before .before .before .before .before .before .before .before .before .before .before .pre .0) (c .before .before .before .before .before .before .before .before .before .before .before .before .before .before .before .before .before .pre .1) has (empty-zeros 128) (c .before .before .before .before .before .before .before .before .before .before .join .ensures) (c .before .before .before .before .before .before .mark-missing .ensures)) (put-grows (c .before .before .mark .ensures) (record { chosen-name = has; not-second = inl refl }))
 
 returns-2 : tie.Need-returns-2
 returns-2 c = none

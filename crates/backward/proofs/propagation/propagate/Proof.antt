@@ -13,17 +13,17 @@ use Rattle.backward.proofs.propagation.propagate.Reads as reads
 use Rattle.backward.proofs.propagation.propagate.Lts as lts
 use Rattle.backward.proofs.consequences.deal.Reads as deal-reads
 use Rattle.marks.proofs.waiting.take.Reads as take-reads
-use Rattle.marks.proofs.waiting.wait_for_new.Reads as wait-for-new-reads
+use Rattle.marks.proofs.hints.wait_for_new.Reads as wait-for-new-reads
 
 -- marks put by the rules
 abbrev Inv-loop : tie.InvT-loop
-Inv-loop signature first second first-table second-table work₀ first-chains second-chains waiting₀ layout left₀ work waiting left = (length work ≡ length work₀) × Grows (Step signature first second first-table second-table layout) (markSquare layout) work₀ work
+Inv-loop signature first second first-table second-table work₀ waiting₀ layout left₀ work waiting left = (length work ≡ length work₀) × Grows (Step signature first second first-table second-table layout) (markSquare layout) work₀ work
 
 abbrev μ-loop : tie.MeasureT-loop
-μ-loop signature first second first-table second-table work₀ first-chains second-chains waiting₀ layout left₀ work waiting left = left
+μ-loop signature first second first-table second-table work₀ waiting₀ layout left₀ work waiting left = left
 
 wait-for-new-requires : tie.Need-wait-for-new-requires Inv-loop μ-loop
-wait-for-new-requires c κs = (c .before .before .before .before .before .before .before .before .pre .places .marks, c .before .before .before .before .before .before .before .before .pre .few)
+wait-for-new-requires c κs = c .before .before .before .before .before .before .before .before .pre .places .areas .marks
 
 loop-holds : tie.Need-loop-holds Inv-loop μ-loop
 loop-holds c = (refl, none)

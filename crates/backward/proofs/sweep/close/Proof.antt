@@ -5,54 +5,47 @@ use lib.ListN.{length}
 use Rattle.layout.specs.Layouts.{markSquare}
 use Rattle.marks.specs.Squares.{unset}
 use Rattle.marks.specs.Passes.{Grows, none}
-use Rattle.marks.proofs.Passes.{grows-further, unset-falls, pass-closed}
+use Rattle.marks.proofs.Passes.{grows-further, kept-grows, unset-falls, pass-closed, closed-further}
 use Rattle.backward.specs.Rules.{Step}
-use Rattle.backward.proofs.Tested.{setting-stays}
+use Rattle.backward.proofs.Tested.{setting-stays, setting-kept}
 use Rattle.backward.proofs.sweep.close.Statement.{statement}
 use Rattle.backward.proofs.sweep.close.Tie as tie
 use Rattle.backward.proofs.sweep.close.Reads as reads
 use Rattle.backward.proofs.sweep.close.Lts as lts
-use Rattle.classification.proofs.chains.fill.Reads as fill-reads
 use Rattle.backward.proofs.propagation.propagate.Reads as propagate-reads
 use Rattle.backward.proofs.sweep.pass.Reads as pass-reads
-use Rattle.marks.proofs.waiting.see_all.Reads as see-all-reads
+use Rattle.marks.proofs.hints.see_all.Reads as see-all-reads
 
 -- marks put by the rules
 abbrev Inv-loop : tie.InvT-loop
-Inv-loop signature first second first-table second-table work₀ order layout waiting₀ first-chains second-chains work waiting = (length work ≡ length work₀) × Grows (Step signature first second first-table second-table layout) (markSquare layout) work₀ work
+Inv-loop signature first second first-table second-table work₀ order layout waiting₀ work waiting = (length work ≡ length work₀) × Grows (Step signature first second first-table second-table layout) (markSquare layout) work₀ work
 
 abbrev μ-loop : tie.MeasureT-loop
-μ-loop signature first second first-table second-table work₀ order layout waiting₀ first-chains second-chains work waiting = unset work
-
-fill-requires : tie.Need-fill-requires Inv-loop μ-loop
-fill-requires c κs = (c .before .before .before .before .before .before .before .pre .first-shaped, omega (arith, c .before .before .before .before .before .before .before .pre .few))
-
-fill-requires-2 : tie.Need-fill-requires-2 Inv-loop μ-loop
-fill-requires-2 c κs = (c .before .before .before .before .before .before .before .before .before .pre .second-shaped, omega (arith, c .before .before .before .before .before .before .before .before .before .pre .few))
+μ-loop signature first second first-table second-table work₀ order layout waiting₀ work waiting = unset work
 
 see-all-requires : tie.Need-see-all-requires Inv-loop μ-loop
-see-all-requires c κs = (c .before .before .before .before .before .before .before .before .before .before .before .before .pre .places .marks, c .before .before .before .before .before .before .before .before .before .before .before .before .pre .few)
+see-all-requires c κs = c .before .before .before .before .before .before .before .pre .places .areas .marks
 
 loop-holds : tie.Need-loop-holds Inv-loop μ-loop
 loop-holds c = (refl, none)
 
 pass-requires : tie.Need-pass-requires Inv-loop μ-loop
-pass-requires c κs = setting-stays (c .before .loop .inv .1) (c .before .before .before .before .before .before .before .before .before .before .before .before .before .before .before .pre)
+pass-requires c κs = setting-stays (c .before .loop .inv .1) (setting-kept (c .before .before .before .before .see-all .ensures) (c .before .before .before .before .before .before .before .before .before .before .before .before .pre))
 
 propagate-requires : tie.Need-propagate-requires Inv-loop μ-loop
-propagate-requires c κs = setting-stays (c .before .before .before .before .before .before .before .pass .ensures .grows) (setting-stays (c .before .before .before .before .before .before .before .before .before .loop .inv .1) (c .before .before .before .before .before .before .before .before .before .before .before .before .before .before .before .before .before .before .before .before .before .before .before .pre))
+propagate-requires c κs = setting-stays (c .before .before .before .before .before .pass .ensures .grows) (setting-stays (c .before .before .before .before .before .before .before .loop .inv .1) (setting-kept (c .before .before .before .before .before .before .before .before .before .before .see-all .ensures) (c .before .before .before .before .before .before .before .before .before .before .before .before .before .before .before .before .before .before .pre)))
 
 loop-less : tie.Need-loop-less Inv-loop μ-loop
-loop-less c = omega (arith, unset-falls (c .before .before .propagate .ensures), c .before .before .before .before .before .before .before .before .before .before .pass .ensures .fewer (c .before .before .before .before .before .before .before .if1 .taken))
+loop-less c = omega (arith, unset-falls (c .before .before .propagate .ensures), c .before .before .before .before .before .before .before .before .pass .ensures .fewer (c .before .before .before .before .before .if1 .taken))
 
 loop-again : tie.Need-loop-again Inv-loop μ-loop
-loop-again c = (search needs, grows-further (c .before .before .before .before .before .before .before .before .before .before .before .before .loop .inv .1) (grows-further (c .before .before .before .before .before .before .before .before .before .before .pass .ensures .grows) (c .before .before .propagate .ensures)))
+loop-again c = (search needs, grows-further (c .before .before .before .before .before .before .before .before .before .before .loop .inv .1) (grows-further (c .before .before .before .before .before .before .before .before .pass .ensures .grows) (c .before .before .propagate .ensures)))
 
 same-length : tie.Need-same-length Inv-loop μ-loop
 same-length c = search needs
 
 returns : tie.Need-returns Inv-loop μ-loop
-returns c = pass-closed (c .before .before .before .before .before .loop .inv .1) (c .before .before .before .pass .ensures) (c .if1 .left)
+returns c = closed-further (kept-grows (c .before .before .before .before .before .before .before .before .see-all .ensures)) (pass-closed (c .before .before .before .before .before .loop .inv .1) (c .before .before .before .pass .ensures) (c .if1 .left))
 
 pub close-spec : {M : Type 1} → statement M
 close-spec =
@@ -60,8 +53,6 @@ close-spec =
     (tie.spec
     Inv-loop
     μ-loop
-    fill-requires
-    fill-requires-2
     see-all-requires
     loop-holds
     pass-requires

@@ -36,7 +36,7 @@ same-length : tie.Need-same-length
 same-length c = search needs
 
 returns : tie.Need-returns
-returns c = name-row (c .before .before .before .before .before .before .before .before .before .before .before .before .before .before .before .before .before .pre .0) (c .before .before .before .before .before .before .before .before .before .before .before .before .before .before .before .before .before .pre .1) (sym (c .before .before .before .before .before .before .before .before .before .before .before .before .before .before .has-name .ensures) ∙ c .before .before .before .before .before .before .before .before .before .before .before .before .before .if1 .taken) (empty-zeros 16) (c .before .before .before .before .before .before .before .before .before .before .join .ensures) (c .before .before .before .before .before .before .absorb-missing .ensures) (c .before .before .mark .ensures)
+returns c = name-row (c .before .before .before .before .before .before .before .before .before .before .before .before .before .before .before .before .before .pre .0) (c .before .before .before .before .before .before .before .before .before .before .before .before .before .before .before .before .before .pre .1) (sym (c .before .before .before .before .before .before .before .before .before .before .before .before .before .before .has-name .ensures) ∙ c .before .before .before .before .before .before .before .before .before .before .before .before .before .if1 .taken) (empty-zeros 128) (c .before .before .before .before .before .before .before .before .before .before .join .ensures) (c .before .before .before .before .before .before .absorb-missing .ensures) (c .before .before .mark .ensures)
 
 returns-2 : tie.Need-returns-2
 returns-2 c = pass-none (record { cells = record { at = λ y h. record { marked = λ p. absurd (not-both (p .chosen-name) (sym (c .before .has-name .ensures) ∙ c .if1 .left)) } } })
