@@ -1,33 +1,37 @@
 -- The four squares one after the other, and the result: what each call asks follows from what the calls before it gave.
 --   first-asks, second-asks, both-included         the two classifications, and what they give together
---   forward-asks, forward-apart, backward-asks, all-marked     the marks
+--   forward-asks, forward-below, backward-asks, all-marked     the marks
+--   unchanged, below-room, turned-second, both-still           the second square turned behind its rows
 --   readable, compared                             what writing the result bytes asks; what the comparison gives
-use mathlib.Core.Path.{_≡_, refl, _∙_}
+use mathlib.Core.Path.{_≡_, refl, ap, _∙_}
 use mathlib.Core.List.{List}
 use mathlib.Core.Logic.{inl, inr}
-use Prim.Native.Nat.{ℕ, _+_, _*_, _≤_}
+use Prim.Native.Nat.{ℕ, _+_, _*_, _≤_, _<_}
 use native.Mathlib.Omega.{arith}
 use borrow.Author.Tests.{eqb-true}
 use lib.Dec.{eqb}
-use lib.ListN.{length}
+use lib.ListN.{length, getD}
 use Rattle.el.proofs.Tests.{which}
 use Rattle.release.specs.Files.{mostNames}
 use Rattle.release.proofs.Checks.{header-sound}
 use Rattle.release.proofs.Linked.{no-header-fault}
 use Rattle.signature.specs.Bytes.{signatureFault}
 use Rattle.marks.specs.declared.Square.{Square}
-use Rattle.marks.specs.Squares.{span, Room, Unmarked, Apart, Frame, Zeroed}
-use Rattle.marks.proofs.Squares.{span-size, frame-marked, marked-frame, frame-unmarked, zeroed-unmarked}
+use Rattle.marks.specs.Squares.{span, behind, Room, Area, Unmarked, Touches, Kept, Apart, Frame, Zeroed}
+use Rattle.marks.specs.Inclusions.{Turned}
+use Rattle.marks.proofs.Squares.{span-size, touches-further, frame-marked, marked-frame, frame-unmarked, zeroed-unmarked}
 use Rattle.classification.specs.Inclusions.{Unclassified, Classified}
 use Rattle.classification.proofs.Meaning.{inclusions-stay}
 use Rattle.layout.specs.declared.Layout.{Layout}
 use Rattle.layout.specs.Layouts.{markSquare, Setting}
 use Rattle.layout.specs.Comparing.{Comparing}
 use Rattle.layout.proofs.Comparing.{setting}
+use Rattle.forward.specs.Rules.{Beneath}
 use Rattle.forward.specs.Forward.{ForwardMarked, Forwarded, ForwardFrom}
 use Rattle.backward.specs.Backward.{Backwarded}
 use Rattle.comparison.specs.Bytes.{Readable, Written}
-use Rattle.comparison.specs.Compared.{IsSize, forwardLayout, backwardLayout, squareAt, BothGiven, Given, BothIncluded, AllMarked, Compared}
+use Rattle.comparison.specs.Compared.{IsSize, SecondTurned, forwardLayout, backwardLayout, squareAt, BothGiven, Given, BothIncluded, AllMarked, Compared}
+use Rattle.comparison.proofs.Rows.{two-spans, RowsSame, same-marked, marked-same}
 use Rattle.comparison.proofs.Bytes.{is-byte}
 
 signature-long : (n m : ℕ) (g : List ℕ) → signatureFault n m g ≡ 0 → n + m ≤ length g
@@ -45,17 +49,20 @@ module _ {s t a b : List ℕ} {n : ℕ} {w : List ℕ} (given : BothGiven s t a 
     room-at : (base : ℕ) → base ≤ 3 * k → (v : List ℕ) → length v ≡ length w → Room (squareAt n base) v
     room-at base h v long = record { small = record { few = omega (arith, few); near = omega (arith, e .small) }; fits = omega (arith, span-size n, e .is, given .room) }
 
+    pub area-at : (base : ℕ) → base ≤ 3 * k → (v : List ℕ) → length v ≡ length w → Area (squareAt n base) v
+    area-at base h v long = record { room = room-at base h v long; lent = omega (arith, e .is, given .room); near = omega (arith, e .is, e .small) }
+
     -- inclusions
     module _ {w1 : List ℕ} (z : Zeroed (4 * k) w w1) where
       unmarked-at : (base : ℕ) → base ≤ 3 * k → Unmarked (squareAt n base) w1
       unmarked-at base h = zeroed-unmarked z (omega (arith, span-size n, e .is))
 
       pub first-asks : Unclassified s a (squareAt n 0) w1
-      first-asks = record { release = given .first; names = given .first-names; room = room-at 0 (omega arith) w1 (z .long); unmarked = unmarked-at 0 (omega arith) }
+      first-asks = record { release = given .first; names = given .first-names; area = area-at 0 (omega arith) w1 (z .long); unmarked = unmarked-at 0 (omega arith) }
 
       module _ {w2 : List ℕ} (c : Classified s (squareAt n 0) w1 w2) where
         pub second-asks : Unclassified t b (squareAt n k) w2
-        second-asks = record { release = given .second; names = given .second-names; room = room-at k (omega arith) w2 (c .frame .long ∙ z .long); unmarked = frame-unmarked (c .frame) (inr (omega (arith, span-size n, e .is))) (unmarked-at k (omega arith)) }
+        second-asks = record { release = given .second; names = given .second-names; area = area-at k (omega arith) w2 (c .frame .long ∙ z .long); unmarked = frame-unmarked (c .frame) (inr (omega (arith, span-size n, e .is))) (unmarked-at k (omega arith)) }
 
         module _ {w3 : List ℕ} (d : Classified t (squareAt n k) w2 w3) where
           still-unmarked : (base : ℕ) → 2 * k ≤ base → base ≤ 3 * k → Unmarked (squareAt n base) w3
@@ -70,6 +77,73 @@ module _ {s t a b : List ℕ} {n : ℕ} {w : List ℕ} (given : BothGiven s t a 
             third-unmarked = still-unmarked (2 * k) (omega arith) (omega arith);
             fourth-unmarked = still-unmarked (3 * k) (omega arith) (omega arith);
           }
+
+-- hints behind the first square
+module _ {s t : List ℕ} {n k : ℕ} {w v u : List ℕ} (e : IsSize n k) (b : BothIncluded s t n k w v) (r : Kept (squareAt n 0) v u) where
+  after : (base : ℕ) → k ≤ base → RowsSame (squareAt n base) v u
+  after base h = record { byte = λ i l f. r .extends .frame .past i (omega (arith, e .is)) }
+
+  pub both-kept : BothIncluded s t n k w u
+  both-kept = record {
+    long = r .extends .frame .long ∙ b .long;
+    past = λ i h. r .extends .frame .past i (omega (arith, e .is)) ∙ b .past i h;
+    first = record { sound = λ x y h l m. b .first .sound x y h l (r .marks x y h l m); complete = λ x y h l p. r .extends .stays x y (b .first .complete x y h l p) };
+    second = record { sound = λ x y h l m. b .second .sound x y h l (marked-same (after k (omega arith)) h l m); complete = λ x y h l p. same-marked (after k (omega arith)) h l (b .second .complete x y h l p) };
+    third-unmarked = record { none = λ x y h l m. b .third-unmarked .none x y h l (marked-same (after (2 * k) (omega arith)) h l m) };
+    fourth-unmarked = record { none = λ x y h l m. b .fourth-unmarked .none x y h l (marked-same (after (3 * k) (omega arith)) h l m) };
+  }
+
+-- the second square turned behind its rows
+pub unchanged : {n k : ℕ} {w : List ℕ} → n < 1 → SecondTurned n k w w
+unchanged h = record { long = refl; before = λ i l. refl; past = λ i l. refl; turned = λ l. absurd (omega arith) }
+
+pub below-after : (n k : ℕ) {p : Square} → p ≡ behind (squareAt n k) 1 → k + span n ≤ p .base
+unfolding behind
+below-after n k is = rw is (omega arith)
+
+pub below-names : (n k : ℕ) {p : Square} → p ≡ behind (squareAt n k) 1 → n ≡ p .names
+unfolding behind
+below-names n k is = rw is refl
+
+module _ {n k : ℕ} {w : List ℕ} (few : n ≤ mostNames) (e : IsSize n k) (long : 4 * k ≤ length w) (some : 0 < n) where
+  pub second-area : Area (squareAt n k) w
+  second-area = record { room = record { small = record { few = omega arith; near = omega (arith, e .small) }; fits = omega (arith, span-size n, e .is) }; lent = omega (arith, e .is); near = omega (arith, e .is, e .small) }
+
+  module _ {p : Square} (is : p ≡ behind (squareAt n k) 1) where
+    pub below-room : Room p w
+    unfolding behind
+    below-room = rw is (record { small = record { few = omega arith; near = omega (arith, e .small, e .is, two-spans n some) }; fits = omega (arith, e .is, two-spans n some) })
+
+    pub turned-second : {w1 w2 : List ℕ} → Touches p w w1 → Touches p w1 w2 → Turned (squareAt n k) w2 p w2 → SecondTurned n k w w2
+    unfolding behind
+    turned-second {w1} {w2} c t turned =
+        let all = touches-further c t in
+        let base : p .base ≡ k + 1 * span n = ap (λ (q : Square). q .base) is in
+        let names : p .names ≡ n = ap (λ (q : Square). q .names) is in
+        let rows : span (p .names) ≡ span n = ap span names in
+        record {
+          long = all .long;
+          before = λ i l. all .before i (omega (arith, base));
+          past = λ i l. all .past i (omega (arith, base, rows, e .is, two-spans n some));
+          turned = λ l. rw is at turned;
+        }
+
+module _ {s t : List ℕ} {n k : ℕ} {w v u : List ℕ} (e : IsSize n k) (b : BothIncluded s t n k w v) (r : SecondTurned n k v u) where
+  still : (base : ℕ) → base ≤ k → RowsSame (squareAt n base) v u
+  still base h = record { byte = λ i l f. r .before i (omega arith) }
+
+  later : (base : ℕ) → 2 * k ≤ base → RowsSame (squareAt n base) v u
+  later base h = record { byte = λ i l f. r .past i (omega arith) }
+
+  pub both-still : BothIncluded s t n k w u
+  both-still = record {
+    long = r .long ∙ b .long;
+    past = λ i h. r .past i (omega arith) ∙ b .past i h;
+    first = record { sound = λ x y h l m. b .first .sound x y h l (marked-same (still 0 (omega arith)) h l m); complete = λ x y h l p. same-marked (still 0 (omega arith)) h l (b .first .complete x y h l p) };
+    second = record { sound = λ x y h l m. b .second .sound x y h l (marked-same (still k (omega arith)) h l m); complete = λ x y h l p. same-marked (still k (omega arith)) h l (b .second .complete x y h l p) };
+    third-unmarked = record { none = λ x y h l m. b .third-unmarked .none x y h l (marked-same (later (2 * k) (omega arith)) h l m) };
+    fourth-unmarked = record { none = λ x y h l m. b .fourth-unmarked .none x y h l (marked-same (later (3 * k) (omega arith)) h l m) };
+  }
 
 module _ {g s t a b : List ℕ} {n m k : ℕ} {w : List ℕ} (given : Given g s t a b n m w) (e : IsSize n k) where
   long-enough : n + m ≤ length g
@@ -87,6 +161,7 @@ module _ {g s t a b : List ℕ} {n m k : ℕ} {w : List ℕ} (given : Given g s 
       first-room = room-at (given .both) e 0 (omega arith) w1 (i .long);
       second-room = room-at (given .both) e k (omega arith) w1 (i .long);
       room = room-at (given .both) e (2 * k) (omega arith) w1 (i .long);
+      areas = record { first = area-at (given .both) e 0 (omega arith) w1 (i .long); second = area-at (given .both) e k (omega arith) w1 (i .long); marks = area-at (given .both) e (2 * k) (omega arith) w1 (i .long) };
       first-inclusions = i .first;
       second-inclusions = i .second;
       unmarked = i .third-unmarked;
@@ -97,8 +172,8 @@ module _ {g s t a b : List ℕ} {n m k : ℕ} {w : List ℕ} (given : Given g s 
     pub forward-asks : Setting g a b (forwardLayout n m k) w1
     forward-asks = setting comparing
 
-    pub forward-apart : k + span n ≤ 2 * k
-    forward-apart = comparing .second-apart
+    pub forward-below : {v : List ℕ} → SecondTurned n k v w1 → 1 ≤ n → Beneath (forwardLayout n m k) w1
+    forward-below r some = record { room = below-room (few (given .both)) e (omega (arith, given .both .room, e .is, i .long)) some refl; turned = r .turned some; apart = omega (arith, e .is, two-spans n some) }
 
     module _ {w2 : List ℕ} (f : ForwardFrom g a b (forwardLayout n m k) w1 w2) where
       abbrev forth : Forwarded g s t (forwardLayout n m k) w1 w2
@@ -116,6 +191,7 @@ module _ {g s t a b : List ℕ} {n m k : ℕ} {w : List ℕ} (given : Given g s 
             first-room = room-at (given .both) e 0 (omega arith) w2 long;
             second-room = room-at (given .both) e k (omega arith) w2 long;
             room = room-at (given .both) e (3 * k) (omega arith) w2 long;
+            areas = record { first = area-at (given .both) e 0 (omega arith) w2 long; second = area-at (given .both) e k (omega arith) w2 long; marks = area-at (given .both) e (3 * k) (omega arith) w2 long };
             first-inclusions = inclusions-stay (forth .frame) (inl (omega (arith, span-size n, e .is))) (i .first);
             second-inclusions = inclusions-stay (forth .frame) (inl (omega (arith, span-size n, e .is))) (i .second);
             unmarked = frame-unmarked (forth .frame) (inr (omega (arith, span-size n, e .is))) (i .fourth-unmarked);

@@ -10,14 +10,15 @@
 --                                   0 as far as the four squares go, later bytes as before
 use mathlib.Core.Path.{_≡_}
 use mathlib.Core.List.{List}
-use Prim.Native.Nat.{ℕ, _*_, _≤_, _<_}
+use Prim.Native.Nat.{ℕ, _+_, _*_, _≤_, _<_}
 use lib.ListN.{length, getD}
 use Rattle.el.specs.Comparison.{IsByte}
 use Rattle.release.specs.Files.{namesOf, axiomsOf}
 use Rattle.release.specs.Tables.{Release}
 use Rattle.signature.specs.Bytes.{signatureFault, signatureOf}
 use Rattle.marks.specs.declared.Square.{Square}
-use Rattle.marks.specs.Squares.{size, mostCells, Unmarked}
+use Rattle.marks.specs.Squares.{size, span, mostCells, behind, Unmarked}
+use Rattle.marks.specs.Inclusions.{Turned}
 use Rattle.classification.specs.Inclusions.{Inclusions}
 use Rattle.layout.specs.declared.Layout.{Layout}
 use Rattle.forward.specs.Forward.{ForwardMarked}
@@ -56,6 +57,13 @@ pub record BothIncluded (s t : List ℕ) (n k : ℕ) (w v : List ℕ) : Type 0 w
   pub second : Inclusions t (squareAt n k) v
   pub third-unmarked : Unmarked (squareAt n (2 * k)) v
   pub fourth-unmarked : Unmarked (squareAt n (3 * k)) v
+
+-- the memory w became v: the second square is turned behind its rows, in memory lent for it, and all else is as before
+pub record SecondTurned (n k : ℕ) (w v : List ℕ) : Type 0 where
+  pub long : length v ≡ length w
+  pub before : (i : ℕ) → i < k + span n → getD v i 0 ≡ getD w i 0
+  pub past : (i : ℕ) → 2 * k ≤ i → getD v i 0 ≡ getD w i 0
+  pub turned : 1 ≤ n → Turned (squareAt n k) v (behind (squareAt n k) 1) v
 
 pub record AllMarked (g s t : List ℕ) (n m k : ℕ) (w v : List ℕ) : Type 0 where
   pub long : length v ≡ length w

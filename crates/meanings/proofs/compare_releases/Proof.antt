@@ -1,6 +1,6 @@
 use mathlib.Core.Path.{_≡_, refl}
 use native.Mathlib.Omega.{arith}
-use Rattle.release.proofs.Rows.{zeros-blank}
+use Rattle.release.proofs.Rows.{blank-table}
 use Rattle.meanings.proofs.Promise.{limited, refuses, known, given, compares}
 use borrow.Author.Needs.{needs}
 use Rattle.meanings.proofs.compare_releases.Statement.{statement}
@@ -17,7 +17,7 @@ slice-aggregate-read-release c = search needs
 
 -- src/lib.rt:103:9
 read-release-requires : tie.Need-read-release-requires
-read-release-requires c κs = zeros-blank 508 (omega arith)
+read-release-requires c κs = blank-table
 
 -- src/lib.rt:105:47
 slice-aggregate-read-release-2 : tie.Need-slice-aggregate-read-release-2
@@ -25,7 +25,7 @@ slice-aggregate-read-release-2 c = search needs
 
 -- src/lib.rt:105:9
 read-release-requires-2 : tie.Need-read-release-requires-2
-read-release-requires-2 c κs = zeros-blank 508 (omega arith)
+read-release-requires-2 c κs = blank-table
 
 -- src/lib.rt:106:9
 judge-requires : tie.Need-judge-requires
