@@ -1,7 +1,21 @@
-"""What checking a release file, showing an axiom and building a signature answer by document 01: written apart from
-the library, to confirm the tables refusals.txt, shows.txt and signatures.txt."""
+"""What checking a release file, showing an axiom, rewriting a release and building a signature answer by document 01
+and request 1: written apart from the library, to confirm the tables refusals.txt, shows.txt, rewrites.txt and
+signatures.txt."""
+from typing import NamedTuple
 
 KINDS_WITH_NAMES, KINDS_WITH_ROLE = (1, 2), (3, 4)
+MOST_ROLES = 32
+
+
+class Version(NamedTuple):
+    """What the versions differ in: how many bytes n, a, names and fillers take, the largest n, ⊤ as a filler."""
+    number: int
+    width: int
+    most_names: int
+    everything: int
+
+
+VERSIONS = {1: Version(1, 1, 127, 255), 2: Version(2, 2, 1023, 65535)}
 
 
 class Refused(Exception):
@@ -9,55 +23,71 @@ class Refused(Exception):
 
 
 class Reader:
-    """The bytes after the header, one at a time: 7 where there is none, and then the byte's own range."""
+    """The numbers after the header, one at a time: 7 where there is none or half of one, and then its own range."""
 
-    def __init__(self, file):
-        self.file, self.at = file, 8
+    def __init__(self, file, version):
+        self.file, self.version, self.at = file, version, 6 + 2 * version.width
 
-    def byte(self, number, fits):
-        if self.at >= len(self.file):
+    def number(self, width, refusal, fits):
+        if self.at + width > len(self.file):
             raise Refused(7)
-        value = self.file[self.at]
-        self.at += 1
+        value = int.from_bytes(self.file[self.at:self.at + width], "little")
+        self.at += width
         if not fits(value):
-            raise Refused(number)
+            raise Refused(refusal)
         return value
+
+    def byte(self, refusal, fits):
+        return self.number(1, refusal, fits)
+
+    def name(self, refusal, fits):
+        return self.number(self.version.width, refusal, fits)
 
 
 def header(file):
+    """The version, n, m and a."""
     if len(file) < 8:
         raise Refused(1)
-    version = file[3] + 256 * file[4]
-    n, m, a = file[5:8]
-    for number, holds in ((2, file[:3] == b"ELT"), (3, version == 1), (4, n <= 127), (5, m <= 32), (6, a <= n)):
+    if file[:3] != b"ELT":
+        raise Refused(2)
+    version = VERSIONS.get(file[3] + 256 * file[4])
+    if version is None:
+        raise Refused(3)
+    width = version.width
+    if len(file) < 6 + 2 * width:
+        raise Refused(1)
+    n = int.from_bytes(file[5:5 + width], "little")
+    m = file[5 + width]
+    a = int.from_bytes(file[6 + width:6 + 2 * width], "little")
+    for number, holds in ((4, n <= version.most_names), (5, m <= MOST_ROLES), (6, a <= n)):
         if not holds:
             raise Refused(number)
-    return n, m, a
+    return version, n, m, a
 
 
 def axiom(reader, n, m, before):
     """Left name, kind and conjuncts of the next axiom."""
-    left = reader.byte(9, lambda x: x < n)
+    left = reader.name(9, lambda x: x < n)
     if before is not None and left <= before:
         raise Refused(10)
     kind = reader.byte(8, lambda x: x in KINDS_WITH_NAMES + KINDS_WITH_ROLE)
     conjuncts = []
     if kind in KINDS_WITH_NAMES:
         for _ in range(reader.byte(12, lambda x: 1 <= x <= 16)):
-            name = reader.byte(9, lambda x: x < n)
+            name = reader.name(9, lambda x: x < n)
             if conjuncts and name <= conjuncts[-1]:
                 raise Refused(13)
             conjuncts.append(name)
     else:
         reader.byte(11, lambda x: x < m)
-        reader.byte(9, lambda x: x < n or x == 255)
+        reader.name(9, lambda x: x < n or x == reader.version.everything)
     return left, kind, conjuncts
 
 
 def axioms_of(file):
     """n, m and the axioms of an accepted file, each with the places where it starts and ends."""
-    n, m, a = header(file)
-    reader, axioms = Reader(file), []
+    version, n, m, a = header(file)
+    reader, axioms = Reader(file, version), []
     for _ in range(a):
         start = reader.at
         found = axiom(reader, n, m, axioms[-1][0] if axioms else None)
@@ -91,9 +121,34 @@ def show(first, second, side, name):
     return 1, 0, 0
 
 
+def rewrite(file, wanted, length):
+    """Number, side and the output where the release is rewritten as version `wanted` into so many bytes."""
+    try:
+        n, m, axioms = axioms_of(file)
+    except Refused as refused:
+        return refused.args[0], 1, b""
+    old, new = header(file)[0], VERSIONS[wanted]
+    if n > new.most_names:
+        return 40, 1, b""
+
+    def written(number):
+        return (new.everything if number == old.everything else number).to_bytes(new.width, "little")
+
+    out = b"ELT" + wanted.to_bytes(2, "little") + written(n) + bytes([m]) + written(len(axioms))
+    for left, kind, conjuncts, _, end in axioms:
+        out += written(left) + bytes([kind])
+        if kind in KINDS_WITH_NAMES:
+            out += bytes([len(conjuncts)]) + b"".join(map(written, conjuncts))
+        else:
+            # A role and a filler are the last bytes of such an axiom.
+            filler = int.from_bytes(file[end - old.width:end], "little")
+            out += file[end - old.width - 1:end - old.width] + written(filler)
+    return (41, 0, b"") if length < len(out) else (0, 0, out)
+
+
 def signature(n, m, steps):
     """n and m of the signature that the steps make, and the set of its places that are 1."""
-    n, m = min(n, 127), min(m, 32)
+    n, m = min(n, VERSIONS[2].most_names), min(m, MOST_ROLES)
     names = {number for kind, number in steps if kind == "n" and number < n}
     roles = {n + number for kind, number in steps if kind == "r" and number < m}
     return n, m, names | roles

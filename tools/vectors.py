@@ -4,12 +4,25 @@
 usage: tools/vectors.py FOLDER
 
 FOLDER holds vectors, NAME.jsonl, one JSON object a line with bytes in hex. The cases of the families `refusals`,
-`shows` and `signatures` come from the tables of that name beside this script, and release.py confirms these. Those of the
-family `deep` are made here.
+`shows`, `rewrites` and `signatures` come from the tables of that name beside this script, and release.py confirms these.
+Those of the family `deep` are made here.
 
 A data file is a case after the other. A case is a length of four bytes and that many bytes: its fields, one after the
 other, each again a length of four bytes and that many bytes. A number is a field of one to eight bytes. Numbers and
-lengths have their low byte first.
+lengths have their low byte first. A case has at most 65,536 bytes, which is the room that the program reads it into.
+
+The fields of a case: first what the call is given, then what it answers.
+
+    check, refusals     file; number, side, n, m, a
+    show, shows         first, second, side, name; file that holds the part, its start, the part
+    rewrite, rewrites   file, wanted version, length of the output; number, side, the rewritten file
+    question, deep      file, c, d, length of the work memory; number, side, value, zeros
+    compare             first, second, signature, lengths of the result and the work memory; number, side, result, zeros
+    station             first, second, signature; the text
+    signatures          n, m, steps; n, m, the bytes of the first places, a place more, its byte
+
+Where a call is refused, n, m, a, value and zeros are 0, and the result and the rewritten file have no byte: what is lent
+stays as it was.
 
 A family more from FOLDER is a line more in VECTORS: for each field its key and how it is written.
 """
@@ -25,11 +38,22 @@ TOOLS = pathlib.Path(__file__).resolve().parent
 DATA = TOOLS.parent / "crates" / "examples" / "data"
 
 # How many places of a signature are read one by one: all of the longest, and some beyond.
-PLACES = 176
+PLACES = 1072
+
+# A rewritten file is shorter. An output of more bytes is lent with this many, so that the program needs no more room;
+# what is answered is the same.
+MOST_OUTPUT = 40000
+
+# How many bytes a case may have.
+ROOM = 65536
 
 
 def number(value):
     return value.to_bytes(max(1, (value.bit_length() + 7) // 8), "little")
+
+
+def output(length):
+    return number(min(length, MOST_OUTPUT))
 
 
 def text(value):
@@ -44,6 +68,8 @@ VECTORS = {
                      value=number, zeros=number),
     "compare": dict(first=bytes.fromhex, second=bytes.fromhex, sig=bytes.fromhex, result_len=number, work_len=number,
                     number=number, side=number, result=bytes.fromhex, zeros=number),
+    "rewrite": dict(file=bytes.fromhex, wanted=number, out_len=output, number=number, side=number,
+                    out_file=bytes.fromhex),
     "station": dict(first=bytes.fromhex, second=bytes.fromhex, sig=bytes.fromhex, out=text),
 }
 
@@ -51,9 +77,13 @@ VECTORS = {
 def with_zeros(row):
     """The row with `zeros`, how many bytes of its work memory are zero after the call: none where it is refused."""
     if "work_len" in row:
-        n = bytes.fromhex(row.get("file") or row["first"])[5] if row["number"] == 0 else -1
-        row["zeros"] = 4 * (n + 1) * (n + 1)
+        row["zeros"] = needed(bytes.fromhex(row.get("file") or row["first"])) if row["number"] == 0 else 0
     return row
+
+
+def needed(file):
+    """How many bytes of work memory a call about an accepted release needs."""
+    return 4 * (release.header(file)[1] + 1) ** 2
 
 
 def sized(content):
@@ -62,7 +92,10 @@ def sized(content):
 
 def write(family, cases):
     """Writes the family's data file; a case is the list of its fields."""
-    (DATA / family).write_bytes(b"".join(sized(b"".join(map(sized, case))) for case in cases))
+    cases = [b"".join(map(sized, case)) for case in cases]
+    if max(map(len, cases)) > ROOM:
+        sys.exit(f"{family}: a case has more than {ROOM} bytes")
+    (DATA / family).write_bytes(b"".join(map(sized, cases)))
     print(f"{family}: {len(cases)} cases")
 
 
@@ -85,12 +118,15 @@ def span(word, base):
 
 
 def file_bytes(words):
-    """The bytes that a line of refusals.txt writes."""
+    """The bytes that a line of refusals.txt writes: two digits for a byte, four for two bytes, the low one first."""
     def repeated(match):
-        return " ".join(match[2].replace("@", f"{name:02X}") for name in span(match[1], 16))
+        return " ".join(match[2].replace("@", f"{name:0{digits(match[1])}X}") for name in span(match[1], 16))
+
+    def digits(word):
+        return len(re.split(r"-|\.\.", word)[0])
 
     words = re.sub(r"each (\S+) \((.*?)\)", repeated, words).replace("ELT", "45 4C 54")
-    return bytes(byte for word in words.split() for byte in span(word, 16))
+    return b"".join(value.to_bytes(digits(word) // 2, "little") for word in words.split() for value in span(word, 16))
 
 
 def refusals():
@@ -119,6 +155,23 @@ def shows():
     return cases
 
 
+def rewrites():
+    cases = []
+    for line in table("rewrites"):
+        asked, expected = line.split("=")
+        asked, file = asked.split("|")
+        wanted, length = map(int, asked.split())
+        file, expected = file_bytes(file), expected.split()
+        if expected[0] == "refused":
+            answer = (int(expected[1]), int(expected[2]), b"")
+        else:
+            answer = (0, 0, file_bytes(" ".join(expected)))
+        if release.rewrite(file, wanted, length) != answer:
+            sys.exit(f"rewrites.txt: {line}: {release.rewrite(file, wanted, length)}")
+        cases.append([file, number(wanted), number(length), number(answer[0]), number(answer[1]), answer[2]])
+    return cases
+
+
 def signatures():
     cases = []
     for line in table("signatures"):
@@ -135,25 +188,31 @@ def signatures():
     return cases
 
 
-def circle(kind):
-    """A release with 127 names and one role in which each name is, by this kind, ∃ of the next, and the last of the first."""
-    axioms = b"".join(bytes([name, kind, 0, (name + 1) % 127]) for name in range(127))
-    return b"ELT" + bytes([1, 0, 127, 1, 127]) + axioms
+def circle(kind, version=1, names=127):
+    """A release with one role in which each name is, by this kind, ∃ of the next, and the last of the first."""
+    def written(number):
+        return number.to_bytes(version, "little")
+
+    axioms = b"".join(written(name) + bytes([kind, 0]) + written((name + 1) % names) for name in range(names))
+    return b"ELT" + bytes([version, 0]) + written(names) + bytes([1]) + written(names) + axioms
 
 
-def deep():
-    """Questions with concepts as deep and as long as there can be, about circles; and the two of P10."""
-    top, some = bytes([0]), bytes([3, 0])
-    tops = bytes([2] * 127 + [0] * 128)
-    joined = bytes([2] * 84) + b"".join(bytes([1, name]) for name in range(85))
-
+def deep(version):
+    """Questions with concepts as deep and as long as there can be, about circles; and the two of P10. A name takes one
+    byte in version 1 and two in version 2."""
     def name(number):
-        return bytes([1, number])
+        return bytes([1]) + number.to_bytes(version, "little")
 
     def nested(count, filler):
         return some * count + filler
 
-    defined, stated, anything = circle(4), circle(3), b"ELT" + bytes([1, 0, 1, 1, 1, 0, 4, 0, 255])
+    top, some = bytes([0]), bytes([3, 0])
+    tops = bytes([2] * 127 + [0] * 128)
+    last = {1: 84, 2: 63}[version]
+    joined = bytes([2] * last) + b"".join(map(name, range(last + 1)))
+    defined, stated = circle(4, version), circle(3, version)
+    counts = {1: bytes([1, 1, 1]), 2: bytes([1, 0, 1, 1, 0])}[version]
+    anything = b"ELT" + bytes([version, 0]) + counts + bytes(version) + bytes([4, 0]) + bytes([255] * version)
     asked = [
         # 0 is ∃ of 1, which is ∃ of 2 .., so ∃ 126 times of 126, and ∃ 127 times of something
         (defined, nested(126, name(126)), name(0), 1), (defined, name(0), nested(126, name(126)), 1),
@@ -165,14 +224,43 @@ def deep():
         (defined, nested(126, name(126)), nested(126, name(126)), 1), (stated, nested(126, name(5)), nested(126, name(5)), 1),
         (defined, nested(126, name(126)), nested(126, name(0)), 0), (stated, nested(126, name(5)), nested(127, top), 1),
         (defined, nested(127, top), nested(127, top), 1), (defined, nested(127, top), nested(126, name(0)), 0),
-        # 127 conjunctions, and 84 of 85 names
+        # 127 conjunctions, and as many of names as there is room for
         (defined, tops, tops, 1), (defined, name(0), tops, 1), (defined, tops, name(0), 0), (defined, tops, nested(127, top), 0),
-        (stated, joined, name(84), 1), (stated, joined, name(85), 0), (stated, name(0), joined, 0), (defined, joined, joined, 1),
-        (stated, joined, nested(127, top), 1), (defined, joined, nested(126, name(126)), 1),
+        (stated, joined, name(last), 1), (stated, joined, name(last + 1), 0), (stated, name(0), joined, 0),
+        (defined, joined, joined, 1), (stated, joined, nested(127, top), 1), (defined, joined, nested(126, name(126)), 1),
         # P10
         (anything, nested(1, name(0)), name(0), 1), (anything, name(0), nested(1, name(0)), 0)]
-    return [[file, below, above, number(65536), number(0), number(0), number(value), number(4 * (file[5] + 1) ** 2)]
-            for file, below, above, value in asked]
+    return [answered(file, below, above, 65536, value) for file, below, above, value in asked]
+
+
+def answered(file, below, above, work, value):
+    return [file, below, above, number(work), number(0), number(0), number(value), number(needed(file))]
+
+
+def refused(file, below, above, work, refusal, side):
+    return [file, below, above, number(work), number(refusal), number(side), number(0), number(0)]
+
+
+def wide():
+    """Questions about circles with names beyond a byte, and the work memory that they need: 64 KiB are too little."""
+    cases = []
+    zero, top = bytes([1, 0, 0]), bytes([0])
+    for names in (128, 255, 256, 257):
+        defined, stated = circle(4, 2, names), circle(3, 2, names)
+        last = bytes([1]) + (names - 1).to_bytes(2, "little")
+        beyond = bytes([1]) + names.to_bytes(2, "little")
+        enough = needed(defined)
+        # the last name is ∃ of 0, by a definition or by a rule
+        cases += [
+            answered(defined, bytes([3, 0]) + zero, last, enough, 1), answered(defined, last, bytes([3, 0]) + zero, enough, 1),
+            answered(stated, bytes([3, 0]) + zero, last, enough, 0), answered(stated, last, bytes([3, 0]) + zero, enough, 1),
+            answered(defined, last, zero, enough, 0), answered(defined, last, last, enough, 1),
+            refused(defined, zero, last, enough - 1, 32, 0), refused(defined, zero, last, 65536, 32, 0),
+            refused(defined, beyond, last, enough, 19, 1), refused(defined, last, beyond, enough, 19, 2),
+            # ⊤ is no name, half a name is none, and a name of one byte is half of one
+            refused(defined, bytes([1, 255, 255]), last, enough, 19, 1), refused(defined, last, bytes([1, 0]), enough, 19, 2),
+            refused(defined, bytes([2, 1, 0, 0]), last, enough, 19, 1), answered(defined, bytes([2, 1, 0, 0, 0]), top, enough, 1)]
+    return cases
 
 
 def main():
@@ -182,8 +270,9 @@ def main():
         write(family, vectors(folder, family))
     write("refusals", refusals())
     write("shows", shows())
+    write("rewrites", rewrites())
     write("signatures", signatures())
-    write("deep", deep())
+    write("deep", deep(1) + deep(2) + wide())
 
 
 if __name__ == "__main__":

@@ -9,6 +9,7 @@ mod compare;
 mod memory;
 mod print;
 mod questions;
+mod rewrite;
 mod run;
 mod show;
 mod signatures;
@@ -27,4 +28,6 @@ fn main() {
     run::family(Call::Question, b"deep");
     run::family(Call::Compare, b"compare");
     run::family(Call::Station, b"station");
+    run::family(Call::Rewrite, b"rewrite");
+    run::family(Call::Rewrite, b"rewrites");
 }

@@ -5,6 +5,7 @@ use crate::check;
 use crate::compare;
 use crate::print;
 use crate::questions;
+use crate::rewrite;
 use crate::show;
 use crate::signatures;
 use crate::station;
@@ -20,6 +21,7 @@ pub enum Call {
     Question,
     Compare,
     Station,
+    Rewrite,
 }
 
 // What one turn of reading and trying came to.
@@ -98,6 +100,7 @@ fn judge(call: Call, case: &[u8]) -> Verdict {
         Call::Question => questions::judge(case),
         Call::Compare => compare::judge(case),
         Call::Station => station::judge(case),
+        Call::Rewrite => rewrite::judge(case),
     }
 }
 
@@ -110,5 +113,6 @@ fn fields_of(call: Call) -> usize {
         Call::Question => questions::FIELDS,
         Call::Compare => compare::FIELDS,
         Call::Station => station::FIELDS,
+        Call::Rewrite => rewrite::FIELDS,
     }
 }

@@ -3,6 +3,7 @@ use crate::cases::field;
 use crate::memory;
 use crate::verdict::Verdict;
 use crate::verdict::same_bytes;
+use release::Release;
 use report::Written;
 
 pub const FIELDS: usize = 4;
@@ -13,7 +14,7 @@ const WORK: usize = 65536;
 const OUTPUT: usize = 1024;
 
 pub fn judge(case: &[u8]) -> Verdict {
-    let mut result = [0u8; 127];
+    let mut result = [0u8; Release::NAMES];
     let mut work = [0u8; WORK];
     memory::mark(&mut work);
     let compared = meanings::compare_releases(

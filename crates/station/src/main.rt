@@ -8,13 +8,14 @@ use release::Release;
 use report::Written;
 use report::write_answer;
 
-// One byte more than the longest accepted release: 8 bytes, and 127 axioms of 19. A longer file is refused by these first
-// bytes as by all of it. Every byte that a header or an axiom is read from stands among the first 2,421, so the refusals 1 to
-// 13 come out alike; where none of them holds, bytes are left over in both, and the refusal is 14, whatever they are.
-const RELEASE_BYTES: usize = 2422;
+// One byte more than the longest accepted release, of version 2: 10 bytes, and 1,023 axioms of 36. A longer file is refused by
+// these first bytes as by all of it. Every byte that a header or an axiom is read from stands among the first 36,838, so the
+// refusals 1 to 13 come out alike; where none of them holds, bytes are left over in both, and the refusal is 14, whatever they
+// are.
+const RELEASE_BYTES: usize = 36839;
 
-// One byte more than the longest accepted signature, of 127 names and 32 roles: a longer one is refused 17 by its length.
-const SIGNATURE_BYTES: usize = 160;
+// One byte more than the longest accepted signature, of 1,023 names and 32 roles: a longer one is refused 17 by its length.
+const SIGNATURE_BYTES: usize = 1056;
 
 fn main() {
     let mut first = [0u8; RELEASE_BYTES];
@@ -47,7 +48,8 @@ fn read_file(name: &[u8], room: &mut [u8]) -> usize
 }
 
 // Compares, and writes the report or the refusal to the start of `output`. Answers the text's length, and 0 where the output
-// is too short for it; the longest report, 127 names with a line each, has 800 bytes.
+// is too short for it. The 64 KiB of work memory are enough for 127 names, and more are refused 32; the longest report, 127
+// names with a line each, has 800 bytes.
 fn station(first: &[u8], second: &[u8], chosen: &[u8], output: &mut [u8]) -> usize
     ensures { λ r. ⌜ r ≤ length (now (output .entry)) ⌝ }
 {
