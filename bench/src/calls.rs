@@ -62,10 +62,19 @@ impl Buffers {
 }
 
 impl Call {
+    /// The release files.
+    pub fn files(&self) -> impl Iterator<Item = &[u8]> {
+        let files = match self {
+            Call::Compare { first, second, .. } => [Some(first), Some(second)],
+            Call::Ask { file, .. } => [Some(file), None],
+        };
+        files.into_iter().flatten().map(Vec::as_slice)
+    }
+
     /// How many names the (first) release has.
     pub fn names(&self) -> usize {
         let (Call::Compare { first: file, .. } | Call::Ask { file, .. }) = self;
-        file[5] as usize
+        baseline::names_of(file)
     }
 
     pub fn run(&self, by: Implementation, buffers: &mut Buffers) {

@@ -1,11 +1,14 @@
 //! Measures the proved comparison and question beside a baseline, and checks that both agree.
 //!
 //!     bench vectors FOLDER            the baseline against outside vectors
-//!     bench compare FOLDER            a table of comparisons: the inputs of FOLDER, and practice inputs
-//!     bench question [all]            a table of the worst questions
-//!     bench agree COUNT               both on so many random inputs, whole and damaged, short of memory at times
+//!     bench compare FOLDER [--wide]   a table of comparisons: the inputs of FOLDER, and practice inputs
+//!     bench question [all] [--wide]   a table of the worst questions
+//!     bench agree COUNT [--wide]      both on so many random inputs, whole and damaged, short of memory at times
 //!     bench repeat BY INPUT COUNT FOLDER
 //!                                     one input, COUNT times, by `ours` or `baseline`: for counting instructions
+//!
+//! With --wide the inputs have files of version 2: those of FOLDER/1023, questions with 1,023 names, random ones. Without
+//! it none has, so that a library that refuses version 2 can be measured.
 
 mod agreement;
 mod baseline;
@@ -27,13 +30,16 @@ use std::process::ExitCode;
 
 fn main() -> ExitCode {
     let arguments: Vec<String> = std::env::args().skip(1).collect();
-    let arguments: Vec<&str> = arguments.iter().map(String::as_str).collect();
+    let mut arguments: Vec<&str> = arguments.iter().map(String::as_str).collect();
+    let wide = arguments.contains(&"--wide");
+    arguments.retain(|&argument| argument != "--wide");
     let right = match arguments[..] {
         ["vectors", folder] => vectors::try_all(Path::new(folder)),
+        ["compare", folder] if wide => wide_compare(Path::new(folder)),
         ["compare", folder] => compare(Path::new(folder)),
-        ["question"] => question(false),
-        ["question", "all"] => question(true),
-        ["agree", count] => count.parse().map_or_else(|_| usage(), agreement::try_many),
+        ["question"] => question(false, wide),
+        ["question", "all"] => question(true, wide),
+        ["agree", count] => count.parse().map_or_else(|_| usage(), |count| agreement::try_many(count, wide)),
         ["repeat", by, input, count, folder] => repeat(by, input, count, Path::new(folder)),
         _ => usage(),
     };
@@ -45,15 +51,28 @@ fn main() -> ExitCode {
 }
 
 fn usage() -> bool {
-    eprintln!("bench vectors FOLDER | compare FOLDER | question [all] | agree COUNT");
+    eprintln!("bench vectors FOLDER | compare FOLDER [--wide] | question [all] [--wide] | agree COUNT [--wide]");
     eprintln!("bench repeat ours|baseline INPUT COUNT FOLDER");
     false
 }
 
 /// A table for the inputs of the folder, and one for the practice inputs.
 fn compare(folder: &Path) -> bool {
+    print_tables([("comparison", inputs::from_folder(folder)), ("practice comparison", practice::inputs())])
+}
+
+/// The same with 1,023 names, and what reading such files costs.
+fn wide_compare(folder: &Path) -> bool {
+    let folder = inputs::wide_folder(folder);
+    print_tables([
+        ("comparison, 1,023 names", inputs::from_folder(&folder)),
+        ("comparison refused after reading, 1,023 names", inputs::refused_late(&folder)),
+    ])
+}
+
+fn print_tables(tables: [(&str, Vec<Input>); 2]) -> bool {
     let mut all_agree = true;
-    for (what, inputs) in [("comparison", inputs::from_folder(folder)), ("practice comparison", practice::inputs())] {
+    for (what, inputs) in tables {
         let (rows, agree) = measure::measure_all(&inputs);
         measure::print_heading(what);
         rows.iter().for_each(measure::print_row);
@@ -65,8 +84,9 @@ fn compare(folder: &Path) -> bool {
 }
 
 /// Prints every question, or for each two concepts the release on which ours takes longest.
-fn question(all: bool) -> bool {
-    let (rows, agree) = measure::measure_all(&questions::inputs());
+fn question(all: bool, wide: bool) -> bool {
+    let inputs = if wide { questions::wide_inputs() } else { questions::inputs() };
+    let (rows, agree) = measure::measure_all(&inputs);
     measure::print_heading("question: release/below/above");
     let mut slowest: Vec<&Measured> = Vec::new();
     for row in &rows {
@@ -107,7 +127,11 @@ fn repeat(by: &str, name: &str, count: &str, folder: &Path) -> bool {
 
 fn find(name: &str, folder: &Path) -> Option<Input> {
     let mut inputs = if name.contains('/') {
-        questions::inputs()
+        questions::inputs().into_iter().chain(questions::wide_inputs()).collect()
+    } else if name.starts_with("refused_") {
+        inputs::refused_late(&inputs::wide_folder(folder))
+    } else if name.contains("_1023_") {
+        inputs::from_folder(&inputs::wide_folder(folder))
     } else if name.starts_with("practice_") {
         practice::inputs()
     } else {

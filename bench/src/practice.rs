@@ -2,7 +2,7 @@
 //! made the same at each run.
 
 use crate::calls::Call;
-use crate::inputs::{file_of, Axiom, Input};
+use crate::inputs::{file_of, Axiom, Input, Version};
 
 /// Random numbers that are the same at each run (xorshift).
 pub struct Draws(u64);
@@ -48,12 +48,12 @@ pub struct Practice {
 }
 
 impl Practice {
-    pub fn first_file(&self) -> Vec<u8> {
-        file_of(self.names, self.roles, &self.first)
+    pub fn first_file(&self, version: Version) -> Vec<u8> {
+        file_of(version, self.names, self.roles, &self.first)
     }
 
-    pub fn second_file(&self) -> Vec<u8> {
-        file_of(self.names, self.roles, &self.second)
+    pub fn second_file(&self, version: Version) -> Vec<u8> {
+        file_of(version, self.names, self.roles, &self.second)
     }
 }
 
@@ -91,7 +91,7 @@ pub fn inputs() -> Vec<Input> {
     for form in &FORMS {
         for at in 1..=EACH {
             let practice = practice(form, &mut draws);
-            let (first, second) = (practice.first_file(), practice.second_file());
+            let (first, second) = (practice.first_file(Version::One), practice.second_file(Version::One));
             let call = Call::Compare { first, second, signature: practice.signature };
             inputs.push(Input { name: format!("practice_{}_{at}", form.name), call });
         }
@@ -101,10 +101,10 @@ pub fn inputs() -> Vec<Input> {
 
 pub fn practice(form: &Form, draws: &mut Draws) -> Practice {
     let kinds: Vec<usize> = (0..form.names).map(|_| kind(form, draws)).collect();
-    let pool: Vec<u8> = (0..form.names).filter(|&name| kinds[name] != 2).map(|name| name as u8).collect();
+    let pool: Vec<u16> = (0..form.names).filter(|&name| kinds[name] != 2).map(|name| name as u16).collect();
     let first: Vec<Axiom> = kinds.iter().map(|&kind| axiom(form, kind, &pool, draws)).collect();
     let mut second = first.clone();
-    for _ in 0..form.changes {
+    for _ in 0..if form.names == 0 { 0 } else { form.changes } {
         let name = draws.below(form.names);
         second[name] = axiom(form, changed_kind(kinds[name], draws), &pool, draws);
     }
@@ -147,31 +147,51 @@ pub fn small_form(draws: &mut Draws) -> Form {
     }
 }
 
-/// The bytes of a concept with at most so many ⊓ and ∃ around each other.
-pub fn concept(names: usize, roles: usize, depth: usize, draws: &mut Draws) -> Vec<u8> {
+/// How many names a wide form has, apart from a few: at the ends of a byte and of each version.
+const EDGES: [usize; 5] = [127, 128, 255, 256, 1023];
+
+/// A form for files of version 2: mostly few names, at times none, and at times as many as in `EDGES`. The larger ones
+/// are rarer the longer they take.
+pub fn wide_form(draws: &mut Draws) -> Form {
+    let mut form = small_form(draws);
+    form.names = draws.below(11);
+    form.roles = draws.below(4);
+    if draws.below(40) == 0 {
+        form.names = EDGES[draws.below(EDGES.len() - 1)];
+        form.most_parts = 1 + draws.below(16);
+    } else if draws.below(400) == 0 {
+        form.names = 1023;
+    }
+    form
+}
+
+/// The bytes of a concept with at most so many ⊓ and ∃ around each other, for a release of this version.
+pub fn concept(version: Version, names: usize, roles: usize, depth: usize, draws: &mut Draws) -> Vec<u8> {
+    // Without names or roles it is at times a concept that is refused, with name 0 or role 0.
+    let inner = |draws: &mut Draws| concept(version, names, roles, depth - 1, draws);
     match draws.below(if depth == 0 { 3 } else { 8 }) {
         0 => vec![0],
-        1 | 2 => vec![1, draws.below(names) as u8],
+        1 | 2 => [vec![1], version.number(draws.below(names.max(1)) as u16)].concat(),
         3 | 4 => {
-            let left = concept(names, roles, depth - 1, draws);
-            [vec![2], left, concept(names, roles, depth - 1, draws)].concat()
+            let left = inner(draws);
+            [vec![2], left, inner(draws)].concat()
         }
-        _ => [vec![3, draws.below(roles) as u8], concept(names, roles, depth - 1, draws)].concat(),
+        _ => [vec![3, draws.below(roles.max(1)) as u8], inner(draws)].concat(),
     }
 }
 
-fn axiom(form: &Form, kind: usize, pool: &[u8], draws: &mut Draws) -> Axiom {
+fn axiom(form: &Form, kind: usize, pool: &[u16], draws: &mut Draws) -> Axiom {
     match kind {
         1 | 2 if !pool.is_empty() => {
-            let mut parts: Vec<u8> =
+            let mut parts: Vec<u16> =
                 (0..1 + draws.below(form.most_parts)).map(|_| pool[draws.below(pool.len())]).collect();
             parts.sort();
             parts.dedup();
             Axiom::Conjunction { equal: kind == 2, parts }
         }
-        3 | 4 => {
+        3 | 4 if form.roles > 0 => {
             let filler = draws.below(form.names + 1);
-            let filler = if filler == form.names { None } else { Some(filler as u8) };
+            let filler = if filler == form.names { None } else { Some(filler as u16) };
             Axiom::Some { equal: kind == 4, role: draws.below(form.roles) as u8, filler }
         }
         _ => Axiom::None,

@@ -52,7 +52,7 @@ fn question_agrees(line: &str) -> bool {
     let file = bytes(line, "file");
     let mut work = vec![FILLED; number(line, "work_len")];
     let answer = baseline::ask(&file, &bytes(line, "c"), &bytes(line, "d"), &mut work);
-    let names = file.get(5).map_or(0, |&names| names as usize);
+    let names = baseline::names_of(&file);
     refusal_of(&answer) == refusal(line)
         && answer.unwrap_or(false) as usize == number(line, "value")
         && work_is_right(&work, answer.is_ok(), names)
@@ -73,13 +73,14 @@ fn compare_agrees(line: &str) -> bool {
 
 /// The station program's output: a comparison with 64 KiB of work memory.
 fn station_output(first: &[u8], second: &[u8], signature: &[u8]) -> String {
-    let mut result = [FILLED; 127];
+    let mut result = [FILLED; 1023];
     let mut work = vec![FILLED; 1 << 16];
     if let Err(refusal) = baseline::compare(first, second, signature, &mut result, &mut work) {
         return format!("refused {} side {}\n", refusal.number, refusal.side);
     }
-    let (names, roles) = (first[5], first[6]);
-    let bytes = &result[..names as usize];
+    let names = baseline::names_of(first);
+    let roles = signature.len() - names;
+    let bytes = &result[..names];
     let count = |bit: u8| bytes.iter().filter(|&byte| byte & bit != 0).count();
     let mut output = format!("names {names} roles {roles}\n");
     for (name, &byte) in bytes.iter().enumerate().filter(|(_, &byte)| byte != 0) {
@@ -93,17 +94,38 @@ fn station_agrees(line: &str) -> bool {
     output == field(line, "out").replace("\\n", "\n")
 }
 
-/// Tries every line of the four files and prints how many agree. Gives whether all do.
+/// A release rewritten as the wanted version; what is behind the output stays as it was.
+fn rewrite_agrees(line: &str) -> bool {
+    let file = bytes(line, "file");
+    let mut out = vec![FILLED; number(line, "out_len")];
+    let answer = match number(line, "wanted") {
+        1 => baseline::rewrite_as_first(&file, &mut out),
+        2 => baseline::rewrite_as_second(&file, &mut out),
+        other => panic!("there is no call for version {other}"),
+    };
+    let expected = bytes(line, "out_file");
+    refusal_of(&answer) == refusal(line)
+        && answer.unwrap_or(0) == expected.len()
+        && out.starts_with(&expected)
+        && out[expected.len()..].iter().all(|&byte| byte == FILLED)
+}
+
+/// Tries every line of the files and prints how many agree. Gives whether all do. Vectors from before there was
+/// rewriting have no file for it.
 pub fn try_all(folder: &Path) -> bool {
-    let families: [(&str, fn(&str) -> bool); 4] = [
+    let families: [(&str, fn(&str) -> bool); 5] = [
         ("check", check_agrees),
         ("question", question_agrees),
         ("compare", compare_agrees),
         ("station", station_agrees),
+        ("rewrite", rewrite_agrees),
     ];
     let mut all = true;
     for (family, agrees) in families {
         let path = folder.join(format!("{family}.jsonl"));
+        if family == "rewrite" && !path.exists() {
+            continue;
+        }
         let text = std::fs::read_to_string(&path).unwrap_or_else(|error| panic!("{}: {error}", path.display()));
         let differing: Vec<_> = text.lines().enumerate().filter(|(_, line)| !agrees(line)).collect();
         println!("{family}: {} lines, {} differ", text.lines().count(), differing.len());

@@ -4,34 +4,33 @@
 //! a time. Rows are looked at in an order in which a row tends to come after those it depends on: without it, a long
 //! chain that is numbered the wrong way round would move on by one link at each turn.
 
-use super::bits::{Bits, Rows, NODES};
+use super::bits::{Bits, Fresh, Rows};
 
-pub struct Agenda {
-    pub rows: Rows,
-    fresh: Rows,
+pub struct Agenda<const W: usize> {
+    pub rows: Rows<W>,
+    fresh: Rows<W>,
     /// The places, in the order of looking, of the rows with something fresh.
-    waiting: Bits,
+    waiting: Bits<W>,
     /// The rows that some other row depends on; nothing is done about the others.
-    watched: Bits,
-    row_at: [u8; NODES],
-    place_of: [u8; NODES],
+    watched: Bits<W>,
+    /// The row at each place, and the place of each row.
+    order: Vec<(u16, u16)>,
     place: usize,
 }
 
-impl Agenda {
+impl<const W: usize> Agenda<W> {
     /// Empty rows. `dependents[x]` are the rows that may grow when row x does.
-    pub fn new(dependents: &Rows, nodes: usize) -> Agenda {
+    pub fn new(dependents: &Rows<W>, nodes: usize) -> Agenda<W> {
         let mut agenda = Agenda {
-            rows: [Bits::EMPTY; NODES],
-            fresh: [Bits::EMPTY; NODES],
+            rows: Rows::empty(),
+            fresh: Rows::empty(),
             waiting: Bits::EMPTY,
             watched: Bits::EMPTY,
-            row_at: [0; NODES],
-            place_of: [0; NODES],
+            order: vec![(0, 0); nodes],
             place: 0,
         };
-        for (node, dependent) in dependents.iter().enumerate() {
-            if !dependent.is_empty() {
+        for node in 0..nodes {
+            if !dependents[node].is_empty() {
                 agenda.watched.insert(node);
             }
         }
@@ -39,51 +38,66 @@ impl Agenda {
         agenda
     }
 
-    /// Depth first, last finished first: a row comes before its dependents, circles aside.
-    fn put_in_order(&mut self, dependents: &Rows, nodes: usize) {
-        let mut unseen = Bits::below(nodes);
+    /// Depth first, last finished first: a row comes before its dependents, circles aside. Finished rows fill the places
+    /// from the last one on, and the path takes those from the first one on: a row has left the path when it is finished,
+    /// so there is room for both.
+    fn put_in_order(&mut self, dependents: &Rows<W>, nodes: usize) {
+        let mut unseen = Bits::<W>::below(nodes);
         let mut place = nodes;
-        let mut path = [0u8; NODES];
         while let Some(start) = unseen.next(0) {
             unseen.remove(start);
-            path[0] = start as u8;
+            self.order[0].0 = start as u16;
             let mut depth = 1;
             while depth > 0 {
-                let node = path[depth - 1] as usize;
+                let node = self.order[depth - 1].0 as usize;
                 if let Some(next) = (dependents[node] & unseen).next(0) {
                     unseen.remove(next);
-                    path[depth] = next as u8;
+                    self.order[depth].0 = next as u16;
                     depth += 1;
                 } else {
                     depth -= 1;
                     place -= 1;
-                    self.row_at[place] = node as u8;
-                    self.place_of[node] = place as u8;
+                    self.order[place].0 = node as u16;
+                    self.order[node].1 = place as u16;
                 }
             }
         }
     }
 
-    #[inline]
-    pub fn add(&mut self, row: usize, members: Bits) {
-        let fresh = members - self.rows[row];
-        if fresh.is_empty() {
+    #[inline(always)]
+    pub fn add(&mut self, row: usize, members: &Fresh<W>) {
+        if members.within(&self.rows[row]) {
             return;
         }
-        self.rows[row] |= fresh;
+        self.add_new(row, &members.minus(&self.rows[row]));
+    }
+
+    /// Adds what the row does not have yet.
+    #[inline(always)]
+    pub fn add_new(&mut self, row: usize, fresh: &Fresh<W>) {
+        fresh.add_to(&mut self.rows[row]);
         if self.watched.has(row) {
-            self.fresh[row] |= fresh;
-            self.waiting.insert(self.place_of[row] as usize);
+            fresh.add_to(&mut self.fresh[row]);
+            self.waiting.insert(self.order[row].1 as usize);
+        }
+    }
+
+    /// Adds all of row `from` to row `to`.
+    #[inline(always)]
+    pub fn hand_on(&mut self, from: usize, to: usize) {
+        if !self.rows[from].within(&self.rows[to]) {
+            self.add_new(to, &Fresh::of(self.rows[from] - self.rows[to]));
         }
     }
 
     /// The next row with something fresh, and what it is: onwards from the last one, and round the end.
-    pub fn take(&mut self) -> Option<(usize, Bits)> {
+    #[inline(always)]
+    pub fn take(&mut self) -> Option<(usize, Fresh<W>)> {
         let place = self.waiting.next(self.place).or_else(|| self.waiting.next(0))?;
         self.waiting.remove(place);
         self.place = place;
-        let row = self.row_at[place] as usize;
-        let fresh = self.fresh[row];
+        let row = self.order[place].0 as usize;
+        let fresh = Fresh::of(self.fresh[row]);
         self.fresh[row] = Bits::EMPTY;
         Some((row, fresh))
     }

@@ -1,9 +1,9 @@
 //! Questions: is the concept C below the concept D? Both are turned into sets of nodes from the inside out, so that no
 //! search goes through the edges of a release again for each nesting.
 
-use super::bits::Bits;
+use super::bits::{Bits, Fresh};
 use super::classify::names_with_filler_in;
-use super::file::Release;
+use super::file::{number_at, Release};
 use super::Side;
 
 const LONGEST: usize = 255;
@@ -18,11 +18,13 @@ pub enum Concept {
 }
 
 /// The concept that the bytes hold, as a list with the whole concept first; none where they are not one.
-pub fn read(bytes: &[u8], release: &Release) -> Option<Vec<Concept>> {
+pub fn read<const W: usize>(bytes: &[u8], release: &Release<W>) -> Option<Vec<Concept>> {
     if bytes.len() > LONGEST {
         return None;
     }
-    let mut reader = Reader { bytes, at: 0, release, list: Vec::with_capacity(LONGEST) };
+    let Release { names, roles, version, .. } = *release;
+    let list = Vec::with_capacity(LONGEST);
+    let mut reader = Reader { bytes, at: 0, names, roles, width: version.width, list };
     reader.concept()?;
     (reader.at == bytes.len()).then_some(reader.list)
 }
@@ -30,33 +32,36 @@ pub fn read(bytes: &[u8], release: &Release) -> Option<Vec<Concept>> {
 struct Reader<'a> {
     bytes: &'a [u8],
     at: usize,
-    release: &'a Release,
+    names: usize,
+    roles: usize,
+    /// How many bytes a name takes: as many as in the release's file.
+    width: usize,
     list: Vec<Concept>,
 }
 
 impl Reader<'_> {
-    fn byte(&mut self, limit: usize) -> Option<usize> {
-        let byte = *self.bytes.get(self.at)? as usize;
-        self.at += 1;
-        (byte < limit).then_some(byte)
+    fn number(&mut self, width: usize, limit: usize) -> Option<usize> {
+        let number = number_at(self.bytes, self.at, width)?;
+        self.at += width;
+        (number < limit).then_some(number)
     }
 
     /// Reads a concept and gives its place in the list.
     fn concept(&mut self) -> Option<usize> {
         let place = self.list.len();
-        let form = self.byte(4)?;
+        let form = self.number(1, 4)?;
         self.list.push(Concept::Everything);
         self.list[place] = match form {
             0 => Concept::Everything,
-            1 => Concept::Name(self.byte(self.release.names)?),
+            1 => Concept::Name(self.number(self.width, self.names)?),
             2 => Concept::Both(self.concept()?, self.concept()?),
-            _ => Concept::Some(self.byte(self.release.roles)?, self.concept()?),
+            _ => Concept::Some(self.number(1, self.roles)?, self.concept()?),
         };
         Some(place)
     }
 }
 
-pub fn holds(side: &Side, below: &[Concept], above: &[Concept]) -> bool {
+pub fn holds<const W: usize>(side: &Side<W>, below: &[Concept], above: &[Concept]) -> bool {
     let mut question = Question {
         layers: Vec::with_capacity(LONGEST),
         restrictions: Vec::with_capacity(LONGEST),
@@ -70,10 +75,10 @@ pub fn holds(side: &Side, below: &[Concept], above: &[Concept]) -> bool {
 }
 
 /// C, or the inside of one of its ∃: the names and restrictions that ⊓ joins there.
-struct Layer {
-    names: Bits,
+struct Layer<const W: usize> {
+    names: Bits<W>,
     last_restriction: Option<usize>,
-    names_above: Bits,
+    names_above: Bits<W>,
 }
 
 /// ∃r over an inner layer, and the restriction before it in the same layer.
@@ -83,16 +88,16 @@ struct Restriction {
     before: Option<usize>,
 }
 
-struct Question<'a> {
+struct Question<'a, const W: usize> {
     /// C by layers, inner ones after the outer.
-    layers: Vec<Layer>,
+    layers: Vec<Layer<W>>,
     restrictions: Vec<Restriction>,
     above: &'a [Concept],
     /// The nodes below each concept in D.
-    nodes_below: Vec<Bits>,
+    nodes_below: Vec<Bits<W>>,
 }
 
-impl Question<'_> {
+impl<const W: usize> Question<'_, W> {
     fn new_layer(&mut self) -> usize {
         self.layers.push(Layer { names: Bits::EMPTY, last_restriction: None, names_above: Bits::EMPTY });
         self.layers.len() - 1
@@ -123,7 +128,7 @@ impl Question<'_> {
         std::iter::successors(at(self.layers[layer].last_restriction), move |restriction| at(restriction.before))
     }
 
-    fn find_names_above(&mut self, side: &Side) {
+    fn find_names_above(&mut self, side: &Side<W>) {
         for layer in (0..self.layers.len()).rev() {
             self.layers[layer].names_above = self.names_above(side, layer);
         }
@@ -131,18 +136,18 @@ impl Question<'_> {
 
     /// A conjunction lies below a name by one of its names, or by one of its ∃r.C where the name is defined as ∃r.D and
     /// C lies below D; below a defined conjunction it lies when it lies below all parts, which are not such themselves.
-    fn names_above(&self, side: &Side, layer: usize) -> Bits {
+    fn names_above(&self, side: &Side<W>, layer: usize) -> Bits<W> {
         let release = &side.release;
         let mut found = Bits::one(release.names);
         for name in self.layers[layer].names.members() {
             found |= side.order.above[name];
         }
         for restriction in self.restrictions_of(layer) {
-            let wider = names_with_filler_in(release, self.layers[restriction.inner].names_above);
-            found |= wider & release.with_role[restriction.role] & release.defined_by_some;
+            let wider = names_with_filler_in(release, &Fresh::of(self.layers[restriction.inner].names_above));
+            wider.and(&release.with_role[restriction.role]).and(&release.defined_by_some).add_to(&mut found);
         }
         for conjunction in (release.conjunctions - found).members() {
-            if release.parts[conjunction].within(found) {
+            if release.parts.of(conjunction).all(|part| found.has(part)) {
                 found.insert(conjunction);
             }
         }
@@ -166,7 +171,7 @@ impl Question<'_> {
 }
 
 /// The nodes below each concept in D, from the inside out.
-fn nodes_below(side: &Side, concept: &[Concept]) -> Vec<Bits> {
+fn nodes_below<const W: usize>(side: &Side<W>, concept: &[Concept]) -> Vec<Bits<W>> {
     let mut nodes = vec![side.release.nodes(); concept.len()];
     for place in (0..concept.len()).rev() {
         match concept[place] {
@@ -180,10 +185,10 @@ fn nodes_below(side: &Side, concept: &[Concept]) -> Vec<Bits> {
 }
 
 /// The nodes with an edge of the role into a set.
-fn nodes_with_edge(side: &Side, role: usize, targets: Bits) -> Bits {
+fn nodes_with_edge<const W: usize>(side: &Side<W>, role: usize, targets: Bits<W>) -> Bits<W> {
     let mut nodes = Bits::EMPTY;
     for name in side.release.with_role[role].members() {
-        if targets.has(side.release.filler[name]) {
+        if targets.has(side.release.axiom[name].filler as usize) {
             nodes |= side.order.below[name];
         }
     }
