@@ -6,7 +6,6 @@ use mathlib.Core.Logic.{inl, inr}
 use Prim.Native.Nat.{ℕ, suc, _*_, _+_, _≤_, _<_}
 use native.Mathlib.Omega.{arith}
 use native.Mathlib.Decide.{ℕ-discrete, decLt}
-use lib.ListN.{length, replicate, length-replicate}
 use Rattle.el.proofs.Tests.{Tells, tells-as, always, never, not-both}
 use Rattle.release.specs.Files.{restricts}
 use Rattle.release.specs.Tables.{kindAt, roleAt, fillerAt}
@@ -14,7 +13,6 @@ use Rattle.marks.specs.declared.Square.{Square}
 use Rattle.marks.specs.Lines.{Has, Spans, Empty, Added, NextOutside}
 use Rattle.marks.specs.Squares.{Marked}
 use Rattle.marks.proofs.Squares.{refuted}
-use Rattle.marks.proofs.Lines.{empty-zeros}
 use Rattle.outline.specs.Atoms.{valueAt, ownerAt, childAt}
 use Rattle.points.specs.Grids.{mostRoots, mostNodes, cell, Grid, Set, Adds}
 use Rattle.points.specs.Nodes.{Serves, Leads, Idle, Ranged, NodeReaches, NodeBelow, below-name, below-some, Inclusive, FromNode, OfAtom}
@@ -68,9 +66,6 @@ idle-of e f idle = rw (← e, ← f) idle
 
 pub ranged : {t : List ℕ} {q : Square} {w : List ℕ} → Inclusive t q w → Ranged (q .names) t
 ranged h = record { rows = h .rows; fillers = λ x l r. omega (arith, h .few, h .fillers x l r); few = h .few }
-
-pub idle-zeros : {t : List ℕ} {n : ℕ} {l : List ℕ} {r j : ℕ} → n < mostNodes → Idle t n l r j (replicate 128 0)
-idle-zeros h = idle-end (idle-none (record { inside = omega (arith, length-replicate {A = ℕ} 128 0) }) (empty-zeros 128))
 
 -- no name before
 pub record NoneBefore (t : List ℕ) (q : Square) (w l : List ℕ) (x r j e : ℕ) : Type 0 where

@@ -1,7 +1,8 @@
 // The nodes that do not lie below an atom of a concept: its row loses them.
 ghost use mathlib.Core.Path.{_≡_};
 ghost use mathlib.Core.Bool.{true};
-ghost use Prim.Native.Nat.{_≤_, _<_};
+ghost use Prim.Native.Nat.{_+_, _*_, _≤_, _<_};
+ghost use lib.ListN.{length};
 ghost use Rattle.el.proofs.Tests.{Tells};
 ghost use Rattle.release.specs.Files.{restricts};
 ghost use Rattle.release.specs.Tables.{kindAt, fillerAt, HasRow};
@@ -76,6 +77,28 @@ fn find_idle(table: &[u16], names: usize, lost: &[u8], idle: &mut [u8], role: us
         }
         line::add(idle, b);
     }
+}
+
+// The same for atom i, where it is an ∃.
+pub fn find_idle_of(
+    table: &[u16],
+    names: usize,
+    atoms: &[u16],
+    lost: &[u8],
+    idle: &mut [u8],
+    i: usize,
+)
+    requires { ⌜ Ranged names (now table) × Grid (now lost) ⌝ }
+    requires { ⌜ Spans names (now idle) × Empty (now idle) ⌝ }
+    requires { ⌜ (3 * i + 3 ≤ length (now atoms)) × (childAt (now atoms) i < mostRoots) ⌝ }
+    ensures { λ _. ⌜ (0 < childAt (now (atoms .entry)) i → Idle (now (table .entry)) names (now (lost .entry)) (valueAt (now (atoms .entry)) i) (childAt (now (atoms .entry)) i) (now (idle .exit))) ⌝ }
+{
+    let filler = child(atoms, i);
+    if filler == 0 {
+        return;
+    }
+    let role = value(atoms, i);
+    find_idle(table, names, lost, idle, role, filler);
 }
 
 // Whether the node x lies below ∃ of the role over root j, of which row j has lost all nodes that do not lie below it. Only names above x are
@@ -166,12 +189,6 @@ pub fn lose_nodes(
     ensures { λ _. ⌜ NodesLost (now (table .entry)) square (now (work .entry)) (now (atoms .entry)) i (now (lost .entry)) (now (lost .exit)) ⌝ }
 {
     let mut idle = [0u8; Line::LENGTH];
-    let filler = child(atoms, i);
-    let role = value(atoms, i);
-    if filler == 0 {
-        lose_nodes_but(table, work, square, atoms, lost, &idle, i);
-        return;
-    }
-    find_idle(table, square.names, lost, &mut idle, role, filler);
+    find_idle_of(table, square.names, atoms, lost, &mut idle, i);
     lose_nodes_but(table, work, square, atoms, lost, &idle, i);
 }

@@ -1,9 +1,12 @@
 // The roots of a concept C that do not lie below an atom of a concept D: its row loses them.
 ghost use Prim.Native.Nat.{_≤_, _<_};
 ghost use Rattle.el.proofs.Tests.{Tells};
+ghost use Rattle.outline.specs.Atoms.{valueAt, childAt};
+ghost use Rattle.points.specs.Nodes.{Idle};
 ghost use Rattle.points.specs.Roots.{AtomReaches, RootReaches, RootBelowAtom, FromRoot, FromRoots, OfAtom, RootsLost};
 use crate::above::is_above;
 use crate::is_set;
+use crate::nodes::find_idle_of;
 use crate::nodes::node_reaches;
 use crate::set;
 use marks::Square;
@@ -21,18 +24,19 @@ fn atom_reaches(
     atoms: &[u16],
     nodes: &[u8],
     lost: &[u8],
+    idle: &[u8],
     i: usize,
     role: usize,
     j: usize,
 ) -> bool
     requires { ⌜ FromRoot (now table) square (now work) (now atoms) (now nodes) (now lost) i j ⌝ }
+    requires { ⌜ Idle (now table) (square .names) (now nodes) role j (now idle) ⌝ }
     ensures { λ r. ⌜ Tells r (AtomReaches (now (table .entry)) square (now (work .entry)) (now (atoms .entry)) (now (nodes .entry)) (now (lost .entry)) i role j) ⌝ }
 {
     let filler = child(atoms, i);
     let name = value(atoms, i);
     if filler == 0 {
-        let idle = [0u8; Line::LENGTH];
-        return node_reaches(table, work, square, nodes, &idle, name, role, j);
+        return node_reaches(table, work, square, nodes, idle, name, role, j);
     }
     if is_set(lost, j, filler) {
         return false;
@@ -49,11 +53,13 @@ fn root_reaches(
     extent: Extent,
     nodes: &[u8],
     lost: &[u8],
+    idle: &[u8],
     k: usize,
     role: usize,
     j: usize,
 ) -> bool
     requires { ⌜ FromRoots (now table) square (now work) (now atoms) extent (now nodes) (now lost) j ⌝ }
+    requires { ⌜ Idle (now table) (square .names) (now nodes) role j (now idle) ⌝ }
     ensures { λ r. ⌜ Tells r (RootReaches (now (table .entry)) square (now (work .entry)) (now (atoms .entry)) (extent .atoms) (now (nodes .entry)) (now (lost .entry)) k role j) ⌝ }
 {
     let mut next: usize = 0;
@@ -61,7 +67,7 @@ fn root_reaches(
         let i = next;
         next += 1;
         if owner(atoms, i) == k {
-            if atom_reaches(table, work, square, atoms, nodes, lost, i, role, j) {
+            if atom_reaches(table, work, square, atoms, nodes, lost, idle, i, role, j) {
                 return true;
             }
         }
@@ -81,11 +87,13 @@ fn root_below(
     atoms: &[u16],
     nodes: &[u8],
     lost: &[u8],
+    idle: &[u8],
     i: usize,
     k: usize,
 ) -> bool
     requires { ⌜ OfAtom (now file) (now table) square (now work) (now below) extent (now above) (now atoms) (now nodes) (now lost) i ⌝ }
     requires { ⌜ k < extent .roots ⌝ }
+    requires { ⌜ (0 < childAt (now atoms) i → Idle (now table) (square .names) (now nodes) (valueAt (now atoms) i) (childAt (now atoms) i) (now idle)) ⌝ }
     ensures { λ r. ⌜ Tells r (RootBelowAtom (now (file .entry)) (now (table .entry)) square (now (work .entry)) (now (below .entry)) (extent .atoms) (now (above .entry)) (now (atoms .entry)) (now (nodes .entry)) (now (lost .entry)) i k) ⌝ }
 {
     let filler = child(atoms, i);
@@ -101,14 +109,15 @@ fn root_below(
         extent,
         nodes,
         lost,
+        idle,
         k,
         name,
         filler,
     )
 }
 
-// Takes the roots of C that do not lie below atom i of D from the row of its owner.
-pub fn lose_roots(
+// Takes the roots of C that do not lie below atom i of D from the row of its owner, given a line of names by which none does.
+fn lose_roots_but(
     file: &[u8],
     table: &[u16],
     work: &[u8],
@@ -119,9 +128,11 @@ pub fn lose_roots(
     atoms: &[u16],
     nodes: &[u8],
     lost: &mut [u8],
+    idle: &[u8],
     i: usize,
 )
     requires { ⌜ OfAtom (now file) (now table) square (now work) (now below) extent (now above) (now atoms) (now nodes) (now lost) i ⌝ }
+    requires { ⌜ (0 < childAt (now atoms) i → Idle (now table) (square .names) (now nodes) (valueAt (now atoms) i) (childAt (now atoms) i) (now idle)) ⌝ }
     ensures { λ _. ⌜ RootsLost (now (file .entry)) (now (table .entry)) square (now (work .entry)) (now (below .entry)) extent (now (above .entry)) (now (atoms .entry)) (now (nodes .entry)) i (now (lost .entry)) (now (lost .exit)) ⌝ }
 {
     let row = owner(atoms, i);
@@ -140,10 +151,46 @@ pub fn lose_roots(
             atoms,
             nodes,
             lost,
+            idle,
             i,
             k,
         ) {} else {
             set(lost, row, k);
         }
     }
+}
+
+// The same, with that line found once for all roots.
+pub fn lose_roots(
+    file: &[u8],
+    table: &[u16],
+    work: &[u8],
+    square: Square,
+    below: &[u16],
+    extent: Extent,
+    above: &[u8],
+    atoms: &[u16],
+    nodes: &[u8],
+    lost: &mut [u8],
+    i: usize,
+)
+    requires { ⌜ OfAtom (now file) (now table) square (now work) (now below) extent (now above) (now atoms) (now nodes) (now lost) i ⌝ }
+    ensures { λ _. ⌜ RootsLost (now (file .entry)) (now (table .entry)) square (now (work .entry)) (now (below .entry)) extent (now (above .entry)) (now (atoms .entry)) (now (nodes .entry)) i (now (lost .entry)) (now (lost .exit)) ⌝ }
+{
+    let mut idle = [0u8; Line::LENGTH];
+    find_idle_of(table, square.names, atoms, nodes, &mut idle, i);
+    lose_roots_but(
+        file,
+        table,
+        work,
+        square,
+        below,
+        extent,
+        above,
+        atoms,
+        nodes,
+        lost,
+        &idle,
+        i,
+    );
 }

@@ -1,6 +1,5 @@
 use native.Mathlib.Omega.{arith}
 use mathlib.Core.Path.{sym, _∙_}
-use Rattle.points.proofs.LosingNodes.{idle-zeros}
 use Rattle.points.proofs.LosingRoots.{reaches-as-name, root-is-lost, root-is-kept}
 use borrow.Author.Needs.{needs}
 use Rattle.points.proofs.roots.atom_reaches.Statement.{statement}
@@ -20,17 +19,13 @@ child-requires c κs = search needs
 value-requires : tie.Need-value-requires
 value-requires c κs = search needs
 
--- src/roots.rt:35:57
-slice-aggregate-node-reaches : tie.Need-slice-aggregate-node-reaches
-slice-aggregate-node-reaches c = search needs
-
 -- src/roots.rt:35:9
 node-reaches-requires : tie.Need-node-reaches-requires
-node-reaches-requires c κs = let p = c .before .before .before .before .before .before .before .before .before .pre in (record { inclusive = p .inclusive; grid = p .nodes; node = omega (arith, c .before .before .value .ensures, p .named (sym (c .before .before .before .child .ensures) ∙ c .before .if1 .taken)); row = p .row }, idle-zeros (p .inclusive .few))
+node-reaches-requires c κs = let p = c .before .before .before .before .before .before .before .before .before .pre in (record { inclusive = p .0 .inclusive; grid = p .0 .nodes; node = omega (arith, c .before .value .ensures, p .0 .named (sym (c .before .before .child .ensures) ∙ c .if1 .taken)); row = p .0 .row }, p .1)
 
 -- src/roots.rt:35:9
 returns : tie.Need-returns
-returns c = reaches-as-name (sym (c .before .before .before .before .child .ensures) ∙ c .before .before .if1 .taken) (c .before .before .before .value .ensures) (c .node-reaches .ensures)
+returns c = reaches-as-name (sym (c .before .before .before .child .ensures) ∙ c .before .if1 .taken) (c .before .before .value .ensures) (c .node-reaches .ensures)
 
 -- src/roots.rt:37:8
 is-set-requires : tie.Need-is-set-requires
@@ -50,7 +45,6 @@ atom-reaches-spec =
     (tie.spec
     child-requires
     value-requires
-    slice-aggregate-node-reaches
     node-reaches-requires
     returns
     is-set-requires

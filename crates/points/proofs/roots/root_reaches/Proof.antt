@@ -11,10 +11,10 @@ use Rattle.outline.proofs.owner.Reads as owner-reads
 use Rattle.points.proofs.roots.atom_reaches.Reads as atom-reaches-reads
 
 abbrev Inv-loop : tie.InvT-loop
-Inv-loop table work square atoms extent nodes lost k role j next₀ next = (next ≤ extent .atoms) × NoneBefore table square work atoms nodes lost k role j next
+Inv-loop table work square atoms extent nodes lost idle k role j next₀ next = (next ≤ extent .atoms) × NoneBefore table square work atoms nodes lost k role j next
 
 abbrev μ-loop : tie.MeasureT-loop
-μ-loop table work square atoms extent nodes lost k role j next₀ next = extent .atoms - next
+μ-loop table work square atoms extent nodes lost idle k role j next₀ next = extent .atoms - next
 
 loop-holds : tie.Need-loop-holds Inv-loop μ-loop
 loop-holds c = (omega arith, none-start)
@@ -23,10 +23,10 @@ add-next : tie.Need-add-next Inv-loop μ-loop
 add-next c = omega arith
 
 owner-requires : tie.Need-owner-requires Inv-loop μ-loop
-owner-requires c κs = record { inside = omega (arith, c .before .before .before .before .before .before .before .before .pre .inside, c .if1 .taken) }
+owner-requires c κs = record { inside = omega (arith, c .before .before .before .before .before .before .before .before .before .pre .0 .inside, c .if1 .taken) }
 
 atom-reaches-requires : tie.Need-atom-reaches-requires Inv-loop μ-loop
-atom-reaches-requires c κs = from-root (c .before .before .before .before .before .before .before .before .before .before .pre) (c .before .before .if1 .taken)
+atom-reaches-requires c κs = (from-root (c .before .before .before .before .before .before .before .before .before .before .before .pre .0) (c .before .before .if1 .taken), c .before .before .before .before .before .before .before .before .before .before .before .pre .1)
 
 returns : tie.Need-returns Inv-loop μ-loop
 returns c = one-found (c .before .before .before .before .if1 .taken) (c .before .before .before .owner .ensures) (c .before .before .if2 .taken) (c .before .atom-reaches .ensures) (c .if3 .taken)
