@@ -1,5 +1,5 @@
 // What the new marks of a row give: marks put at the cells that depend on them, each as a rule allows. A row that gets one waits.
-// Where to look is read from chains and lines that are only hints, so each rule is tested at its cell.
+// Where to look is read from hints and lines of which nothing is said, so each rule is tested at its cell.
 ghost use Prim.Native.Nat.{_≤_};
 ghost use Rattle.marks.specs.Squares.{Room, Area, Kept};
 ghost use Rattle.marks.specs.Passes.{Grows, FromRow};
