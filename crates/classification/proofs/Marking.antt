@@ -173,9 +173,6 @@ taking-grows g = grows-as (λ u x y k i j f. taking-step f) g
 pub taking-pass : {s t : List ℕ} {q : Square} {D : List ℕ → Type 0} {w v : List ℕ} {r : Bool} → Pass (Taking q q) q D w v r → Pass (Step s t q) q D w v r
 taking-pass p = pass-by (λ u x y k i j f. taking-step f) p
 
-pub conjunct-small : {n : ℕ} {s t : List ℕ} {b i y : ℕ} → Conjunctive n s t b → i < countAt s t b → y ≡ partAt s t b i → y < n
-conjunct-small {b = b} {i = i} h l e = omega (arith, e, h .shaped .part b i (h .is-name) (h .is-conjunction) l)
-
 -- columns
 pub seeded-source : {s t : List ℕ} {q : Square} {w : List ℕ} {x : ℕ} → SeededSetting s t q w → x < q .names → Source s t q w x x
 seeded-source {x = x} h l = record { in-row = record { setting = h .setting; row = omega arith; name = l }; marked = h .seeded .at x (omega arith) .itself }

@@ -1,6 +1,5 @@
 -- "A concept in a question is 1 to 255 bytes: 0 is ⊤; 1 and a name; 2 and two concepts; 3, a role and a concept." A name has as many bytes as
 -- the release that is asked says, 1 or 2, low byte first. Kinds and roles are one byte.
---   IsWidth w                the bytes of a name: 1 or 2
 --   number w s               the number of the first w bytes of s
 --   Spelled w c s t          s begins with the bytes of the concept c, its names of w bytes, and t follows them
 --   isWithin n m c           the names of c are below n and its roles below m
@@ -15,10 +14,6 @@ use lib.Dec.{eqb, ltb, leb}
 use lib.ListN.{length, drop}
 use Rattle.el.specs.Lists.{pick}
 use Rattle.el.specs.Concepts.{Concept, top, name, both, some}
-
-pub record IsWidth (w : ℕ) : Type 0 where
-  pub least : 1 ≤ w
-  pub most : w ≤ 2
 
 abbrev pub number : ℕ → List ℕ → ℕ
 number zero s = 0

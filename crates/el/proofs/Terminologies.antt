@@ -15,7 +15,7 @@ use Rattle.el.specs.Axioms.{Axiom, rightOf, isConjunction, partsOf, role
 use Rattle.el.specs.Derivability.{Derives, same, to-top, one, other, meet, under, stated, defined}
 use Rattle.el.specs.Interpretations.{Interpretation, sat, Model}
 use Rattle.el.proofs.Tests.{which, not-both}
-use Rattle.el.proofs.Derivations.{_▹_, Serves, Joins, Fills, Restricts, right-conjunction, right-restriction, fills-by, to-part, from-parts, to-filler, from-filler, has-part}
+use Rattle.el.proofs.Derivations.{_▹_, Serves, Joins, Fills, Restricts, right-conjunction, right-restriction, fills-by, to-part, to-filler, from-filler, has-part}
 use Rattle.el.proofs.Soundness.{sound}
 use Rattle.el.proofs.CanonicalModel.{Within, itself, in-one, in-other, within-derives, within-one, within-other, within-some, Edge, written, implied, edge-derives, canonical, names-hold, hold-names, within-holds, derives-holds, inversion}
 
@@ -160,10 +160,6 @@ below-not-joined terms not-joined p = one-of-not-joined (below-name terms p) not
 pub one-below-derives : {al : List Axiom} {c : Concept} {x : ℕ} → OneBelow al c x → Derives al c (name x)
 one-below-derives (name-below w p) = within-derives w ▹ p
 one-below-derives (some-below a-in fills e w p) = within-derives w ▹ rw e at (from-filler a-in fills p)
-
-pub parts-below-derives : {al : List Axiom} {c : Concept} {x : ℕ} → PartsBelow al c x → Derives al c (name x)
-parts-below-derives (at-once l) = one-below-derives l
-parts-below-derives (each-part a-in joins e f) = rw e at (from-parts a-in joins (λ z z-in. one-below-derives (f z z-in)))
 
 -- ∃r.d by one conjunct of c
 pub data OneBelowSome (al : List Axiom) (c : Concept) (r : ℕ) (d : Concept) : Type 0 where

@@ -67,9 +67,6 @@ frame-room f r = record { small = r .small; fits = omega (arith, r .fits, f .lon
 pub frame-area : {p q : Square} {w v : List ℕ} → Frame q w v → Area p w → Area p v
 frame-area f a = record { room = frame-room f (a .room); lent = omega (arith, a .lent, f .long); near = a .near }
 
-pub frame-lent : {p q : Square} {w v : List ℕ} → Frame q w v → Lent p w → Lent p v
-frame-lent f l = record { area = frame-area f (l .area); roomy = l .roomy }
-
 pub frame-same : {q : Square} {w : List ℕ} → Frame q w w
 frame-same = record { long = refl; before = λ i h. refl; past = λ i h. refl }
 

@@ -15,7 +15,8 @@ use lib.Seq.{drop-cons, drop-drop, getD-set-same, getD-set-other}
 use Rattle.el.specs.Concepts.{Concept, top, name, both, some}
 use Rattle.el.specs.Axioms.{Axiom}
 use Rattle.el.proofs.Tests.{and-left, and-right}
-use Rattle.concept.specs.Bytes.{IsWidth, number, Spelled, is-top, is-name, is-both, is-some, isWithin, IsTextOf}
+use Rattle.release.specs.Tables.{IsWidth}
+use Rattle.concept.specs.Bytes.{number, Spelled, is-top, is-name, is-both, is-some, isWithin, IsTextOf}
 use Rattle.outline.specs.declared.Extent.{Extent}
 use Rattle.outline.specs.Atoms.{HasAtom, putAtom, Atom, atomsFrom, Shape, Same, Outlined, Outlinable}
 use Rattle.outline.proofs.Roots.{Pending, awaits, atom, Reads, done, read-top, read-name, read-both, read-some, OwnersBelow, owners-more, reads-mean, pendingOf, same-chain, same-without-top}

@@ -15,7 +15,8 @@ use Rattle.el.specs.Lists.{pick}
 use Rattle.el.specs.Concepts.{Concept, top, name, both, some}
 use Rattle.el.specs.Axioms.{Axiom}
 use Rattle.el.specs.Derivability.{Derives}
-use Rattle.concept.specs.Bytes.{IsWidth, IsTextOf}
+use Rattle.release.specs.Tables.{IsWidth}
+use Rattle.concept.specs.Bytes.{IsTextOf}
 use Rattle.outline.specs.declared.Extent.{Extent}
 
 unfoldable pub valueAt : List ℕ → ℕ → ℕ

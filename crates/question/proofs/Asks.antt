@@ -20,7 +20,7 @@ use Rattle.release.specs.declared.Refusal.{Refusal}
 use Rattle.release.proofs.Checks.{header-sound}
 use Rattle.release.proofs.Numbers.{is-width}
 use Rattle.release.proofs.Linked as linked
-use Rattle.concept.specs.Bytes.{IsWidth, conceptOk, IsTextOf}
+use Rattle.concept.specs.Bytes.{conceptOk, IsTextOf}
 use Rattle.concept.proofs.Texts.{accepted-is-text}
 use Rattle.marks.specs.declared.Square.{Square}
 use Rattle.marks.specs.Squares.{size, Room, Area, Zeroed, Frame}
@@ -35,9 +35,6 @@ use Rattle.question.specs.Asking.{conceptIn, textOk, refusalNumber, refu
 
 pub few-names : (s : List ℕ) → fault s ≡ 0 → namesOf s < mostNodes
 few-names s ok = omega (arith, header-sound s (linked.no-header-fault s ok) .names)
-
-pub in-width : (s : List ℕ) → IsWidth (widthOf s)
-in-width s = let w = is-width s in record { least = w .some; most = w .few }
 
 pub short-width : (s : List ℕ) → length s < 4 → 2 ≡ widthOf s
 unfolding widthOf
@@ -66,7 +63,7 @@ module _ {s t : List ℕ} {width : ℕ} {c d w : List ℕ} {n cells : ℕ} (give
   pub to-decide : {v u : List ℕ} → Zeroed cells w v → Classified s (record { base = 0; names = n }) v u → ToDecide s t (record { base = 0; names = n }) u width c d
   to-decide zeroed classified = record {
     world = record { release = given .release; names = given .names; few = few; room = room-in (classified .frame .long ∙ zeroed .long); inclusions = classified .inclusions };
-    is-width = rw (given .width-is) (in-width s);
+    is-width = rw (given .width-is) (is-width s);
     roles = rolesOf s;
     below = conceptIn s c;
     above = conceptIn s d;

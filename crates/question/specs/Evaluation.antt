@@ -12,8 +12,8 @@ use Rattle.el.specs.Concepts.{Concept, name, conceptOf}
 use Rattle.el.specs.Axioms.{Axiom}
 use Rattle.el.specs.Derivability.{Derives}
 use Rattle.release.specs.Files.{namesOf, axiomsOf}
-use Rattle.release.specs.Tables.{kindAt, Release}
-use Rattle.concept.specs.Bytes.{IsWidth, IsTextOf}
+use Rattle.release.specs.Tables.{IsWidth, kindAt, Release}
+use Rattle.concept.specs.Bytes.{IsTextOf}
 use Rattle.marks.specs.declared.Square.{Square}
 use Rattle.marks.specs.Squares.{Room}
 use Rattle.marks.specs.Lines.{Empty}

@@ -14,7 +14,7 @@ use lib.ListN.{length, getD, drop, length-append}
 use lib.Seq.{drop-cons}
 use Rattle.release.specs.Files.{number, numbers, mark, startsWith, versionOf, widthOf, topNumber, firstPlace, namesOf, rolesOf, countOf, joins, fillerNode, rightAt, axiomAt, axiomLength, axiomsFrom, axiomsOf, fault}
 use Rattle.release.specs.Tables.{kindOf, here, there}
-use Rattle.release.proofs.Numbers.{width-1, width-2}
+use Rattle.release.proofs.Numbers.{version-1-width, version-2-width}
 use Rattle.release.proofs.Checks.{Header, header-sound}
 use Rattle.release.proofs.Linked.{no-header-fault}
 use Rattle.rewriting.specs.Bytes.{Bytes, numberBytes, namesBytes, fillerNumber, tailBytes, axiomBytes, axiomsBytes, releaseBytes}
@@ -121,12 +121,11 @@ module _ (s : List ℕ) (bytes : Bytes s) where
     w = widthOf s
 
     pub version-width : versionOf s ≡ w
-    unfolding number
     version-width = by-version (or-either (eqb (versionOf s) 1) (eqb (versionOf s) 2) (header .version))
       where
         by-version : (eqb (versionOf s) 1 ≡ true) ⊎ (eqb (versionOf s) 2 ≡ true) → versionOf s ≡ widthOf s
-        by-version (inl e) = let f : versionOf s ≡ 1 = eqb-true (versionOf s) 1 e in f ∙ width-1 s (omega arith)
-        by-version (inr e) = let f : versionOf s ≡ 2 = eqb-true (versionOf s) 2 e in f ∙ width-2 s (λ z. omega arith)
+        by-version (inl e) = let f : versionOf s ≡ 1 = eqb-true (versionOf s) 1 e in f ∙ sym (version-1-width s f)
+        by-version (inr e) = let f : versionOf s ≡ 2 = eqb-true (versionOf s) 2 e in f ∙ sym (version-2-width s f)
 
     version-at : At s 3 (numberBytes 2 w)
     version-at = subst (λ (x : ℕ). At s 3 (numberBytes 2 x)) version-width (number-at 2 3 (omega (arith, header .long)))

@@ -77,10 +77,6 @@ module _ {w : ℕ} {s o q : List ℕ} {k : ℕ} (call : Rewrites w s o q (Writte
       let given = wrote w s o k (call .answers) in
       subst (Same w s) (sym written-bytes) (read-back w s width (given .accepted) (given .names))
 
--- version 2 has room for the names of every release
-pub fits-2 : (s : List ℕ) → fault s ≡ 0 → namesOf s ≤ mostNamesOf 2
-fits-2 s ok = header-sound s (no-header-fault s ok) .names
-
 pub copied : (s : List ℕ) → Bytes s → fault s ≡ 0 → rewritten (versionOf s) s ≡ s
 copied s bytes ok = rw (version-width s bytes ok) (sym (canonical s bytes ok))
 

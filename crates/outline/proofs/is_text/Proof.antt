@@ -88,7 +88,7 @@ returns-5 : tie.Need-returns-5 Inv-loop μ-loop
 returns-5 c = cut-role (c .before .before .before .before .before .loop .inv .3) (c .before .before .before .before .loop-test .taken) (c .before .before .before .if2 .left) (c .before .match .keys4) (c .if5 .taken)
 
 number-at-requires-2 : tie.Need-number-at-requires-2 Inv-loop μ-loop
-number-at-requires-2 c κs = record { width = record { least = omega arith; most = omega arith }; inside = omega arith }
+number-at-requires-2 c κs = record { width = record { some = omega arith; few = omega arith }; inside = omega arith }
 
 wide-requires-2 : tie.Need-wide-requires-2 Inv-loop μ-loop
 wide-requires-2 c κs = search needs

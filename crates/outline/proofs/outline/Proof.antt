@@ -116,7 +116,7 @@ number-at-requires-2 : tie.Need-number-at-requires-2 Inv-loop μ-loop
 number-at-requires-2 c κs =
     let other = c .match .rest in
     let inside = role-there (c .before .before .before .before .loop .inv .3) (c .before .before .before .before .before .before .before .before .pre) (c .before .before .before .loop-test .taken) (other .0 .0 .1) (other .0 .1) (other .1) in
-    record { width = record { least = omega arith; most = omega arith }; inside = omega arith }
+    record { width = record { some = omega arith; few = omega arith }; inside = omega arith }
 
 put-requires-2 : tie.Need-put-requires-2 Inv-loop μ-loop
 put-requires-2 c κs =

@@ -1,7 +1,8 @@
 -- `ask_inclusion` meets its contract: each answer is one law of Asks.
 use native.Mathlib.Omega.{arith}
 use Rattle.release.proofs.Rows.{blank-table}
-use Rattle.question.proofs.Asks.{in-width, refuses-release, names-few, refuses-below, refuses-above, refuses-memory, to-answer, answers}
+use Rattle.release.proofs.Numbers.{is-width}
+use Rattle.question.proofs.Asks.{refuses-release, names-few, refuses-below, refuses-above, refuses-memory, to-answer, answers}
 use borrow.Author.Needs.{needs}
 use Rattle.question.proofs.ask_inclusion.Statement.{statement}
 use Rattle.question.proofs.ask_inclusion.Tie as tie
@@ -37,10 +38,10 @@ name-width-requires : tie.Need-name-width-requires
 name-width-requires c κs = search needs
 
 is-text-requires : tie.Need-is-text-requires
-is-text-requires c κs = rw (c .name-width .ensures) (in-width _)
+is-text-requires c κs = rw (c .name-width .ensures) (is-width _)
 
 is-text-requires-2 : tie.Need-is-text-requires-2
-is-text-requires-2 c κs = rw (c .before .before .name-width .ensures) (in-width _)
+is-text-requires-2 c κs = rw (c .before .before .name-width .ensures) (is-width _)
 
 size-requires : tie.Need-size-requires
 size-requires c κs = omega (arith, names-few (c .before .before .before .before .before .before .before .before .before .read-release .ensures) (c .before .before .before .before .before .before .checked .given .1))
