@@ -20,6 +20,10 @@ onLeft b = eqb b 1 || eqb b 3
 abbrev pub onRight : ℕ → Bool
 onRight b = eqb b 2 || eqb b 3
 
+-- "A name is reported exactly when its byte is not 0: on the left with 1 or 3, on the right with 2 or 3"
+abbrev pub isReported : ℕ → Bool
+isReported b = onLeft b || onRight b
+
 pub record IsByte (sig : Signature) (t u : List Axiom) (a b : ℕ) : Type 0 where
   pub outside : sig .has-name a ≡ false → b ≡ 0
   pub small : b ≤ 3

@@ -11,7 +11,8 @@ use lib.Seq.{sets}
 use Rattle.el.specs.Comparison.{onLeft}
 use Rattle.report.specs.declared.Written.{Written}
 use Rattle.report.specs.declared.Written.the-variants.{Length}
-use Rattle.report.specs.Texts.{refused-word, side-word, twoNumbers, count, reportWith, report, refusalLine}
+use Rattle.el.specs.Lists.{count}
+use Rattle.report.specs.Texts.{refused-word, side-word, twoNumbers, reportWith, report, refusalLine}
 use Rattle.report.specs.Written.{shortResult, shortOutput, fitted, WrittenAs, reportText, reportAnswer}
 use Rattle.report.specs.Places.{Put, Counted}
 use Rattle.report.proofs.Puts.{put-at-start}

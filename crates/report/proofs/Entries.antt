@@ -10,8 +10,9 @@ use native.Mathlib.Numerals.{add-one}
 use native.Mathlib.Omega.{arith}
 use lib.ListN.{length, drop, getD, length-append, drop-of-length-le}
 use lib.Seq.{drop-cons}
-use Rattle.el.specs.Lists.{pick}
-use Rattle.report.specs.Texts.{newline, space, onSide, reported, letter, line, entry, lines, count}
+use Rattle.el.specs.Lists.{pick, count}
+use Rattle.el.specs.Comparison.{isReported}
+use Rattle.report.specs.Texts.{newline, space, onSide, letter, line, entry, lines}
 use Rattle.report.specs.Numbers.{threeDigits}
 use Rattle.report.specs.Places.{Room, Put, LinesLength, Counted}
 use Rattle.report.proofs.Puts.{Rest, rest-less, rest-nothing, room-first}
@@ -19,10 +20,10 @@ use Rattle.report.proofs.Decimals.{three-few}
 
 -- sides and letters
 module _ (b : ℕ) where
-  pub reported-left : onSide 1 b ≡ true → true ≡ reported b
+  pub reported-left : onSide 1 b ≡ true → true ≡ isReported b
   reported-left e = rw e
 
-  pub reported-right : onSide 1 b ≡ false → onSide 2 b ≡ reported b
+  pub reported-right : onSide 1 b ≡ false → onSide 2 b ≡ isReported b
   reported-right e = rw e
 
   pub letter-both : onSide 1 b ≡ true → onSide 2 b ≡ true → _≡_ {A = ℕ} 66 (letter b)
@@ -39,18 +40,18 @@ module _ (b : ℕ) where
 
 -- the line of a name
 module _ (a b : ℕ) where
-  pub entry-line : reported b ≡ true → entry a b ≡ threeDigits a ++ (space ∷ letter b ∷ newline ∷ [])
+  pub entry-line : isReported b ≡ true → entry a b ≡ threeDigits a ++ (space ∷ letter b ∷ newline ∷ [])
   unfolding entry line
   entry-line e = rw e
 
-  pub entry-nothing : reported b ≡ false → entry a b ≡ []
+  pub entry-nothing : isReported b ≡ false → entry a b ≡ []
   unfolding entry
   entry-nothing e = rw e
 
   pub entry-few : length (entry a b) ≤ a + 6
-  entry-few = go (reported b) refl
+  entry-few = go (isReported b) refl
     where
-      go : (t : Bool) → reported b ≡ t → length (entry a b) ≤ a + 6
+      go : (t : Bool) → isReported b ≡ t → length (entry a b) ≤ a + 6
       go true e = omega (arith, ap length (entry-line e), length-append (threeDigits a) (space ∷ letter b ∷ newline ∷ []), three-few a)
       go false e = omega (arith, ap length (entry-nothing e))
 

@@ -9,7 +9,8 @@ use native.Mathlib.Omega.{arith}
 use lib.ListN.{length, length-append}
 use Rattle.report.specs.Numbers.{decimal, threeDigits}
 use Rattle.report.specs.Texts.{newline, space, names-word, roles-word, left-word, right-word}
-use Rattle.report.specs.Texts.{twoNumbers, reported, letter, entry, lines, reportWith}
+use Rattle.el.specs.Comparison.{isReported}
+use Rattle.report.specs.Texts.{twoNumbers, letter, entry, lines, reportWith}
 use Rattle.report.specs.Places.{Room, Put, Small, Numbers}
 use Rattle.report.proofs.Puts.{put-then, room-first, room-then}
 use Rattle.report.proofs.Decimals.{decimal-few}
@@ -68,7 +69,7 @@ module _ (v : List ℕ) (x : ℕ) (w : List ℕ) (y : ℕ) where
   two-numbers-put word number then other end = put-then word (put-then number (put-then then (put-then other end)))
 
 -- the line of a reported name: the name, a space, a letter and a newline, where l is the letter's byte
-module _ (a b l : ℕ) (is : reported b ≡ true) (e : l ≡ letter b) where
+module _ (a b l : ℕ) (is : isReported b ≡ true) (e : l ≡ letter b) where
   line-pieces : entry a b ≡ threeDigits a ++ (space ∷ l ∷ newline ∷ [])
   line-pieces = entry-line a b is ∙ ap (λ (k : ℕ). threeDigits a ++ (space ∷ k ∷ newline ∷ [])) (sym e)
 

@@ -10,7 +10,8 @@ use mathlib.Core.List.{List}
 use Prim.Native.Nat.{ℕ, _+_, _*_, _≤_, _<_}
 use lib.ListN.{length}
 use lib.Seq.{sets}
-use Rattle.report.specs.Texts.{onSide, lines, count}
+use Rattle.el.specs.Lists.{count}
+use Rattle.report.specs.Texts.{onSide, lines}
 
 pub record Room (o : List ℕ) (p : ℕ) (text : List ℕ) : Type 0 where
   pub fits : p + length text ≤ length o

@@ -2,15 +2,14 @@
 --   twoNumbers v x w y     the line of the word v, the number x, the word w and the number y
 --   line a b               the line of the name a, whose result byte is b
 --   lines a bs             the lines of the reported names, where bs are the bytes of the names from a on
---   count p bs             how many of the bytes bs pass the test p
 --   report n m bs          the report of a comparison with n names, m roles and the result bytes bs
 --   refusalLine k s        the one line of a refusal with number k and side s
 use mathlib.Core.Bool.{Bool, _||_}
 use mathlib.Core.List.{List, [], _∷_, _++_}
 use Prim.Native.Nat.{ℕ, suc, _+_}
 use lib.Dec.{eqb}
-use Rattle.el.specs.Comparison.{onLeft, onRight}
-use Rattle.el.specs.Lists.{pick}
+use Rattle.el.specs.Comparison.{onLeft, onRight, isReported}
+use Rattle.el.specs.Lists.{pick, count}
 use Rattle.report.specs.Numbers.{decimal, threeDigits}
 
 abbrev pub newline : ℕ
@@ -43,10 +42,6 @@ side-word = 32 ∷ 115 ∷ 105 ∷ 100 ∷ 101 ∷ 32 ∷ []
 unfoldable pub twoNumbers : List ℕ → ℕ → List ℕ → ℕ → List ℕ
 twoNumbers v x w y = v ++ (decimal x ++ (w ++ (decimal y ++ (newline ∷ []))))
 
--- "A name is reported exactly when its byte is not 0: on the left with 1 or 3, on the right with 2 or 3"
-abbrev pub reported : ℕ → Bool
-reported b = onLeft b || onRight b
-
 -- reported on the side 1, left, or 2, right: so onLeft is onSide 1 and onRight is onSide 2
 abbrev pub onSide : ℕ → ℕ → Bool
 onSide side b = eqb b side || eqb b 3
@@ -60,15 +55,11 @@ line a b = threeDigits a ++ (space ∷ letter b ∷ newline ∷ [])
 
 -- the line of a name, if it is reported
 unfoldable pub entry : ℕ → ℕ → List ℕ
-entry a b = pick (reported b) (line a b) []
+entry a b = pick (isReported b) (line a b) []
 
 unfoldable pub lines : ℕ → List ℕ → List ℕ
 lines a [] = []
 lines a (b ∷ bs) = entry a b ++ lines (suc a) bs
-
-unfoldable pub count : (ℕ → Bool) → List ℕ → ℕ
-count p [] = 0
-count p (b ∷ bs) = pick (p b) 1 0 + count p bs
 
 -- a report with these counts of names reported on the left and on the right
 unfoldable pub reportWith : ℕ → ℕ → ℕ → ℕ → List ℕ → List ℕ

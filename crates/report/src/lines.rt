@@ -2,7 +2,9 @@
 ghost use mathlib.Core.Path.{_≡_};
 ghost use Prim.Native.Nat.{_≤_, _<_};
 ghost use lib.ListN.{length};
-ghost use Rattle.report.specs.Texts.{reported, letter, entry, lines, count, reportWith};
+ghost use Rattle.el.specs.Comparison.{isReported};
+ghost use Rattle.el.specs.Lists.{count};
+ghost use Rattle.report.specs.Texts.{letter, entry, lines, reportWith};
 ghost use Rattle.report.specs.Texts.{onSide as Texts·onSide};
 ghost use Rattle.report.specs.Places.{Room, Put, LinesLength, Counted, Numbers};
 use crate::numbers::put_three_digits;
@@ -29,7 +31,7 @@ fn on_side(side: u8, byte: u8) -> bool
 }
 
 fn is_reported(byte: u8) -> bool
-    ensures { λ r. ⌜ r ≡ reported byte ⌝ }
+    ensures { λ r. ⌜ r ≡ isReported byte ⌝ }
 {
     if on_side(LEFT, byte) {
         return true;
