@@ -1,25 +1,28 @@
 -- The four squares one after the other, and the result: what each call asks follows from what the calls before it gave.
 --   first-asks, second-asks, both-included         the two classifications, and what they give together
+--   unchanged, below-room, turned-second, prepared             the second square turned behind its rows: memory that is ready
 --   forward-asks, forward-below, backward-asks, all-marked     the marks
---   unchanged, below-room, turned-second, both-still           the second square turned behind its rows
---   readable, compared                             what writing the result bytes asks; what the comparison gives
-use mathlib.Core.Path.{_≡_, refl, ap, _∙_}
+--   readable, marking                              what writing the result bytes asks and gives
+--   given-in, compared, compared-again             what the comparison gives
+use mathlib.Core.Path.{_≡_, refl, sym, ap, _∙_}
+use mathlib.Core.Bool.{true, false}
 use mathlib.Core.List.{List}
-use mathlib.Core.Logic.{inl, inr}
+use mathlib.Core.Logic.{_⊎_, inl, inr}
 use Prim.Native.Nat.{ℕ, _+_, _*_, _≤_, _<_}
 use native.Mathlib.Omega.{arith}
-use borrow.Author.Tests.{eqb-true}
-use lib.Dec.{eqb}
+use borrow.Author.Tests.{eqb-true, ltb-true, ltb-false}
+use lib.Dec.{eqb, ltb}
 use lib.ListN.{length, getD}
+use lib.Seq.{ext-getD}
 use Rattle.el.proofs.Tests.{which}
 use Rattle.release.specs.Files.{mostNames}
 use Rattle.release.proofs.Checks.{header-sound}
 use Rattle.release.proofs.Linked.{no-header-fault}
 use Rattle.signature.specs.Bytes.{signatureFault}
 use Rattle.marks.specs.declared.Square.{Square}
-use Rattle.marks.specs.Squares.{span, behind, Room, Area, Unmarked, Touches, Kept, Apart, Frame, Zeroed}
+use Rattle.marks.specs.Squares.{span, place, behind, Room, Area, Unmarked, Touches, Kept, Apart, Frame, Zeroed}
 use Rattle.marks.specs.Inclusions.{Turned}
-use Rattle.marks.proofs.Squares.{span-size, touches-further, frame-marked, marked-frame, frame-unmarked, zeroed-unmarked}
+use Rattle.marks.proofs.Squares.{span-size, place-from, place-below, touches-further, frame-marked, marked-frame, frame-unmarked, zero-unmarked, zeroed-unmarked}
 use Rattle.classification.specs.Inclusions.{Unclassified, Classified}
 use Rattle.classification.proofs.Meaning.{inclusions-stay}
 use Rattle.layout.specs.declared.Layout.{Layout}
@@ -30,11 +33,11 @@ use Rattle.forward.specs.Rules.{Beneath}
 use Rattle.forward.specs.Forward.{ForwardMarked, Forwarded, ForwardFrom}
 use Rattle.backward.specs.Backward.{Backwarded}
 use Rattle.comparison.specs.Bytes.{Readable, Written}
-use Rattle.comparison.specs.Compared.{IsSize, SecondTurned, forwardLayout, backwardLayout, squareAt, BothGiven, Given, BothIncluded, AllMarked, Compared}
+use Rattle.comparison.specs.Compared.{IsSize, SecondTurned, forwardLayout, backwardLayout, squareAt, BothGiven, Given, BothIncluded, Ready, Prepared, AllMarked, ZeroedBetween, Marking, Compared, ComparedAgain}
 use Rattle.comparison.proofs.Rows.{two-spans, RowsSame, same-marked, marked-same}
 use Rattle.comparison.proofs.Bytes.{is-byte}
 
-signature-long : (n m : ℕ) (g : List ℕ) → signatureFault n m g ≡ 0 → n + m ≤ length g
+pub signature-long : (n m : ℕ) (g : List ℕ) → signatureFault n m g ≡ 0 → n + m ≤ length g
 unfolding signatureFault
 signature-long n m g h = elim (which (eqb (length g) (n + m))) [ inl e ↦ omega (arith, eqb-true (length g) (n + m) e) | inr e ↦ absurd (omega (arith, rw e at h)) ]
 
@@ -65,17 +68,13 @@ module _ {s t a b : List ℕ} {n : ℕ} {w : List ℕ} (given : BothGiven s t a 
         second-asks = record { release = given .second; names = given .second-names; area = area-at k (omega arith) w2 (c .frame .long ∙ z .long); unmarked = frame-unmarked (c .frame) (inr (omega (arith, span-size n, e .is))) (unmarked-at k (omega arith)) }
 
         module _ {w3 : List ℕ} (d : Classified t (squareAt n k) w2 w3) where
-          still-unmarked : (base : ℕ) → 2 * k ≤ base → base ≤ 3 * k → Unmarked (squareAt n base) w3
-          still-unmarked base h i = frame-unmarked (d .frame) (inr (omega (arith, span-size n, e .is))) (frame-unmarked (c .frame) (inr (omega (arith, span-size n, e .is))) (unmarked-at base i))
-
           pub both-included : BothIncluded s t n k w w3
           both-included = record {
             long = d .frame .long ∙ (c .frame .long ∙ z .long);
             past = λ i h. d .frame .past i (omega (arith, span-size n, e .is)) ∙ (c .frame .past i (omega (arith, span-size n, e .is)) ∙ z .past i h);
             first = inclusions-stay (d .frame) (inl (omega (arith, span-size n, e .is))) (c .inclusions);
             second = d .inclusions;
-            third-unmarked = still-unmarked (2 * k) (omega arith) (omega arith);
-            fourth-unmarked = still-unmarked (3 * k) (omega arith) (omega arith);
+            zero = λ i h l. d .frame .past i (omega (arith, e .is)) ∙ (c .frame .past i (omega (arith, e .is)) ∙ z .zero i l);
           }
 
 -- hints behind the first square
@@ -89,8 +88,7 @@ module _ {s t : List ℕ} {n k : ℕ} {w v u : List ℕ} (e : IsSize n k) (b : B
     past = λ i h. r .extends .frame .past i (omega (arith, e .is)) ∙ b .past i h;
     first = record { sound = λ x y h l m. b .first .sound x y h l (r .marks x y h l m); complete = λ x y h l p. r .extends .stays x y (b .first .complete x y h l p) };
     second = record { sound = λ x y h l m. b .second .sound x y h l (marked-same (after k (omega arith)) h l m); complete = λ x y h l p. same-marked (after k (omega arith)) h l (b .second .complete x y h l p) };
-    third-unmarked = record { none = λ x y h l m. b .third-unmarked .none x y h l (marked-same (after (2 * k) (omega arith)) h l m) };
-    fourth-unmarked = record { none = λ x y h l m. b .fourth-unmarked .none x y h l (marked-same (after (3 * k) (omega arith)) h l m) };
+    zero = λ i h l. r .extends .frame .past i (omega (arith, e .is)) ∙ b .zero i h l;
   }
 
 -- the second square turned behind its rows
@@ -128,21 +126,20 @@ module _ {n k : ℕ} {w : List ℕ} (few : n ≤ mostNames) (e : IsSize n k) (lo
           turned = λ l. rw is at turned;
         }
 
-module _ {s t : List ℕ} {n k : ℕ} {w v u : List ℕ} (e : IsSize n k) (b : BothIncluded s t n k w v) (r : SecondTurned n k v u) where
+module _ {s t : List ℕ} {n k : ℕ} {w v u : List ℕ} (b : BothIncluded s t n k w v) (r : SecondTurned n k v u) where
   still : (base : ℕ) → base ≤ k → RowsSame (squareAt n base) v u
   still base h = record { byte = λ i l f. r .before i (omega arith) }
 
-  later : (base : ℕ) → 2 * k ≤ base → RowsSame (squareAt n base) v u
-  later base h = record { byte = λ i l f. r .past i (omega arith) }
-
-  pub both-still : BothIncluded s t n k w u
-  both-still = record {
+  pub prepared : Prepared s t n k w u
+  prepared = record {
     long = r .long ∙ b .long;
     past = λ i h. r .past i (omega arith) ∙ b .past i h;
-    first = record { sound = λ x y h l m. b .first .sound x y h l (marked-same (still 0 (omega arith)) h l m); complete = λ x y h l p. same-marked (still 0 (omega arith)) h l (b .first .complete x y h l p) };
-    second = record { sound = λ x y h l m. b .second .sound x y h l (marked-same (still k (omega arith)) h l m); complete = λ x y h l p. same-marked (still k (omega arith)) h l (b .second .complete x y h l p) };
-    third-unmarked = record { none = λ x y h l m. b .third-unmarked .none x y h l (marked-same (later (2 * k) (omega arith)) h l m) };
-    fourth-unmarked = record { none = λ x y h l m. b .fourth-unmarked .none x y h l (marked-same (later (3 * k) (omega arith)) h l m) };
+    ready = record {
+      first = record { sound = λ x y h l m. b .first .sound x y h l (marked-same (still 0 (omega arith)) h l m); complete = λ x y h l p. same-marked (still 0 (omega arith)) h l (b .first .complete x y h l p) };
+      second = record { sound = λ x y h l m. b .second .sound x y h l (marked-same (still k (omega arith)) h l m); complete = λ x y h l p. same-marked (still k (omega arith)) h l (b .second .complete x y h l p) };
+      turned = r .turned;
+      zero = λ i h l. r .past i h ∙ b .zero i h l;
+    };
   }
 
 module _ {g s t a b : List ℕ} {n m k : ℕ} {w : List ℕ} (given : Given g s t a b n m w) (e : IsSize n k) where
@@ -150,38 +147,41 @@ module _ {g s t a b : List ℕ} {n m k : ℕ} {w : List ℕ} (given : Given g s 
   long-enough = signature-long n m g (given .signature)
 
   -- marks
-  module _ {w1 : List ℕ} (i : BothIncluded s t n k w w1) where
-    comparing : Comparing g s t a b (forwardLayout n m k) w1
+  module _ (ready : Ready s t n k w) where
+    unmarked : (base : ℕ) → 2 * k ≤ base → base ≤ 3 * k → Unmarked (squareAt n base) w
+    unmarked base h l = record { none = λ x y i j m. zero-unmarked (ready .zero (place (squareAt n base) x y) (omega (arith, place-from (squareAt n base) x y)) (omega (arith, place-below (squareAt n base) x y i j, span-size n, e .is))) m }
+
+    comparing : Comparing g s t a b (forwardLayout n m k) w
     comparing = record {
       signature = long-enough;
       first-release = given .both .first;
       second-release = given .both .second;
       first-names = given .both .first-names;
       second-names = given .both .second-names;
-      first-room = room-at (given .both) e 0 (omega arith) w1 (i .long);
-      second-room = room-at (given .both) e k (omega arith) w1 (i .long);
-      room = room-at (given .both) e (2 * k) (omega arith) w1 (i .long);
-      areas = record { first = area-at (given .both) e 0 (omega arith) w1 (i .long); second = area-at (given .both) e k (omega arith) w1 (i .long); marks = area-at (given .both) e (2 * k) (omega arith) w1 (i .long) };
-      first-inclusions = i .first;
-      second-inclusions = i .second;
-      unmarked = i .third-unmarked;
+      first-room = room-at (given .both) e 0 (omega arith) w refl;
+      second-room = room-at (given .both) e k (omega arith) w refl;
+      room = room-at (given .both) e (2 * k) (omega arith) w refl;
+      areas = record { first = area-at (given .both) e 0 (omega arith) w refl; second = area-at (given .both) e k (omega arith) w refl; marks = area-at (given .both) e (2 * k) (omega arith) w refl };
+      first-inclusions = ready .first;
+      second-inclusions = ready .second;
+      unmarked = unmarked (2 * k) (omega arith) (omega arith);
       first-apart = omega (arith, span-size n, e .is);
       second-apart = omega (arith, span-size n, e .is);
     }
 
-    pub forward-asks : Setting g a b (forwardLayout n m k) w1
+    pub forward-asks : Setting g a b (forwardLayout n m k) w
     forward-asks = setting comparing
 
-    pub forward-below : {v : List ℕ} → SecondTurned n k v w1 → 1 ≤ n → Beneath (forwardLayout n m k) w1
-    forward-below r some = record { room = below-room (few (given .both)) e (omega (arith, given .both .room, e .is, i .long)) some refl; turned = r .turned some; apart = omega (arith, e .is, two-spans n some) }
+    pub forward-below : 1 ≤ n → Beneath (forwardLayout n m k) w
+    forward-below some = record { room = below-room (few (given .both)) e (omega (arith, given .both .room, e .is)) some refl; turned = ready .turned some; apart = omega (arith, e .is, two-spans n some) }
 
-    module _ {w2 : List ℕ} (f : ForwardFrom g a b (forwardLayout n m k) w1 w2) where
-      abbrev forth : Forwarded g s t (forwardLayout n m k) w1 w2
+    module _ {w2 : List ℕ} (f : ForwardFrom g a b (forwardLayout n m k) w w2) where
+      abbrev forth : Forwarded g s t (forwardLayout n m k) w w2
       forth = f .of-releases s t comparing
 
       pub backward-asks : Comparing g s t a b (backwardLayout n m k) w2
       backward-asks =
-          let long = forth .frame .long ∙ i .long in
+          let long = forth .frame .long in
           record {
             signature = long-enough;
             first-release = given .both .first;
@@ -192,17 +192,18 @@ module _ {g s t a b : List ℕ} {n m k : ℕ} {w : List ℕ} (given : Given g s 
             second-room = room-at (given .both) e k (omega arith) w2 long;
             room = room-at (given .both) e (3 * k) (omega arith) w2 long;
             areas = record { first = area-at (given .both) e 0 (omega arith) w2 long; second = area-at (given .both) e k (omega arith) w2 long; marks = area-at (given .both) e (3 * k) (omega arith) w2 long };
-            first-inclusions = inclusions-stay (forth .frame) (inl (omega (arith, span-size n, e .is))) (i .first);
-            second-inclusions = inclusions-stay (forth .frame) (inl (omega (arith, span-size n, e .is))) (i .second);
-            unmarked = frame-unmarked (forth .frame) (inr (omega (arith, span-size n, e .is))) (i .fourth-unmarked);
+            first-inclusions = inclusions-stay (forth .frame) (inl (omega (arith, span-size n, e .is))) (ready .first);
+            second-inclusions = inclusions-stay (forth .frame) (inl (omega (arith, span-size n, e .is))) (ready .second);
+            unmarked = frame-unmarked (forth .frame) (inr (omega (arith, span-size n, e .is))) (unmarked (3 * k) (omega arith) (omega arith));
             first-apart = omega (arith, span-size n, e .is);
             second-apart = omega (arith, span-size n, e .is);
           }
 
       pub all-marked : {w3 : List ℕ} → Backwarded g s t (backwardLayout n m k) w2 w3 → AllMarked g s t n m k w w3
       all-marked r = record {
-        long = r .frame .long ∙ (forth .frame .long ∙ i .long);
-        past = λ j h. r .frame .past j (omega (arith, span-size n, e .is)) ∙ (forth .frame .past j (omega (arith, span-size n, e .is)) ∙ i .past j h);
+        long = r .frame .long ∙ forth .frame .long;
+        before = λ j h. r .frame .before j (omega arith) ∙ forth .frame .before j h;
+        past = λ j h. r .frame .past j (omega (arith, e .is)) ∙ forth .frame .past j (omega (arith, e .is));
         forward = forward-stays (r .frame) (inl (omega (arith, span-size n, e .is))) (forth .marked);
         backward = r .marked;
       }
@@ -212,10 +213,31 @@ module _ {g s t a b : List ℕ} {n m k : ℕ} {w : List ℕ} (given : Given g s 
     pub readable : Readable g (forwardLayout n m k) (backwardLayout n m k) v
     readable = record { signature = long-enough; same-names = refl; forward = room-at (given .both) e (2 * k) (omega arith) v (marked .long); backward = room-at (given .both) e (3 * k) (omega arith) v (marked .long) }
 
-    pub compared : {r p u : List ℕ} → Written g (forwardLayout n m k) (backwardLayout n m k) v n r p → Zeroed (4 * k) v u → Compared g s t n m r p w u
-    compared written cleared = record {
-      byte = λ c h. is-byte refl refl h (marked .forward) (marked .backward) (written .byte c h);
-      rest = written .past;
-      zero = λ i h. cleared .zero i (omega (arith, span-size n, e .is));
-      past = λ i h. cleared .past i (omega (arith, span-size n, e .is)) ∙ marked .past i (omega (arith, span-size n, e .is));
+    pub marking : {r p : List ℕ} → Written g (forwardLayout n m k) (backwardLayout n m k) v n r p → Marking g s t n m k r p w v
+    marking written = record {
+      reported = record { long = written .long; byte = λ c h. is-byte refl refl h (marked .forward) (marked .backward) (written .byte c h); rest = written .past };
+      long = marked .long;
+      before = marked .before;
+      past = marked .past;
     }
+
+-- what a comparison asks of memory is its length
+pub given-in : {g s t a b : List ℕ} {n m : ℕ} {w v : List ℕ} → length v ≡ length w → Given g s t a b n m w → Given g s t a b n m v
+given-in long given = record { both = record { first = given .both .first; second = given .both .second; first-names = given .both .first-names; second-names = given .both .second-names; room = omega (arith, given .both .room) }; signature = given .signature }
+
+-- what the comparison gives
+module _ {g s t : List ℕ} {n m k : ℕ} {r p w v : List ℕ} (e : IsSize n k) where
+  pub compared : {w1 u : List ℕ} → Prepared s t n k w w1 → Marking g s t n m k r p w1 v → Zeroed (4 * k) v u → Compared g s t n m r p w u
+  compared ready marks cleared = record {
+    reported = marks .reported;
+    zero = λ i h. cleared .zero i (omega (arith, e .is));
+    past = λ i h. cleared .past i (omega (arith, e .is)) ∙ (marks .past i (omega (arith, e .is)) ∙ ready .past i (omega (arith, e .is)));
+  }
+
+  pub compared-again : {u : List ℕ} → Ready s t n k w → Marking g s t n m k r p w v → ZeroedBetween (2 * k) (4 * k) v u → ComparedAgain g s t n m r p w u
+  compared-again {u} ready marks unmarks = record { reported = marks .reported; same = ext-getD 0 u w (unmarks .long ∙ marks .long) (λ i l. by-place i (which (ltb i (2 * k))) (which (ltb i (4 * k)))) }
+    where
+      by-place : (i : ℕ) → (ltb i (2 * k) ≡ true) ⊎ (ltb i (2 * k) ≡ false) → (ltb i (4 * k) ≡ true) ⊎ (ltb i (4 * k) ≡ false) → getD u i 0 ≡ getD w i 0
+      by-place i (inl h) _ = let l = ltb-true i (2 * k) h in unmarks .before i l ∙ marks .before i l
+      by-place i (inr h) (inl j) = let l = ltb-false i (2 * k) h in let f = ltb-true i (4 * k) j in unmarks .zero i l f ∙ sym (ready .zero i l f)
+      by-place i (inr h) (inr j) = let l = ltb-false i (4 * k) j in unmarks .past i l ∙ marks .past i l

@@ -1,39 +1,32 @@
 use native.Mathlib.Omega.{arith}
 use Rattle.comparison.proofs.Pipeline.{first-asks, second-asks, both-included, both-kept, area-at}
 use borrow.Author.Needs.{needs}
-use Rattle.comparison.proofs.fill_inclusions.Statement.{statement}
-use Rattle.comparison.proofs.fill_inclusions.Tie as tie
-use Rattle.comparison.proofs.fill_inclusions.Reads as reads
-use Rattle.comparison.proofs.fill_inclusions.Lts as lts
+use Rattle.comparison.proofs.preparation.fill_inclusions.Statement.{statement}
+use Rattle.comparison.proofs.preparation.fill_inclusions.Tie as tie
+use Rattle.comparison.proofs.preparation.fill_inclusions.Reads as reads
+use Rattle.comparison.proofs.preparation.fill_inclusions.Lts as lts
 use Rattle.classification.proofs.classify.Reads as classify-reads
 use Rattle.marks.proofs.clear.Reads as clear-reads
 use Rattle.marks.proofs.hints.turn.Reads as turn-reads
 
--- src/lib.rt:33:24
 mul-clear : tie.Need-mul-clear
 mul-clear c = search needs
 
--- src/lib.rt:33:5
 clear-requires : tie.Need-clear-requires
 clear-requires c κs = search needs
 
--- src/lib.rt:34:5
 classify-requires : tie.Need-classify-requires
 classify-requires c κs = let p = c .before .before .before .before .before .before .before .before .before .before .pre in first-asks (p .0) (p .1) (c .before .before .before .clear .ensures)
 
--- src/lib.rt:43:5
 classify-requires-2 : tie.Need-classify-requires-2
 classify-requires-2 c κs = let p = c .before .before .before .before .before .before .before .before .before .before .before .before .before .before .pre in second-asks (p .0) (p .1) (c .before .before .before .before .before .before .before .clear .ensures) (c .before .before .before .classify .ensures)
 
--- src/lib.rt:52:5
 turn-requires : tie.Need-turn-requires
 turn-requires c κs = let p = c .before .before .before .before .before .before .before .before .before .before .before .before .before .before .before .before .before .before .pre in (area-at (p .0) (p .1) 0 (omega arith) _ (both-included (p .0) (p .1) (c .before .before .before .before .before .before .before .before .before .before .before .clear .ensures) (c .before .before .before .before .before .before .before .classify .ensures) (c .before .before .before .classify2 .ensures) .long), (omega arith, omega arith))
 
--- src/lib.rt:20:1
 same-length : tie.Need-same-length
 same-length c = search needs
 
--- src/lib.rt:20:1
 returns : tie.Need-returns
 returns c = let p = c .before .before .before .before .before .before .before .before .before .before .before .before .before .before .before .before .before .before .before .before .before .pre in both-kept (p .1) (both-included (p .0) (p .1) (c .before .before .before .before .before .before .before .before .before .before .before .before .before .before .clear .ensures) (c .before .before .before .before .before .before .before .before .before .before .classify .ensures) (c .before .before .before .before .before .before .classify2 .ensures)) (c .before .before .turn .ensures)
 
