@@ -24,7 +24,7 @@ use Rattle.demands.proofs.Files as Files
 use Rattle.meanings.specs.declared.Comparison.{Comparison}
 use Rattle.meanings.specs.declared.Comparison.the-variants as Is
 use Rattle.release.specs.Readings.{checked}
-use Rattle.meanings.specs.Comparing.{workLength, counted, comparison, Result, Says}
+use Rattle.meanings.specs.Comparing.{workLength, agreed, sameCounts, lent, judged, comparison, Result, Says}
 
 pub record Enough (s : List ℕ) (o w : ℕ) : Type 0 where
   pub result : namesOf s ≤ o
@@ -34,8 +34,8 @@ pub turned : {s t g : List ℕ} → Accepted s t g → Accepted t s g
 turned given = record { first = given .second; second = given .first; names = sym (given .names); roles = sym (given .roles); signature = rw (given .names, given .roles) at (given .signature) }
 
 pub not-refused : {s t g : List ℕ} (o w : ℕ) → Accepted s t g → Enough s o w → comparison s t g o w ≡ Is.Accepted (record { names = namesOf s; roles = rolesOf s })
-unfolding checked counted
-not-refused {s} {t} o w given enough = simp (checked, given .first, given .second, counted, eq-eqb _ _ (given .names), eq-eqb _ _ (given .roles), eq-eqb _ _ (given .signature), le-leb _ _ (enough .result), le-leb _ _ (enough .work))
+unfolding checked agreed sameCounts lent judged
+not-refused {s} {t} o w given enough = simp (checked, given .first, given .second, agreed, sameCounts, lent, judged, eq-eqb _ _ (given .names), eq-eqb _ _ (given .roles), eq-eqb _ _ (given .signature), le-leb _ _ (enough .result), le-leb _ _ (enough .work))
 
 -- one comparison of accepted input, as the call promises it
 pub record Compares (s t g o w : List ℕ) : Type 0 where

@@ -1,4 +1,4 @@
 -- Theorems about the calls' own promises.
-pub mod Demand3
 pub mod Judging
 pub mod Promise
+pub mod Demand3

@@ -1,5 +1,6 @@
 -- Comparing two releases over a signature: the answer with every refusal in its order, and what becomes of lent memory.
 --   workLength n                 how much work memory a comparison of releases with n names needs
+--   agreed x y                   the answer as far as the releases decide it, by what checking them answers
 --   comparison s t g o w         the answer for releases s and t, signature g, o result bytes and w work bytes
 --   Result s t g o o2 w w2       after an accepted comparison: o2 has the names' bytes, w2 is cleared, the rest is as before
 --   Says s t g o o2 w w2 r       what the call promises of its answer r and of the memory at its end
@@ -29,24 +30,34 @@ workLength n = 4 * (suc n * suc n)
 abbrev pub refused : ℕ → ℕ → Comparison
 refused number side = Refused (record { number = number; side = side })
 
--- 16, 17 and 18, 31, 32
-unfoldable pub counted : Counts → Counts → List ℕ → ℕ → ℕ → Comparison
-counted a b g o w =
-    pick (eqb (a .names) (b .names) && eqb (a .roles) (b .roles))
-    (pick (eqb (signatureFault (a .names) (a .roles) g) 0)
-    (pick (leb (a .names) o)
-    (pick (leb (workLength (a .names)) w)
-    (Accepted (record { names = a .names; roles = a .roles }))
+-- 16
+unfoldable pub sameCounts : Counts → Counts → Comparison
+sameCounts a b = pick (eqb (a .names) (b .names) && eqb (a .roles) (b .roles)) (Accepted (record { names = a .names; roles = a .roles })) (refused 16 0)
+
+-- by what checking the two releases answers: the first release's refusal, then the second's, then 16
+unfoldable pub agreed : Checked → Checked → Comparison
+agreed (Check.Refused k) second = refused (k .number) 1
+agreed (Check.Accepted a) (Check.Refused k) = refused (k .number) 2
+agreed (Check.Accepted a) (Check.Accepted b) = sameCounts a b
+
+-- 17 and 18, 31, 32
+unfoldable pub lent : List ℕ → ℕ → ℕ → Compared → Comparison
+lent g o w c =
+    pick (eqb (signatureFault (c .names) (c .roles) g) 0)
+    (pick (leb (c .names) o)
+    (pick (leb (workLength (c .names)) w)
+    (Accepted c)
     (refused 32 0))
     (refused 31 0))
-    (refused (signatureFault (a .names) (a .roles) g) 0))
-    (refused 16 0)
+    (refused (signatureFault (c .names) (c .roles) g) 0)
 
--- by what checking the two releases answers: the first release's refusal, then the second's, then the others
-abbrev pub judged : Checked → Checked → List ℕ → ℕ → ℕ → Comparison
-judged (Check.Refused k) second g o w = refused (k .number) 1
-judged (Check.Accepted a) (Check.Refused k) g o w = refused (k .number) 2
-judged (Check.Accepted a) (Check.Accepted b) g o w = counted a b g o w
+-- a refusal stays; where there is none yet, what follows tells
+abbrev pub andThen : Comparison → (Compared → Comparison) → Comparison
+andThen (Refused k) follows = Refused k
+andThen (Accepted c) follows = follows c
+
+unfoldable pub judged : Checked → Checked → List ℕ → ℕ → ℕ → Comparison
+judged first second g o w = andThen (agreed first second) (lent g o w)
 
 abbrev pub comparison : List ℕ → List ℕ → List ℕ → ℕ → ℕ → Comparison
 comparison s t g o w = judged (checked s) (checked t) g o w

@@ -3,7 +3,7 @@ ghost use mathlib.Core.Path.{_≡_};
 ghost use lib.Dec.{ltb};
 ghost use Prim.Native.Nat.{_≤_};
 ghost use Rattle.release.specs.Files.{mostNames};
-ghost use Rattle.meanings.specs.Comparing.{workLength, numberOf, judged, Limited, Says};
+ghost use Rattle.meanings.specs.Comparing.{workLength, numberOf, agreed, judged, Limited, Says};
 use comparison::compare_tables;
 use release::Checked;
 use release::Refusal;
@@ -23,7 +23,7 @@ pub enum Comparison {
     Refused(Refusal),
 }
 
-fn refused(number: u8, side: u8) -> Comparison
+pub fn refused(number: u8, side: u8) -> Comparison
     ensures { λ r. ⌜ r ≡ Comparison.Refused (record { number = number; side = side }) ⌝ }
 {
     Comparison::Refused(Refusal {
@@ -43,23 +43,17 @@ fn number_of(checked: Checked) -> u8
 }
 
 // Whether work memory is shorter than a comparison of releases with this many names needs.
-fn lacks_work(work: usize, names: usize) -> bool
+pub fn lacks_work(work: usize, names: usize) -> bool
     requires { ⌜ names ≤ mostNames ⌝ }
     ensures { λ r. ⌜ r ≡ ltb work (workLength names) ⌝ }
 {
     work < 4 * marks::size(names)
 }
 
-// The answer of a comparison, by what checking the two releases answered: refusals in their order.
-fn judge(
-    first: Checked,
-    second: Checked,
-    signature: &[u8],
-    result: usize,
-    work: usize,
-) -> Comparison
+// The answer of a comparison as far as the releases decide it, by what checking them answered: their refusals, then 16.
+pub fn agree(first: Checked, second: Checked) -> Comparison
     requires { ⌜ Limited first ⌝ }
-    ensures { λ r. ⌜ r ≡ judged first second (now (signature .entry)) result work ⌝ }
+    ensures { λ r. ⌜ r ≡ agreed first second ⌝ }
 {
     let Checked::Accepted(one) = first else {
         return refused(number_of(first), 1);
@@ -73,20 +67,39 @@ fn judge(
     if one.roles != two.roles {
         return refused(16, 0);
     }
-    let fault = signature_fault(signature, one.names, one.roles);
-    if fault != 0 {
-        return refused(fault, 0);
-    }
-    if result < one.names {
-        return refused(31, 0);
-    }
-    if lacks_work(work, one.names) {
-        return refused(32, 0);
-    }
     Comparison::Accepted(Compared {
         names: one.names as u16,
         roles: one.roles as u8,
     })
+}
+
+// The whole answer: refusals in their order.
+fn judge(
+    first: Checked,
+    second: Checked,
+    signature: &[u8],
+    result: usize,
+    work: usize,
+) -> Comparison
+    requires { ⌜ Limited first ⌝ }
+    ensures { λ r. ⌜ r ≡ judged first second (now (signature .entry)) result work ⌝ }
+{
+    let agreed = agree(first, second);
+    let Comparison::Accepted(counts) = agreed else {
+        return agreed;
+    };
+    let names = counts.names as usize;
+    let fault = signature_fault(signature, names, counts.roles as usize);
+    if fault != 0 {
+        return refused(fault, 0);
+    }
+    if result < names {
+        return refused(31, 0);
+    }
+    if lacks_work(work, names) {
+        return refused(32, 0);
+    }
+    agreed
 }
 
 // Compares two releases over a signature: the byte of each name in the first result bytes, or the refusal, which changes nothing.

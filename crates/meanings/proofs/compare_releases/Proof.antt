@@ -1,7 +1,7 @@
 use mathlib.Core.Path.{_≡_, refl}
 use native.Mathlib.Omega.{arith}
 use Rattle.release.proofs.Rows.{blank-table}
-use Rattle.meanings.proofs.Promise.{limited, refuses, known, given, compares}
+use Rattle.meanings.proofs.Promise.{limited, refuses, room, given, compares}
 use borrow.Author.Needs.{needs}
 use Rattle.meanings.proofs.compare_releases.Statement.{statement}
 use Rattle.meanings.proofs.compare_releases.Tie as tie
@@ -64,8 +64,8 @@ compare-tables-requires : tie.Need-compare-tables-requires
 compare-tables-requires c κs =
     let a = c .before .before .before .before .before .before .before .before .before .before .before .before .before .before .before .before .before .before .before .before .before .args in
     let i = given (c .before .before .before .before .before .before .before .before .before .before .before .before .before .before .read-release .ensures) (c .before .before .before .before .before .before .before .before .before .before .before .read-release2 .ensures) (a .signature .now) (a .result .now) (a .work .now) _ (c .before .before .before .before .before .before .before .before .before .judge .ensures) _ (c .before .before .before .before .before .before .before .answer .given .1) in
-    let k = known (c .before .before .before .before .before .before .before .before .before .before .before .before .before .before .read-release .ensures) (c .before .before .before .before .before .before .before .before .before .before .before .read-release2 .ensures) (a .signature .now) (a .result .now) (a .work .now) _ (c .before .before .before .before .before .before .before .before .before .judge .ensures) _ (c .before .before .before .before .before .before .before .answer .given .1) in
-    (i, k .result)
+    let k = room (c .before .before .before .before .before .before .before .before .before .before .before .before .before .before .read-release .ensures) (c .before .before .before .before .before .before .before .before .before .before .before .read-release2 .ensures) (a .signature .now) (a .result .now) (a .work .now) _ (c .before .before .before .before .before .before .before .before .before .judge .ensures) _ (c .before .before .before .before .before .before .before .answer .given .1) in
+    (i, k)
 
 -- src/lib.rt:93:1
 same-length : tie.Need-same-length
