@@ -6,3 +6,4 @@ pub mod Pieces
 pub mod Answers
 pub mod Examples
 pub mod Answered
+pub mod Sheets

@@ -4,3 +4,4 @@ pub mod Texts
 pub mod Written
 pub mod Places
 pub mod Answered
+pub mod Sheets

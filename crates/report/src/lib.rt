@@ -16,6 +16,7 @@ use release::Refusal;
 mod lines;
 mod numbers;
 mod places;
+pub mod sheet;
 
 // What writing a text answers: its length, or the refusal.
 pub enum Written {

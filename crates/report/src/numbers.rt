@@ -24,7 +24,7 @@ fn digit(number: usize) -> u8
 }
 
 // A number in decimal. It calls itself once for each digit.
-fn put_decimal(output: &mut [u8], at: usize, number: usize) -> usize
+pub fn put_decimal(output: &mut [u8], at: usize, number: usize) -> usize
     requires { ⌜ Room (now output) at (decimal number) ⌝ }
     ensures { λ r. ⌜ Put (now (output .entry)) at (decimal number) (now (output .exit)) r ⌝ }
 {
@@ -35,7 +35,7 @@ fn put_decimal(output: &mut [u8], at: usize, number: usize) -> usize
     put_byte(output, next, digit(number % 10))
 }
 
-fn decimal_length(number: usize) -> usize
+pub fn decimal_length(number: usize) -> usize
     ensures { λ r. ⌜ r ≡ length (decimal number) ⌝ }
 {
     if number < 10 {
