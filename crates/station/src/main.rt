@@ -2,17 +2,13 @@
 // prints the report. A missing file counts as empty.
 ghost use Prim.Native.Nat.{_≤_};
 ghost use lib.ListN.{length};
+use folder::RELEASE_BYTES;
+use folder::read_file;
 use libc::STDOUT_FILENO;
 use meanings::compare_releases;
 use release::Release;
 use report::Written;
 use report::write_answer;
-
-// One byte more than the longest accepted release, of version 2: 10 bytes, and 1,023 axioms of 36. A longer file is refused by
-// these first bytes as by all of it. Every byte that a header or an axiom is read from stands among the first 36,838, so the
-// refusals 1 to 13 come out alike; where none of them holds, bytes are left over in both, and the refusal is 14, whatever they
-// are.
-const RELEASE_BYTES: usize = 36839;
 
 // One byte more than the longest accepted signature, of 1,023 names and 32 roles: a longer one is refused 17 by its length.
 const SIGNATURE_BYTES: usize = 1056;
@@ -32,19 +28,6 @@ fn main() {
         &mut text,
     );
     io::write_all(STDOUT_FILENO, &text[..length]);
-}
-
-// Reads the file's bytes to the start of `room`, as many as it holds, and answers how many.
-fn read_file(name: &[u8], room: &mut [u8]) -> usize
-    ensures { λ r. ⌜ r ≤ length (now (room .entry)) ⌝ }
-{
-    let file = os::open_read(name);
-    if file < 0 {
-        return 0;
-    }
-    let count = io::read_full(file, room);
-    libc::close(file);
-    count
 }
 
 // Compares, and writes the report or the refusal to the start of `output`. Answers the text's length, and 0 where the output
