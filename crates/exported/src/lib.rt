@@ -1,7 +1,9 @@
-// The comparison and the question for C and Rust, with numbers for answers.
+// The comparison, the sheet and the question for C and Rust, with numbers for answers.
 ghost use mathlib.Core.Path.{_≡_};
 ghost use Prim.Native.Nat.{_+_, _*_};
-ghost use Rattle.exported.specs.Codes.{refusalCode, comparisonCode, askedCode, CompareReturns, AskReturns};
+ghost use Rattle.exported.specs.Codes.{refusalCode, comparisonCode, askedCode, CompareReturns, AskReturns, SheetReturns};
+use branches::compare_branches;
+use branches::row::Row;
 use meanings::Comparison;
 use meanings::compare_releases;
 use question::Asked;
@@ -52,6 +54,22 @@ pub extern "C" fn berrytick_compare(
     ensures { λ r. ⌜ CompareReturns (now (first .entry)) (now (second .entry)) (now (signature .entry)) (now (result .entry)) (now (result .exit)) (now (work .entry)) (now (work .exit)) r ⌝ }
 {
     comparison_code(compare_releases(first, second, signature, result, work))
+}
+
+// Fills a row for each of `count` signatures: number * 256 + side of a refusal, 0 where it is accepted.
+#[no_mangle]
+pub extern "C" fn berrytick_compare_branches<'a>(
+    first: &'a [u8],
+    second: &'a [u8],
+    signatures: &'a [u8],
+    count: usize,
+    work: &mut [u8],
+    rows: &mut [Row],
+) -> u32
+    ensures { λ r. ⌜ SheetReturns (now (first .entry)) (now (second .entry)) (now (signatures .entry)) count (now (rows .entry)) (now (rows .exit)) (now (work .entry)) (now (work .exit)) r ⌝ }
+{
+    let answer = compare_branches(first, second, signatures, count, work, rows);
+    comparison_code(answer)
 }
 
 // Asks whether a concept lies below another: number * 65536 + side * 256 of a refusal, else 1 for yes and 0 for no.
