@@ -19,6 +19,8 @@ The fields of a case: first what the call is given, then what it answers.
     question, deep      file, c, d, length of the work memory; number, side, value, zeros
     compare             first, second, signature, lengths of the result and the work memory; number, side, result, zeros
     station             first, second, signature; the text
+    sheet               first, second, how many signatures, the signatures, how many rows, length of the work memory; number,
+                        side, the rows filled (each chosen, left, right, share, of two bytes), zeros
     signatures          n, m, steps; n, m, the bytes of the first places, a place more, its byte
 
 Where a call is refused, n, m, a, value and zeros are 0, and the result and the rewritten file have no byte: what is lent
@@ -56,6 +58,10 @@ def output(length):
     return number(min(length, MOST_OUTPUT))
 
 
+def rows(values):
+    return b"".join(part.to_bytes(2, "little") for row in values for part in row)
+
+
 def text(value):
     return value.encode("ascii")
 
@@ -70,6 +76,8 @@ VECTORS = {
                     number=number, side=number, result=bytes.fromhex, zeros=number),
     "rewrite": dict(file=bytes.fromhex, wanted=number, out_len=output, number=number, side=number,
                     out_file=bytes.fromhex),
+    "sheet": dict(first=bytes.fromhex, second=bytes.fromhex, q=number, sigs=bytes.fromhex, rows_len=number, work_len=number,
+                  number=number, side=number, rows=rows, zeros=number),
     "station": dict(first=bytes.fromhex, second=bytes.fromhex, sig=bytes.fromhex, out=text),
 }
 

@@ -11,6 +11,7 @@ mod print;
 mod questions;
 mod rewrite;
 mod run;
+mod sheets;
 mod show;
 mod signatures;
 mod station;
@@ -30,4 +31,5 @@ fn main() {
     run::family(Call::Station, b"station");
     run::family(Call::Rewrite, b"rewrite");
     run::family(Call::Rewrite, b"rewrites");
+    run::family(Call::Sheet, b"sheet");
 }

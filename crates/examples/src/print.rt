@@ -64,6 +64,10 @@ fn thing(what: What) {
             text(b"work byte ");
             number(place as u64)
         }
+        What::Row(place) => {
+            text(b"row ");
+            number(place as u64)
+        }
     }
 }
 

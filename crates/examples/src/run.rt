@@ -6,6 +6,7 @@ use crate::compare;
 use crate::print;
 use crate::questions;
 use crate::rewrite;
+use crate::sheets;
 use crate::show;
 use crate::signatures;
 use crate::station;
@@ -22,6 +23,7 @@ pub enum Call {
     Compare,
     Station,
     Rewrite,
+    Sheet,
 }
 
 // What one turn of reading and trying came to.
@@ -101,6 +103,7 @@ fn judge(call: Call, case: &[u8]) -> Verdict {
         Call::Compare => compare::judge(case),
         Call::Station => station::judge(case),
         Call::Rewrite => rewrite::judge(case),
+        Call::Sheet => sheets::judge(case),
     }
 }
 
@@ -114,5 +117,6 @@ fn fields_of(call: Call) -> usize {
         Call::Compare => compare::FIELDS,
         Call::Station => station::FIELDS,
         Call::Rewrite => rewrite::FIELDS,
+        Call::Sheet => sheets::FIELDS,
     }
 }

@@ -17,6 +17,7 @@ pub enum What {
     Value,
     Byte(usize),
     Work(usize),
+    Row(usize),
 }
 
 // `Differs` holds what was got and what was expected, in this order.
