@@ -16,6 +16,32 @@ pub fn baseline_compare(first: &[u8], second: &[u8], signature: &[u8], result: &
     }
 }
 
+/// A sheet by single comparisons.
+#[cfg(not(feature = "ours"))]
+pub fn baseline_branches(
+    first: &[u8],
+    second: &[u8],
+    signatures: &[u8],
+    count: usize,
+    work: &mut [u8],
+    rows: &mut [ours::Row],
+) -> u32 {
+    let names = baseline::names_of(first);
+    let mut result = vec![0; names];
+    for (signature, row) in signatures.chunks(signatures.len() / count.max(1)).zip(rows) {
+        let answer = baseline_compare(first, second, signature, &mut result, work);
+        if answer != 0 {
+            return answer;
+        }
+        let count = |test: fn(u8) -> bool| result.iter().filter(|&&byte| test(byte)).count() as u32;
+        row.chosen = signature[..names].iter().filter(|&&byte| byte == 1).count() as u32;
+        row.left = count(|byte| byte & 1 == 1);
+        row.right = count(|byte| byte & 2 == 2);
+        row.share = (count(|byte| byte != 0) * 1000).checked_div(row.chosen).unwrap_or(0);
+    }
+    0
+}
+
 pub fn baseline_ask(file: &[u8], below: &[u8], above: &[u8], work: &mut [u8]) -> u32 {
     match baseline::ask(file, below, above, work) {
         Ok(value) => value as u32,

@@ -2,6 +2,7 @@
 //!
 //!     bench vectors FOLDER            the baseline against outside vectors
 //!     bench compare FOLDER [--wide]   a table of comparisons: the inputs of FOLDER, and practice inputs
+//!     bench sheet FOLDER [--wide]     a table of sheets of 64 branches beside as many single comparisons
 //!     bench question [all] [--wide]   a table of the worst questions
 //!     bench agree COUNT [--wide]      both on so many random inputs, whole and damaged, short of memory at times
 //!     bench repeat BY INPUT COUNT FOLDER
@@ -20,6 +21,7 @@ mod naive;
 mod ours;
 mod practice;
 mod questions;
+mod sheet;
 mod vectors;
 
 use calls::{Buffers, Implementation};
@@ -37,6 +39,8 @@ fn main() -> ExitCode {
         ["vectors", folder] => vectors::try_all(Path::new(folder)),
         ["compare", folder] if wide => wide_compare(Path::new(folder)),
         ["compare", folder] => compare(Path::new(folder)),
+        ["sheet", folder] if wide => sheet::table(&inputs::from_folder(&inputs::wide_folder(Path::new(folder)))),
+        ["sheet", folder] => sheet::table(&inputs::from_folder(Path::new(folder))),
         ["question"] => question(false, wide),
         ["question", "all"] => question(true, wide),
         ["agree", count] => count.parse().map_or_else(|_| usage(), |count| agreement::try_many(count, wide)),
@@ -51,7 +55,7 @@ fn main() -> ExitCode {
 }
 
 fn usage() -> bool {
-    eprintln!("bench vectors FOLDER | compare FOLDER [--wide] | question [all] [--wide] | agree COUNT [--wide]");
+    eprintln!("bench vectors FOLDER | compare FOLDER [--wide] | sheet FOLDER [--wide] | question [all] [--wide] | agree COUNT [--wide]");
     eprintln!("bench repeat ours|baseline INPUT COUNT FOLDER");
     false
 }

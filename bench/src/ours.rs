@@ -8,6 +8,28 @@ pub fn compare(first: &[u8], second: &[u8], signature: &[u8], result: &mut [u8],
     linked::compare(first, second, signature, result, work)
 }
 
+/// The row of a branch.
+#[repr(C)]
+#[derive(Clone, Copy, Debug, Default, PartialEq, Eq)]
+pub struct Row {
+    pub chosen: u32,
+    pub left: u32,
+    pub right: u32,
+    pub share: u32,
+}
+
+/// A sheet: number * 256 + side, 0 for accepted.
+pub fn compare_branches(
+    first: &[u8],
+    second: &[u8],
+    signatures: &[u8],
+    count: usize,
+    work: &mut [u8],
+    rows: &mut [Row],
+) -> u32 {
+    linked::compare_branches(first, second, signatures, count, work, rows)
+}
+
 /// A question: number * 65536 + side * 256 + value.
 pub fn ask(file: &[u8], below: &[u8], above: &[u8], work: &mut [u8]) -> u32 {
     linked::ask(file, below, above, work)
@@ -21,6 +43,8 @@ pub const NAME: &str = "stand-in";
 
 #[cfg(feature = "ours")]
 mod linked {
+    use super::Row;
+
     extern "C" {
         fn berrytick_compare(
             first: *const u8,
@@ -33,6 +57,20 @@ mod linked {
             result_len: usize,
             work: *mut u8,
             work_len: usize,
+        ) -> u32;
+
+        fn berrytick_compare_branches(
+            first: *const u8,
+            first_len: usize,
+            second: *const u8,
+            second_len: usize,
+            signatures: *const u8,
+            signatures_len: usize,
+            count: usize,
+            work: *mut u8,
+            work_len: usize,
+            rows: *mut Row,
+            rows_len: usize,
         ) -> u32;
 
         fn berrytick_ask(
@@ -64,6 +102,31 @@ mod linked {
         }
     }
 
+    pub fn compare_branches(
+        first: &[u8],
+        second: &[u8],
+        signatures: &[u8],
+        count: usize,
+        work: &mut [u8],
+        rows: &mut [Row],
+    ) -> u32 {
+        unsafe {
+            berrytick_compare_branches(
+                first.as_ptr(),
+                first.len(),
+                second.as_ptr(),
+                second.len(),
+                signatures.as_ptr(),
+                signatures.len(),
+                count,
+                work.as_mut_ptr(),
+                work.len(),
+                rows.as_mut_ptr(),
+                rows.len(),
+            )
+        }
+    }
+
     pub fn ask(file: &[u8], below: &[u8], above: &[u8], work: &mut [u8]) -> u32 {
         unsafe {
             berrytick_ask(
@@ -82,5 +145,5 @@ mod linked {
 
 #[cfg(not(feature = "ours"))]
 mod linked {
-    pub use crate::calls::{baseline_ask as ask, baseline_compare as compare};
+    pub use crate::calls::{baseline_ask as ask, baseline_branches as compare_branches, baseline_compare as compare};
 }

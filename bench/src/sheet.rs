@@ -1,0 +1,146 @@
+//! A sheet of 64 branches beside 64 single comparisons of the proved library.
+//!
+//! A sheet makes the two classifications once. What is to be expected of it at most is the time of the single comparisons without
+//! the classifications of all but one: the last column. The time of the classifications is that of a comparison over the empty signature,
+//! in which there is nothing to mark, less that of one which is refused after both files were read.
+
+use crate::baseline;
+use crate::calls::{Buffers, Call};
+use crate::inputs::Input;
+use crate::ours::{self, Row};
+use std::hint::black_box;
+use std::time::{Duration, Instant};
+
+const BRANCHES: usize = 64;
+
+/// How often each is timed at least, and when it has been often enough.
+const A_FEW: usize = 3;
+const OFTEN_ENOUGH: usize = 50;
+const LONG_ENOUGH: Duration = Duration::from_millis(400);
+
+struct Sheet<'a> {
+    first: &'a [u8],
+    second: &'a [u8],
+    signatures: Vec<Vec<u8>>,
+    names: usize,
+}
+
+/// The signatures of an input: its own, and others that choose a part of its names and roles. Each is another, by a simple rule.
+fn signatures(own: &[u8]) -> Vec<Vec<u8>> {
+    let part =
+        |branch: usize, (place, &byte): (usize, &u8)| byte & u8::from((place * (2 * branch + 1) + branch) % 7 < 5);
+    let others = (1..BRANCHES).map(|branch| own.iter().enumerate().map(|byte| part(branch, byte)).collect());
+    std::iter::once(own.to_vec()).chain(others).collect()
+}
+
+impl Sheet<'_> {
+    fn of(input: &Input) -> Option<Sheet<'_>> {
+        let Call::Compare { first, second, signature } = &input.call else {
+            return None;
+        };
+        let names = baseline::names_of(first);
+        Some(Sheet { first, second, signatures: signatures(signature), names })
+    }
+
+    fn rows(&self, buffers: &mut Buffers) -> Vec<Row> {
+        let mut rows = vec![Row::default(); BRANCHES];
+        let together = self.signatures.concat();
+        let answer = ours::compare_branches(self.first, self.second, &together, BRANCHES, &mut buffers.work, &mut rows);
+        assert_eq!(answer, 0, "a sheet that is refused");
+        rows
+    }
+
+    fn compare(&self, signature: &[u8], buffers: &mut Buffers) -> u32 {
+        ours::compare(self.first, self.second, signature, &mut buffers.result, &mut buffers.work)
+    }
+
+    /// The row that a single comparison tells.
+    fn single(&self, signature: &[u8], buffers: &mut Buffers) -> Row {
+        assert_eq!(self.compare(signature, buffers), 0, "a comparison that is refused");
+        let result = &buffers.result[..self.names];
+        let count = |test: fn(u8) -> bool| result.iter().filter(|&&byte| test(byte)).count() as u32;
+        let chosen = signature[..self.names].iter().filter(|&&byte| byte == 1).count() as u32;
+        let reported = count(|byte| byte != 0);
+        Row {
+            chosen,
+            left: count(|byte| byte & 1 == 1),
+            right: count(|byte| byte & 2 == 2),
+            share: (reported * 1000).checked_div(chosen).unwrap_or(0),
+        }
+    }
+
+    fn agrees(&self) -> bool {
+        let mut buffers = Buffers::for_names(self.names);
+        let rows = self.rows(&mut buffers);
+        self.signatures.iter().zip(rows).all(|(signature, row)| self.single(signature, &mut buffers) == row)
+    }
+
+    /// Microseconds: the sheet, the single comparisons together, the classifications.
+    fn times(&self) -> [f64; 3] {
+        let mut buffers = Buffers::for_names(self.names);
+        let empty = vec![0; self.signatures[0].len()];
+        let mut refused = empty.clone();
+        if let Some(last) = refused.last_mut() {
+            *last = 2;
+        }
+        let mut best = [Duration::MAX; 4];
+        let start = Instant::now();
+        for done in 1..=OFTEN_ENOUGH {
+            let mut timed = |place: usize, run: &mut dyn FnMut(&mut Buffers)| {
+                buffers.refill();
+                let start = Instant::now();
+                run(&mut buffers);
+                best[place] = best[place].min(start.elapsed());
+            };
+            timed(0, &mut |buffers| {
+                black_box(self.rows(buffers));
+            });
+            timed(1, &mut |buffers| {
+                for signature in &self.signatures {
+                    black_box(self.compare(signature, buffers));
+                }
+            });
+            timed(2, &mut |buffers| {
+                black_box(self.compare(&empty, buffers));
+            });
+            timed(3, &mut |buffers| {
+                black_box(self.compare(&refused, buffers));
+            });
+            if start.elapsed() > LONG_ENOUGH && done >= A_FEW {
+                break;
+            }
+        }
+        let [sheet, singles, empty, refused] = best.map(|time| time.as_secs_f64() * 1e6);
+        [sheet, singles, empty - refused]
+    }
+}
+
+/// A table of the inputs; whether each row is what a single comparison tells.
+pub fn table(inputs: &[Input]) -> bool {
+    println!(
+        "{:42} {:>12} {:>12} {:>14} {:>12} {:>7}",
+        "sheet of 64 branches", "sheet µs", "64 single", "classification", "at most", "ratio"
+    );
+    let mut all_agree = true;
+    let mut worst: f64 = 0.0;
+    for input in inputs {
+        let Some(sheet) = Sheet::of(input) else {
+            continue;
+        };
+        if !sheet.agrees() {
+            println!("DIFFERENT: {}", input.name);
+            all_agree = false;
+            continue;
+        }
+        let [together, singles, classification] = sheet.times();
+        let most = singles - (BRANCHES - 1) as f64 * classification;
+        worst = worst.max(together / most);
+        println!(
+            "{:42} {together:>12.1} {singles:>12.1} {classification:>14.1} {most:>12.1} {:>7.2}",
+            input.name,
+            together / most
+        );
+    }
+    println!("worst ratio {worst:.2}");
+    all_agree
+}
