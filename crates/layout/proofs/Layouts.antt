@@ -1,10 +1,10 @@
 -- Laws of what a comparison reads.
---   name-inside, name-outside, role-inside, role-outside      the signature's bytes are the names and roles chosen
---   setting-stays                                             all stays in its place while marks grow
+--   name-inside, name-outside      the signature's bytes are the names chosen
+--   setting-stays                  all stays in its place while marks grow
 use mathlib.Core.Path.{_≡_}
 use mathlib.Core.Bool.{false}
 use mathlib.Core.List.{List}
-use Prim.Native.Nat.{ℕ, _+_, _≤_, _<_}
+use Prim.Native.Nat.{ℕ, _≤_, _<_}
 use lib.Dec.{eqb}
 use lib.ListN.{getD}
 use borrow.Author.Tests.{lt-ltb, le-ltb}
@@ -23,16 +23,10 @@ module _ (l : Layout) (g : List ℕ) (x : ℕ) where
   pub name-outside : l .names ≤ x → false ≡ chosen l g .has-name x
   name-outside h = rw (le-ltb x (l .names) h)
 
-  pub role-inside : x < l .roles → eqb (getD g (l .names + x) 0) 1 ≡ chosen l g .has-role x
-  role-inside h = rw (lt-ltb x (l .roles) h)
-
-  pub role-outside : l .roles ≤ x → false ≡ chosen l g .has-role x
-  role-outside h = rw (le-ltb x (l .roles) h)
-
 pub areas-stay : {l : Layout} {q : Square} {w v : List ℕ} → Frame q w v → Areas l w → Areas l v
 areas-stay f a = record { first = frame-area f (a .first); second = frame-area f (a .second); marks = frame-area f (a .marks) }
 
-pub setting-stays : {Rule : List ℕ → ℕ → ℕ → Type 0} {g a b : List ℕ} {l : Layout} {w v : List ℕ} → Grows Rule (markSquare l) w v → Setting g a b l w → Setting g a b l v
+pub setting-stays : {Rule : List ℕ → ℕ → ℕ → Type 0} {edges a b : List ℕ} {l : Layout} {w v : List ℕ} → Grows Rule (markSquare l) w v → Setting edges a b l w → Setting edges a b l v
 setting-stays grows s =
     let f = grows-frame grows in
-    record { signature = s .signature; first-table = s .first-table; second-table = s .second-table; first = frame-room f (s .first); second = frame-room f (s .second); marks = frame-room f (s .marks); areas = areas-stay f (s .areas) }
+    record { edge-bytes = s .edge-bytes; first-table = s .first-table; second-table = s .second-table; first = frame-room f (s .first); second = frame-room f (s .second); marks = frame-room f (s .marks); areas = areas-stay f (s .areas) }

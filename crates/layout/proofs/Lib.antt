@@ -1,4 +1,5 @@
 -- Laws of searches and layouts.
 pub mod Searches
 pub mod Layouts
+pub mod Findings
 pub mod Comparing

@@ -1,10 +1,9 @@
 -- What both kinds of marks of a comparison ask.
---   Comparing g s t a b l w     two accepted releases s, t over the same names, with their tables a, b and the squares of their
---                               inclusions, and a square without marks
+--   Comparing s t a b l w     two accepted releases s, t over the same names, with their tables a, b and the squares of their
+--                             inclusions, and a square without marks
 use mathlib.Core.Path.{_≡_}
 use mathlib.Core.List.{List}
 use Prim.Native.Nat.{ℕ, _+_, _≤_}
-use lib.ListN.{length}
 use Rattle.release.specs.Files.{namesOf}
 use Rattle.release.specs.Tables.{Release}
 use Rattle.marks.specs.Squares.{span, Room, Unmarked}
@@ -12,8 +11,7 @@ use Rattle.classification.specs.Inclusions.{Inclusions}
 use Rattle.layout.specs.declared.Layout.{Layout}
 use Rattle.layout.specs.Layouts.{firstSquare, secondSquare, markSquare, Areas}
 
-pub record Comparing (g s t a b : List ℕ) (l : Layout) (w : List ℕ) : Type 0 where
-  pub signature : l .names + l .roles ≤ length g
+pub record Comparing (s t a b : List ℕ) (l : Layout) (w : List ℕ) : Type 0 where
   pub first-release : Release s a
   pub second-release : Release t b
   pub first-names : l .names ≡ namesOf s

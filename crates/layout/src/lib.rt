@@ -1,11 +1,13 @@
 // What a comparison of two releases reads: the inclusions of both, the marks so far, and the signature.
 ghost use mathlib.Core.Path.{_≡_};
-ghost use Prim.Native.Nat.{_+_, _≤_, _<_};
+ghost use Prim.Native.Nat.{_≤_};
 ghost use lib.ListN.{length};
 ghost use Rattle.el.proofs.Tests.{Tells};
 ghost use Rattle.marks.specs.Squares.{Room, Marked, Put};
-ghost use Rattle.layout.specs.Layouts.{firstSquare, secondSquare, markSquare, chosen};
+ghost use Rattle.layout.specs.Layouts.{firstSquare, markSquare, chosen};
 use marks::Square;
+
+pub mod edges;
 
 // The numbers of names and roles, and where three squares begin in the work memory: the inclusions of the first release, those
 // of the second, and the marks of the comparison.
@@ -27,23 +29,6 @@ pub fn first_includes(work: &[u8], layout: Layout, x: usize, y: usize) -> bool
         work,
         Square {
             base: layout.first,
-            names: layout.names,
-        },
-        x,
-        y,
-    )
-}
-
-// Whether x ⊑ y is derivable from the second release.
-pub fn second_includes(work: &[u8], layout: Layout, x: usize, y: usize) -> bool
-    requires { ⌜ Room (secondSquare layout) (now work) ⌝ }
-    requires { ⌜ (x ≤ layout .names) × (y ≤ layout .names) ⌝ }
-    ensures { λ r. ⌜ Tells r (Marked (secondSquare layout) (now (work .entry)) x y) ⌝ }
-{
-    marks::is_marked(
-        work,
-        Square {
-            base: layout.second,
             names: layout.names,
         },
         x,
@@ -85,24 +70,13 @@ pub fn mark(work: &mut [u8], layout: Layout, x: usize, y: usize) -> bool
     )
 }
 
-// Whether a name is in the signature.
-pub fn has_name(signature: &[u8], layout: Layout, name: usize) -> bool
-    requires { ⌜ layout .names + layout .roles ≤ length (now signature) ⌝ }
-    ensures { λ r. ⌜ r ≡ chosen layout (now (signature .entry)) .has-name name ⌝ }
+// Whether a name is in the signature, of which the bytes of the names are read.
+pub fn has_name(chosen_names: &[u8], layout: Layout, name: usize) -> bool
+    requires { ⌜ layout .names ≤ length (now «chosen_names») ⌝ }
+    ensures { λ r. ⌜ r ≡ chosen layout (now («chosen_names» .entry)) .has-name name ⌝ }
 {
     if name < layout.names {
-        return signature[name] == 1;
-    }
-    false
-}
-
-// Whether a role is in the signature.
-pub fn has_role(signature: &[u8], layout: Layout, role: usize) -> bool
-    requires { ⌜ layout .names + layout .roles ≤ length (now signature) ⌝ }
-    ensures { λ r. ⌜ r ≡ chosen layout (now (signature .entry)) .has-role role ⌝ }
-{
-    if role < layout.roles {
-        return signature[layout.names + role] == 1;
+        return chosen_names[name] == 1;
     }
     false
 }
