@@ -26,11 +26,13 @@ use Rattle.classification.proofs.AxiomRows.{Found, is-restriction, restriction-
 use Rattle.layout.specs.declared.Layout.{Layout}
 use Rattle.layout.specs.Layouts.{firstSquare, secondSquare, markSquare, chosen}
 use Rattle.layout.specs.Searches.{SomeBelow}
+use Rattle.layout.specs.Findings.{Handed}
 use Rattle.layout.specs.Comparing.{Comparing}
+use Rattle.layout.proofs.Findings.{name-handed}
 use Rattle.layout.proofs.Comparing.{chosen-below}
 use Rattle.forward.specs.Rules.{Partner, Own, by-name, by-edge, Row}
 
-module _ {g s t a b : List ℕ} {l : Layout} {w : List ℕ} (c : Comparing g s t a b l w) (v : List ℕ) where
+module _ {names edges g s t a b : List ℕ} {l : Layout} {w : List ℕ} (handed : Handed g a (l .names) (l .roles) names edges) (c : Comparing s t a b l w) (v : List ℕ) where
   abbrev n : ℕ
   n = l .names
 
@@ -62,17 +64,18 @@ module _ {g s t a b : List ℕ} {l : Layout} {w : List ℕ} (c : Comparing g s t
         ]
 
     -- x lies above itself
-    pub own-forward : Marked (firstSquare l) v x x → Own g a b l v x y → Rule (nodeAt n x) (nodeAt n y)
-    own-forward itself (by-name p) = el.by-name (p .chosen-name) (said (nodeAt n x) (named x) (number-at n x x-in) refl itself) (not-said (nodeAt n y) (named x) (number-at n y y-in) refl (p .not-second))
+    pub own-forward : Marked (firstSquare l) v x x → Own names edges a b l v x y → Rule (nodeAt n x) (nodeAt n y)
+    own-forward itself (by-name p) = el.by-name (sym (name-handed handed x) ∙ p .chosen-name) (said (nodeAt n x) (named x) (number-at n x x-in) refl itself) (not-said (nodeAt n y) (named x) (number-at n y y-in) refl (p .not-second))
     own-forward itself (by-edge e) =
-        let f = restricted (c .first-release) (c .first-names) x (e .edge .is-name) (e .edge .is-restriction) in
-        let i = is-restriction f (e .edge .is-restriction) in
+        let chosen-edge = handed .found .flag x (e .edge .is-name) .tells .sound (e .edge .has-edge) in
+        let f = restricted (c .first-release) (c .first-names) x (e .edge .is-name) (chosen-edge .is-restriction) in
+        let i = is-restriction f (chosen-edge .is-restriction) in
         let link : Link (says (firstSquare l) v) (nodeAt n x) (roleOf (f .it)) (f .it) = record { above = said (nodeAt n x) (named (f .it .left)) (number-at n x x-in) (f .left) itself; is-restriction = i; role = refl } in
-        el.by-role (f .member) link (rw (← role-is f i) (e .edge .chosen-role)) (record { at = all-marked f i (e .no-partner) })
+        el.by-role (f .member) link (rw (← role-is f i) (chosen-edge .chosen-role)) (record { at = all-marked f i (e .no-partner) })
 
   -- and rows with nothing left to mark are closed
-  module _ (rows : Below (Row g a b l) (suc n) v) (x y : Node) (x-in : IsNode n x) (y-in : IsNode n y) where
-    marked-by : {d : ℕ} → d < n → says (firstSquare l) v x (named d) ≡ true → Own g a b l v d (nodeNumber n y) → says (markSquare l) v x y ≡ true
+  module _ (rows : Below (Row names edges a b l) (suc n) v) (x y : Node) (x-in : IsNode n x) (y-in : IsNode n y) where
+    marked-by : {d : ℕ} → d < n → says (firstSquare l) v x (named d) ≡ true → Own names edges a b l v d (nodeNumber n y) → says (markSquare l) v x y ≡ true
     marked-by {d} d-in above own =
         let lost = rows .at d (omega arith) .cells .at (nodeNumber n y) (omega (arith, number-small n y y-in)) .marked own in
         said x y refl refl (rows .at (nodeNumber n x) (omega (arith, number-small n x x-in)) .above .at d (omega arith) .within (marked x (named d) refl refl above) .marked (nodeNumber n y) (number-small n y y-in) lost)
@@ -86,12 +89,12 @@ module _ {g s t a b : List ℕ} {l : Layout} {w : List ℕ} (c : Comparing g s t
         q .serves .free (marked (fillerOf (f .it)) (fillerOf (d .it)) (filler-is f k) (filler-is d i) (every (d .it) (d .member) link))
 
     pub rows-closed : Rule x y → says (markSquare l) v x y ≡ true
-    rows-closed (el.by-name {b = d} over above not-above) = marked-by (chosen-below l g d over) above (by-name (record { is-name = chosen-below l g d over; chosen-name = over; not-second = λ m. not-both (said y (named d) refl refl m) not-above }))
+    rows-closed (el.by-name {b = d} over above not-above) = marked-by (chosen-below l g d over) above (by-name (record { is-name = chosen-below l g d over; chosen-name = name-handed handed d ∙ over; not-second = λ m. not-both (said y (named d) refl refl m) not-above }))
     rows-closed (el.by-role {a = o} {r = r} o-in link over every) =
         let f = own (c .first-release) (c .first-names) o-in in
         let k = link .is-restriction in
         let o-name = formed (c .first-release) (c .first-names) .left-in o-in in
         marked-by o-name (link .above) (by-edge (record {
-          edge = record { is-name = o-name; is-restriction = restriction-restricts f k; chosen-role = rw (role-is f k ∙ link .role) over };
+          edge = record { is-name = o-name; has-edge = handed .found .flag (o .left) o-name .tells .complete (record { is-restriction = restriction-restricts f k; chosen-role = rw (role-is f k ∙ link .role) over }) };
           no-partner = no-partner f k (link .role) (every .at);
         }))

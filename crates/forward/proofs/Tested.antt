@@ -2,19 +2,22 @@
 --   serves-not, ..                        whether a name serves for an edge
 --   joined-below, second-small, join-asks     what lies below a name, by a row of the turned inclusions
 --   kept-by, kept-not, kept-none .. kept-end     the line of the nodes that keep a partner
---   edge-by, end-small                    whether there is an edge; its end is a node
+--   edge-by, edge-end, end-small          there is an edge; its end is a node
 --   second-apart, below-apart, no-partner-stays     what marks put later do not change
---   setting-stays, seen-stays             what is asked holds after marks are put, and after they are seen
+--   named                                 what those ask that mark names
+--   setting-stays, named-stays, seen-stays     what is asked holds after marks are put, and after they are seen
 --   names-lost, edges-lost                marks put where a line has nothing, as steps of the rules;  by-name-pass, by-edge-pass: as passes
 --   found-at, none-start .. none-all      what the search for a partner finds
---   above-grows, row-from-above, taking-pass   marks taken from above, as steps of the rules
+--   above-grows, row-from-above, taking-grows     marks taken from above, as steps of the rules
+--   name-grows, follows-grows, taking-pass, looked     marks by names, and those that follow, as steps of all rules
 --   quiet-rows                            rows with nothing left to mark
 use mathlib.Core.Path.{_≡_, sym, _∙_}
-use mathlib.Core.Bool.{Bool, true, false, false≢true}
+use mathlib.Core.Bool.{Bool, true, false, _||_, false≢true}
 use mathlib.Core.List.{List}
 use mathlib.Core.Logic.{inl, inr}
 use Prim.Native.Nat.{ℕ, suc, _+_, _≤_, _<_}
 use native.Mathlib.Omega.{arith}
+use lib.ListN.{length}
 use native.Mathlib.Decide.{ℕ-discrete, decLt}
 use Rattle.el.proofs.Tests.{Tells, never}
 use Rattle.release.specs.Files.{restricts}
@@ -26,13 +29,13 @@ use Rattle.marks.specs.Passes.{Grows, Pass, Below, FromRow}
 use Rattle.marks.specs.Lines.{Has, Spans, Empty, Joined, Missing, Full}
 use Rattle.marks.specs.Inclusions.{Taking, Takes}
 use Rattle.marks.proofs.Squares.{frame-marked, marked-frame, frame-room}
-use Rattle.marks.proofs.Passes.{grows-frame, marks-stay, grows-as, pass-by, pass-with, put-grows, kept-grows}
+use Rattle.marks.proofs.Passes.{grows-frame, marks-stay, grows-as, pass-by, pass-with, pass-both, put-grows, kept-grows}
 use Rattle.marks.proofs.Handing.{stays-anywhere}
 use Rattle.layout.specs.declared.Layout.{Layout}
 use Rattle.layout.specs.Searches.{SomeBelow}
-use Rattle.layout.specs.Layouts.{firstSquare, secondSquare, belowSquare, markSquare, chosen, Rowed}
+use Rattle.layout.specs.Layouts.{firstSquare, secondSquare, belowSquare, markSquare, chosen, hasEdge, Rowed}
 use Rattle.layout.proofs.Layouts as layout
-use Rattle.forward.specs.Rules.{Beneath, Setting, NameLost, Serves, Partner, Edge, EdgeLost, Own, by-name, by-edge, FromAbove, Step, by-itself, by-above, JoinedBelow, KeptBy, Kept, ByName, ByEdge, Looked, Row}
+use Rattle.forward.specs.Rules.{Beneath, Setting, Named, NameLost, Serves, Partner, Edge, EdgeLost, Own, by-name, by-edge, FromAbove, Follows, from-edge, from-above, Step, by-itself, by-above, JoinedBelow, KeptBy, Kept, ByName, ByEdge, Looked, Row}
 
 pub rowed-row : {n x : ℕ} {t : List ℕ} → Rowed n t → x < n → HasRow t x
 rowed-row r h = record { row = omega (arith, r .rows) }
@@ -102,14 +105,14 @@ module _ {b : List ℕ} {l : Layout} {w : List ℕ} {z r : ℕ} where
   kept-end h o k = record { has = λ y c i j p. k .has y c i (omega arith) p; only = λ y i m. let s = k .only y i m in record { it = s .it; below = omega (arith, s .below); holds = s .holds } }
 
 -- edges
-pub edge-by : {g a : List ℕ} {l : Layout} {x r : ℕ} {t : Bool} → x < l .names → restricts (kindAt a x) ≡ true → r ≡ roleAt a x → t ≡ chosen l g .has-role r → Tells t (Edge g a l x)
-edge-by h k e f = record { sound = λ s. record { is-name = h; is-restriction = k; chosen-role = rw (← e) (sym f ∙ s) }; complete = λ p. f ∙ rw e (p .chosen-role) }
+pub edge-by : {edges : List ℕ} {l : Layout} {x : ℕ} {r : Bool} → x < l .names → r ≡ hasEdge edges x → r ≡ true → Edge edges l x
+edge-by h e t = record { is-name = h; has-edge = sym e ∙ t }
 
-pub end-small : {g a : List ℕ} {l : Layout} {x z : ℕ} → Rowed (l .names) a → Edge g a l x → z ≡ fillerAt a x → z ≤ l .names
-end-small {x = x} r e f = rw f (r .filler x (e .is-name) (e .is-restriction))
+pub edge-end : {edges a b : List ℕ} {l : Layout} {w : List ℕ} {x : ℕ} → Setting edges a b l w → Edge edges l x → fillerAt a x ≤ l .names
+edge-end {x = x} s e = s .places .first-table .filler x (e .is-name) (s .places .edge-bytes .restriction x (e .is-name) (e .has-edge))
 
-pub edge-end : {g a b : List ℕ} {l : Layout} {w : List ℕ} {x : ℕ} → Setting g a b l w → Edge g a l x → fillerAt a x ≤ l .names
-edge-end {x = x} s e = s .places .first-table .filler x (e .is-name) (e .is-restriction)
+pub end-small : {edges a b : List ℕ} {l : Layout} {w : List ℕ} {x z : ℕ} → Setting edges a b l w → Edge edges l x → z ≡ fillerAt a x → z ≤ l .names
+end-small s e f = rw f (edge-end s e)
 
 -- marks put later change no inclusion of the second release, nor the turned ones
 second-apart : {l : Layout} {w : List ℕ} → Beneath l w → Apart (secondSquare l) (markSquare l)
@@ -130,12 +133,19 @@ beneath-stays f s = record {
   apart = s .apart;
 }
 
-pub setting-stays : {R : List ℕ → ℕ → ℕ → Type 0} {g a b : List ℕ} {l : Layout} {w v : List ℕ} → Grows R (markSquare l) w v → Setting g a b l w → Setting g a b l v
+pub setting-stays : {R : List ℕ → ℕ → ℕ → Type 0} {edges a b : List ℕ} {l : Layout} {w v : List ℕ} → Grows R (markSquare l) w v → Setting edges a b l w → Setting edges a b l v
 setting-stays grows s = record { places = layout.setting-stays grows (s .places); few = s .few; below = λ h. beneath-stays (grows-frame grows) (s .below h) }
 
+-- what those ask that mark names
+pub named : {names edges a b : List ℕ} {l : Layout} {w : List ℕ} → l .names ≤ length names → Setting edges a b l w → Named names l w
+named h s = record { bytes = h; marks = s .places .marks; few = s .few; below = s .below }
+
+pub named-stays : {R : List ℕ → ℕ → ℕ → Type 0} {names : List ℕ} {l : Layout} {w v : List ℕ} → Grows R (markSquare l) w v → Named names l w → Named names l v
+named-stays grows s = let f = grows-frame grows in record { bytes = s .bytes; marks = frame-room f (s .marks); few = s .few; below = λ h. beneath-stays f (s .below h) }
+
 -- what is seen of the marks changes none
-pub seen-stays : {g a b : List ℕ} {l : Layout} {w v : List ℕ} → squares.Kept (markSquare l) w v → Setting g a b l w → Setting g a b l v
-seen-stays {g} {a} {b} {l} k s = setting-stays {R = Step g a b l} (kept-grows k) s
+pub seen-stays : {edges a b : List ℕ} {l : Layout} {w v : List ℕ} → squares.Kept (markSquare l) w v → Setting edges a b l w → Setting edges a b l v
+seen-stays {edges} {a} {b} {l} k s = setting-stays {R = Follows edges a b l} (kept-grows k) s
 
 -- where the line has nothing, there is no partner
 kept-lost : {b : List ℕ} {l : Layout} {w : List ℕ} {z r : ℕ} {k : List ℕ} {y : ℕ} → y ≤ l .names → Kept b l w z r k → (Has k y → ⊥) → SomeBelow (Partner b l w z y r) (l .names) → ⊥
@@ -147,40 +157,39 @@ no-partner-stays s grows h f p =
     let q = p .holds in
     f (record { it = p .it; below = p .below; holds = record { serves = record { is-restriction = q .serves .is-restriction; role = q .serves .role; free = λ m. q .serves .free (marks-stay grows m) }; second = marked-frame (grows-frame grows) (second-apart s) h (omega (arith, p .below)) (q .second) } })
 
-module _ {g a b : List ℕ} {l : Layout} {w : List ℕ} (s : Setting g a b l w) {x : ℕ} where
-  -- marks put where the line of an edge has nothing
-  module _ {k : List ℕ} {z r : ℕ} (edge : Edge g a l x) (end-is : z ≡ fillerAt a x) (role-is : r ≡ roleAt a x) (kept : Kept b l w z r k) where
-    lost-there : {u : List ℕ} {y : ℕ} → Grows (Missing k x) (markSquare l) w u → y ≤ l .names → (Has k y → ⊥) → EdgeLost g a b l u x y
-    lost-there {u} {y} grows h f = record { edge = edge; no-partner = rw (← end-is, ← role-is) (no-partner-stays (s .below (omega (arith, edge .is-name))) grows h (kept-lost h kept f)) }
+-- marks put where the line of an edge has nothing
+module _ {edges a b : List ℕ} {l : Layout} {w : List ℕ} (s : Setting edges a b l w) {x : ℕ} {k : List ℕ} {z r : ℕ} (edge : Edge edges l x) (end-is : z ≡ fillerAt a x) (role-is : r ≡ roleAt a x) (kept : Kept b l w z r k) where
+  edge-missing : (u : List ℕ) (c y : ℕ) → Grows (Missing k x) (markSquare l) w u → c ≤ l .names → y ≤ l .names → Missing k x u c y → Follows edges a b l u c y
+  edge-missing u c y grows c-in y-in m = from-edge (rw (m .row) (record { edge = edge; no-partner = rw (← end-is, ← role-is) (no-partner-stays (s .below (omega (arith, edge .is-name))) grows y-in (kept-lost y-in kept (m .not-there))) }))
 
-    pub edges-lost : {v : List ℕ} → Grows (Missing k x) (markSquare l) w v → Grows (Step g a b l) (markSquare l) w v
-    edges-lost grows = grows-as (λ u i y h xb yb m. by-itself (by-edge (rw (m .row) (lost-there h yb (m .not-there))))) grows
+  pub edges-lost : {v : List ℕ} → Grows (Missing k x) (markSquare l) w v → Grows (Follows edges a b l) (markSquare l) w v
+  edges-lost grows = grows-as edge-missing grows
 
-    pub by-edge-pass : {v : List ℕ} {f : Bool} → Pass (Missing k x) (markSquare l) (Full (markSquare l) k x) w v f → Pass (Step g a b l) (markSquare l) (ByEdge g a b l x) w v f
-    by-edge-pass {v} p = pass-with done (pass-by (λ u i y h xb yb m. by-itself (by-edge (rw (m .row) (lost-there h yb (m .not-there))))) p)
-      where
-        done : v ≡ w → Full (markSquare l) k x v → ByEdge g a b l x v
-        done e full = record { marked = λ y h o. full .marked y h (λ m. o .no-partner (rw (← role-is, ← end-is, e) (kept .only y h m))) }
+  pub by-edge-pass : {v : List ℕ} {f : Bool} → Pass (Missing k x) (markSquare l) (Full (markSquare l) k x) w v f → Pass (Follows edges a b l) (markSquare l) (ByEdge edges a b l x) w v f
+  by-edge-pass {v} p = pass-with done (pass-by edge-missing p)
+    where
+      done : v ≡ w → Full (markSquare l) k x v → ByEdge edges a b l x v
+      done e full = record { marked = λ y h o. full .marked y h (λ m. o .no-partner (rw (← role-is, ← end-is, e) (kept .only y h m))) }
 
-  -- marks put where what lies below a name has nothing
-  module _ {k i : List ℕ} (is-name : x < l .names) (chosen-name : chosen l g .has-name x ≡ true) (empty : Empty i) (joined : JoinedBelow l w x i k) where
-    name-lost : {R : List ℕ → ℕ → ℕ → Type 0} {u : List ℕ} {y : ℕ} → Grows R (markSquare l) w u → y ≤ l .names → (Has k y → ⊥) → NameLost g l u x y
-    name-lost {y = y} grows h f = record { is-name = is-name; chosen-name = chosen-name; not-second = λ m. f (joined .has y h (marked-frame (grows-frame grows) (second-apart (s .below (omega arith))) h (omega arith) m)) }
+-- marks put where what lies below a name has nothing
+module _ {names : List ℕ} {l : Layout} {w : List ℕ} (s : Named names l w) {x : ℕ} {k i : List ℕ} (is-name : x < l .names) (chosen-name : chosen l names .has-name x ≡ true) (empty : Empty i) (joined : JoinedBelow l w x i k) where
+  name-missing : (u : List ℕ) (c y : ℕ) → Grows (Missing k x) (markSquare l) w u → c ≤ l .names → y ≤ l .names → Missing k x u c y → NameLost names l u c y
+  name-missing u c y grows c-in y-in m = rw (m .row) (record { is-name = is-name; chosen-name = chosen-name; not-second = λ o. m .not-there (joined .has y y-in (marked-frame (grows-frame grows) (second-apart (s .below (omega arith))) y-in (omega arith) o)) })
 
-    pub names-lost : {v : List ℕ} → Grows (Missing k x) (markSquare l) w v → Grows (Step g a b l) (markSquare l) w v
-    names-lost grows = grows-as (λ u j y h xb yb m. by-itself (by-name (rw (m .row) (name-lost h yb (m .not-there))))) grows
+  pub names-lost : {v : List ℕ} → Grows (Missing k x) (markSquare l) w v → Grows (NameLost names l) (markSquare l) w v
+  names-lost grows = grows-as name-missing grows
 
-    pub by-name-pass : {v : List ℕ} {f : Bool} → Pass (Missing k x) (markSquare l) (Full (markSquare l) k x) w v f → Pass (Step g a b l) (markSquare l) (ByName g l x) w v f
-    by-name-pass {v} p = pass-with done (pass-by (λ u j y h xb yb m. by-itself (by-name (rw (m .row) (name-lost h yb (m .not-there))))) p)
-      where
-        below-it : (y : ℕ) → y ≤ l .names → Has k y → Marked (secondSquare l) w y x
-        below-it y h m = elim (joined .only y h m) [ inl e ↦ absurd (empty .none y e) | inr e ↦ e ]
+  pub by-name-pass : {v : List ℕ} {f : Bool} → Pass (Missing k x) (markSquare l) (Full (markSquare l) k x) w v f → Pass (NameLost names l) (markSquare l) (ByName names l x) w v f
+  by-name-pass {v} p = pass-with done (pass-by name-missing p)
+    where
+      below-it : (y : ℕ) → y ≤ l .names → Has k y → Marked (secondSquare l) w y x
+      below-it y h m = elim (joined .only y h m) [ inl e ↦ absurd (empty .none y e) | inr e ↦ e ]
 
-        done : v ≡ w → Full (markSquare l) k x v → ByName g l x v
-        done e full = record { marked = λ y h o. full .marked y h (λ m. o .not-second (rw e (below-it y h m))) }
+      done : v ≡ w → Full (markSquare l) k x v → ByName names l x v
+      done e full = record { marked = λ y h o. full .marked y h (λ m. o .not-second (rw e (below-it y h m))) }
 
-pub edge-put : {g a b : List ℕ} {l : Layout} {w v : List ℕ} {x y : ℕ} {r : Bool} → EdgeLost g a b l w x y → Put (markSquare l) x y w v r → Grows (Step g a b l) (markSquare l) w v
-edge-put e p = put-grows p (by-itself (by-edge e))
+pub edge-put : {edges a b : List ℕ} {l : Layout} {w v : List ℕ} {x y : ℕ} {r : Bool} → EdgeLost edges a b l w x y → Put (markSquare l) x y w v r → Grows (Follows edges a b l) (markSquare l) w v
+edge-put e p = put-grows p (from-edge e)
 
 -- the search for a partner: from a number on no name is one, up to the number k
 pub record NoneFrom (b : List ℕ) (l : Layout) (w : List ℕ) (z y r from k : ℕ) : Type 0 where
@@ -209,32 +218,47 @@ module _ {l : Layout} {w v : List ℕ} {x c : ℕ} where
   pub row-from-above : c ≤ l .names → Marked (firstSquare l) w x c → Grows (FromRow (markSquare l) c x) (markSquare l) w v → Grows (FromAbove l) (markSquare l) w v
   row-from-above c-in m grows = grows-as (λ u z y h i j f. record { it = c; inside = c-in; first = λ apart. rw (f .row) (stays-anywhere h m); lost = f .marked }) grows
 
-module _ {g a b : List ℕ} {l : Layout} {w v : List ℕ} where
-  pub above-grows : Grows (FromAbove l) (markSquare l) w v → Grows (Step g a b l) (markSquare l) w v
-  above-grows grows = grows-as (λ u x y h i j f. by-above f) grows
+module _ {edges a b : List ℕ} {l : Layout} {w v : List ℕ} where
+  pub above-grows : Grows (FromAbove l) (markSquare l) w v → Grows (Follows edges a b l) (markSquare l) w v
+  above-grows grows = grows-as (λ u x y h i j f. from-above f) grows
 
-  pub taking-grows : Grows (Taking (firstSquare l) (markSquare l)) (markSquare l) w v → Grows (Step g a b l) (markSquare l) w v
-  taking-grows grows = grows-as (λ u x y h i j f. by-above (record { it = f .it; inside = f .inside; first = λ apart. f .above; lost = f .marked })) grows
+  pub taking-grows : Grows (Taking (firstSquare l) (markSquare l)) (markSquare l) w v → Grows (Follows edges a b l) (markSquare l) w v
+  taking-grows grows = grows-as (λ u x y h i j f. from-above (record { it = f .it; inside = f .inside; first = λ apart. f .above; lost = f .marked })) grows
 
-  pub taking-pass : {D : List ℕ → Type 0} {r : Bool} → Pass (Taking (firstSquare l) (markSquare l)) (markSquare l) D w v r → Pass (Step g a b l) (markSquare l) D w v r
+-- as steps of all rules
+module _ {names edges a b : List ℕ} {l : Layout} where
+  follows-step : {u : List ℕ} {x y : ℕ} → Follows edges a b l u x y → Step names edges a b l u x y
+  follows-step (from-edge e) = by-itself (by-edge e)
+  follows-step (from-above f) = by-above f
+
+  pub name-grows : {w v : List ℕ} → Grows (NameLost names l) (markSquare l) w v → Grows (Step names edges a b l) (markSquare l) w v
+  name-grows grows = grows-as (λ u x y h i j f. by-itself (by-name f)) grows
+
+  pub follows-grows : {w v : List ℕ} → Grows (Follows edges a b l) (markSquare l) w v → Grows (Step names edges a b l) (markSquare l) w v
+  follows-grows grows = grows-as (λ u x y h i j f. follows-step f) grows
+
+  pub taking-pass : {D : List ℕ → Type 0} {w v : List ℕ} {r : Bool} → Pass (Taking (firstSquare l) (markSquare l)) (markSquare l) D w v r → Pass (Step names edges a b l) (markSquare l) D w v r
   taking-pass p = pass-by (λ u x y h i j f. by-above (record { it = f .it; inside = f .inside; first = λ apart. f .above; lost = f .marked })) p
 
+  pub looked : {w u v : List ℕ} {x : ℕ} {p q : Bool} → Pass (NameLost names l) (markSquare l) (ByName names l x) w u p → Pass (Follows edges a b l) (markSquare l) (ByEdge edges a b l x) u v q → Pass (Step names edges a b l) (markSquare l) (Looked names edges a b l x) w v (p || q)
+  looked name edge = pass-both (λ n e. record { name = n; edge = e }) (pass-by (λ u x y h i j f. by-itself (by-name f)) name) (pass-by (λ u x y h i j f. follows-step f) edge)
+
 -- rows with nothing left to mark; ⊤ has no axiom
-pub quiet-rows : {g a b : List ℕ} {l : Layout} {w : List ℕ} → Below (Looked g a b l) (l .names) w → Below (Takes (firstSquare l) (markSquare l)) (suc (l .names)) w → Below (Row g a b l) (suc (l .names)) w
-quiet-rows {g} {a} {b} {l} {w} looked takes = record {
+pub quiet-rows : {names edges a b : List ℕ} {l : Layout} {w : List ℕ} → Below (Looked names edges a b l) (l .names) w → Below (Takes (firstSquare l) (markSquare l)) (suc (l .names)) w → Below (Row names edges a b l) (suc (l .names)) w
+quiet-rows {names} {edges} {a} {b} {l} {w} looked takes = record {
   at = λ x h. record {
     cells = record { at = λ y i. record { marked = cell x y (omega arith) } };
     above = record { at = λ c i. record { within = λ m. takes .at x h .each c (omega arith) m } };
   };
 }
   where
-    cell : (x y : ℕ) → y ≤ l .names → Own g a b l w x y → Marked (markSquare l) w x y
+    cell : (x y : ℕ) → y ≤ l .names → Own names edges a b l w x y → Marked (markSquare l) w x y
     cell x y h (by-name e) = looked .at x (e .is-name) .name .marked y h e
     cell x y h (by-edge e) = looked .at x (e .edge .is-name) .edge .marked y h e
 
 -- names and edges that lose nothing
-pub by-name-none : {g : List ℕ} {l : Layout} {x : ℕ} {w : List ℕ} → chosen l g .has-name x ≡ false → ByName g l x w
+pub by-name-none : {names : List ℕ} {l : Layout} {x : ℕ} {w : List ℕ} → chosen l names .has-name x ≡ false → ByName names l x w
 by-name-none e = record { marked = λ y h o. absurd (false≢true (sym e ∙ o .chosen-name)) }
 
-pub by-edge-none : {g a b : List ℕ} {l : Layout} {x : ℕ} {w : List ℕ} → (Edge g a l x → ⊥) → ByEdge g a b l x w
-by-edge-none f = record { marked = λ y h o. absurd (f (o .edge)) }
+pub by-edge-none : {edges a b : List ℕ} {l : Layout} {x : ℕ} {w : List ℕ} → hasEdge edges x ≡ false → ByEdge edges a b l x w
+by-edge-none e = record { marked = λ y h o. absurd (false≢true (sym e ∙ o .edge .has-edge)) }

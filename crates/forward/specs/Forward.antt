@@ -2,7 +2,8 @@
 --   ForwardMarked g s t l v     a cell is marked exactly when some signature concept lies above its row by the first release s and
 --                               not above its column by the second release t; where it is not, all that lies above is kept
 --   Forwarded g s t l w v       the memory w became v: its square of marks holds that, and all else is as before
---   ForwardFrom g a b l w v     so it is for all releases with the tables a and b whose inclusions w holds
+--   ForwardFrom names edges a b l w v     so it is for all releases with the tables a and b whose inclusions w holds, and all signatures
+--                                         of which this is handed on
 use mathlib.Core.Path.{_≡_}
 use mathlib.Core.Bool.{true}
 use mathlib.Core.List.{List}
@@ -16,6 +17,7 @@ use Rattle.marks.specs.Squares.{Marked, Frame}
 use Rattle.classification.specs.Inclusions.{nodeAt}
 use Rattle.layout.specs.declared.Layout.{Layout}
 use Rattle.layout.specs.Layouts.{markSquare, chosen}
+use Rattle.layout.specs.Findings.{Handed}
 use Rattle.layout.specs.Comparing.{Comparing}
 
 pub record ForwardMarked (g s t : List ℕ) (l : Layout) (v : List ℕ) : Type 0 where
@@ -26,5 +28,5 @@ pub record Forwarded (g s t : List ℕ) (l : Layout) (w v : List ℕ) : Type 0 w
   pub frame : Frame (markSquare l) w v
   pub marked : ForwardMarked g s t l v
 
-pub record ForwardFrom (g a b : List ℕ) (l : Layout) (w v : List ℕ) : Type 0 where
-  pub of-releases : (s t : List ℕ) → Comparing g s t a b l w → Forwarded g s t l w v
+pub record ForwardFrom (names edges a b : List ℕ) (l : Layout) (w v : List ℕ) : Type 0 where
+  pub of-releases : (g s t : List ℕ) → Handed g a (l .names) (l .roles) names edges → Comparing s t a b l w → Forwarded g s t l w v

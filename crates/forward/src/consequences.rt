@@ -5,14 +5,14 @@ ghost use Rattle.marks.specs.Passes.{Grows};
 ghost use Rattle.marks.specs.Squares.{Room, Area};
 ghost use Rattle.marks.specs.Lines.{Spans};
 ghost use Rattle.layout.specs.Layouts.{Rowed, firstSquare, secondSquare, markSquare};
-ghost use Rattle.forward.specs.Rules.{Beneath, Setting, Edge, FromAbove, Step};
+ghost use Rattle.forward.specs.Rules.{Beneath, Setting, Edge, FromAbove, Follows};
 use crate::kept::join_below;
 use crate::kept::keep;
 use crate::partner::Partners;
 use crate::partner::has_partner;
-use crate::rules::has_edge;
 use classification::hints::Hints;
 use layout::Layout;
+use layout::edges::has_edge;
 use layout::first_includes;
 use layout::is_marked;
 use layout::mark;
@@ -39,16 +39,16 @@ impl Few {
 
 // Marks the pairs of x that its edge loses, for all nodes at once. Whether there can be new ones.
 pub fn lose_row(
-    signature: &[u8],
+    edges: &[u8],
     first: &[u16],
     second: &[u16],
     work: &mut [u8],
     layout: Layout,
     x: usize,
 ) -> bool
-    requires { ⌜ Setting (now signature) (now first) (now second) layout (now work) ⌝ }
-    requires { ⌜ Edge (now signature) (now first) layout x ⌝ }
-    ensures { λ _. ⌜ Grows (Step (now (signature .entry)) (now (first .entry)) (now (second .entry)) layout) (markSquare layout) (now (work .entry)) (now (work .exit)) ⌝ }
+    requires { ⌜ Setting (now edges) (now first) (now second) layout (now work) ⌝ }
+    requires { ⌜ Edge (now edges) layout x ⌝ }
+    ensures { λ _. ⌜ Grows (Follows (now (edges .entry)) (now (first .entry)) (now (second .entry)) layout) (markSquare layout) (now (work .entry)) (now (work .exit)) ⌝ }
 {
     let mut kept = [0u8; Line::LENGTH];
     let marks = Square {
@@ -67,7 +67,7 @@ pub fn lose_row(
 
 // Marks the pair x, y if the edge of x is lost there.
 fn lose(
-    signature: &[u8],
+    edges: &[u8],
     first: &[u16],
     second: &[u16],
     work: &mut [u8],
@@ -77,10 +77,10 @@ fn lose(
     x: usize,
     y: usize,
 )
-    requires { ⌜ Setting (now signature) (now first) (now second) layout (now work) ⌝ }
-    requires { ⌜ Edge (now signature) (now first) layout x ⌝ }
+    requires { ⌜ Setting (now edges) (now first) (now second) layout (now work) ⌝ }
+    requires { ⌜ Edge (now edges) layout x ⌝ }
     requires { ⌜ y ≤ layout .names ⌝ }
-    ensures { λ _. ⌜ Grows (Step (now (signature .entry)) (now (first .entry)) (now (second .entry)) layout) (markSquare layout) (now (work .entry)) (now (work .exit)) ⌝ }
+    ensures { λ _. ⌜ Grows (Follows (now (edges .entry)) (now (first .entry)) (now (second .entry)) layout) (markSquare layout) (now (work .entry)) (now (work .exit)) ⌝ }
 {
     if is_marked(work, layout, x, y) {
         return;
@@ -167,7 +167,7 @@ fn count_left(work: &[u8], layout: Layout, touched: &[u8; Line::LENGTH], x: usiz
 
 // The edge of x, for each node of the line.
 fn lose_each(
-    signature: &[u8],
+    edges: &[u8],
     first: &[u16],
     second: &[u16],
     work: &mut [u8],
@@ -177,32 +177,22 @@ fn lose_each(
     touched: &[u8; Line::LENGTH],
     x: usize,
 )
-    requires { ⌜ Setting (now signature) (now first) (now second) layout (now work) ⌝ }
-    requires { ⌜ Edge (now signature) (now first) layout x ⌝ }
-    ensures { λ _. ⌜ Grows (Step (now (signature .entry)) (now (first .entry)) (now (second .entry)) layout) (markSquare layout) (now (work .entry)) (now (work .exit)) ⌝ }
+    requires { ⌜ Setting (now edges) (now first) (now second) layout (now work) ⌝ }
+    requires { ⌜ Edge (now edges) layout x ⌝ }
+    ensures { λ _. ⌜ Grows (Follows (now (edges .entry)) (now (first .entry)) (now (second .entry)) layout) (markSquare layout) (now (work .entry)) (now (work .exit)) ⌝ }
 {
     let mut next = waiting::next(touched, layout.names, 0);
     while next <= layout.names {
         let y = next;
         next = waiting::next(touched, layout.names, y + 1);
-        lose(
-            signature,
-            first,
-            second,
-            work,
-            partners,
-            waiting,
-            layout,
-            x,
-            y,
-        );
+        lose(edges, first, second, work, partners, waiting, layout, x, y);
     }
 }
 
 // The edge of x, which only nodes of the line can lose: where a few are left that x is not marked with, for each node of the line;
 // where more are left, for all nodes at once.
 fn lose_touched(
-    signature: &[u8],
+    edges: &[u8],
     first: &[u16],
     second: &[u16],
     work: &mut [u8],
@@ -212,22 +202,22 @@ fn lose_touched(
     touched: &[u8; Line::LENGTH],
     x: usize,
 )
-    requires { ⌜ Setting (now signature) (now first) (now second) layout (now work) ⌝ }
-    requires { ⌜ Edge (now signature) (now first) layout x ⌝ }
-    ensures { λ _. ⌜ Grows (Step (now (signature .entry)) (now (first .entry)) (now (second .entry)) layout) (markSquare layout) (now (work .entry)) (now (work .exit)) ⌝ }
+    requires { ⌜ Setting (now edges) (now first) (now second) layout (now work) ⌝ }
+    requires { ⌜ Edge (now edges) layout x ⌝ }
+    ensures { λ _. ⌜ Grows (Follows (now (edges .entry)) (now (first .entry)) (now (second .entry)) layout) (markSquare layout) (now (work .entry)) (now (work .exit)) ⌝ }
 {
     let count = count_left(work, layout, touched, x);
     if count == 0 {
         return;
     }
     if Few::NODES < count {
-        if lose_row(signature, first, second, work, layout, x) {
+        if lose_row(edges, first, second, work, layout, x) {
             wait(waiting, x);
         }
         return;
     }
     lose_each(
-        signature,
+        edges,
         first,
         second,
         work,
@@ -241,7 +231,7 @@ fn lose_touched(
 
 // The edge of x, whose end has new marks in the columns of a line: for the nodes that can lose it by these.
 fn lose_by_new(
-    signature: &[u8],
+    edges: &[u8],
     first: &[u16],
     second: &[u16],
     work: &mut [u8],
@@ -251,15 +241,15 @@ fn lose_by_new(
     new: &[u8; Line::LENGTH],
     x: usize,
 )
-    requires { ⌜ Setting (now signature) (now first) (now second) layout (now work) ⌝ }
-    requires { ⌜ Edge (now signature) (now first) layout x ⌝ }
-    ensures { λ _. ⌜ Grows (Step (now (signature .entry)) (now (first .entry)) (now (second .entry)) layout) (markSquare layout) (now (work .entry)) (now (work .exit)) ⌝ }
+    requires { ⌜ Setting (now edges) (now first) (now second) layout (now work) ⌝ }
+    requires { ⌜ Edge (now edges) layout x ⌝ }
+    ensures { λ _. ⌜ Grows (Follows (now (edges .entry)) (now (first .entry)) (now (second .entry)) layout) (markSquare layout) (now (work .entry)) (now (work .exit)) ⌝ }
 {
     let mut touched = [0u8; Line::LENGTH];
     let role = table::role(first, x);
     touch(second, work, new, &mut touched, layout, role);
     lose_touched(
-        signature,
+        edges,
         first,
         second,
         work,
@@ -273,7 +263,7 @@ fn lose_by_new(
 
 // The same, given in how many bytes something is new: where these are more than a few, for all nodes at once.
 fn lose_edge(
-    signature: &[u8],
+    edges: &[u8],
     first: &[u16],
     second: &[u16],
     work: &mut [u8],
@@ -284,18 +274,18 @@ fn lose_edge(
     fresh: usize,
     x: usize,
 )
-    requires { ⌜ Setting (now signature) (now first) (now second) layout (now work) ⌝ }
-    requires { ⌜ Edge (now signature) (now first) layout x ⌝ }
-    ensures { λ _. ⌜ Grows (Step (now (signature .entry)) (now (first .entry)) (now (second .entry)) layout) (markSquare layout) (now (work .entry)) (now (work .exit)) ⌝ }
+    requires { ⌜ Setting (now edges) (now first) (now second) layout (now work) ⌝ }
+    requires { ⌜ Edge (now edges) layout x ⌝ }
+    ensures { λ _. ⌜ Grows (Follows (now (edges .entry)) (now (first .entry)) (now (second .entry)) layout) (markSquare layout) (now (work .entry)) (now (work .exit)) ⌝ }
 {
     if Few::BYTES < fresh {
-        if lose_row(signature, first, second, work, layout, x) {
+        if lose_row(edges, first, second, work, layout, x) {
             wait(waiting, x);
         }
         return;
     }
     lose_by_new(
-        signature,
+        edges,
         first,
         second,
         work,
@@ -309,7 +299,7 @@ fn lose_edge(
 
 // The edges that end at the node, which has new marks in the columns of a line.
 fn lose_edges(
-    signature: &[u8],
+    edges: &[u8],
     first: &[u16],
     second: &[u16],
     work: &mut [u8],
@@ -320,9 +310,9 @@ fn lose_edges(
     fresh: usize,
     end: usize,
 )
-    requires { ⌜ Setting (now signature) (now first) (now second) layout (now work) ⌝ }
+    requires { ⌜ Setting (now edges) (now first) (now second) layout (now work) ⌝ }
     requires { ⌜ end ≤ layout .names ⌝ }
-    ensures { λ _. ⌜ Grows (Step (now (signature .entry)) (now (first .entry)) (now (second .entry)) layout) (markSquare layout) (now (work .entry)) (now (work .exit)) ⌝ }
+    ensures { λ _. ⌜ Grows (Follows (now (edges .entry)) (now (first .entry)) (now (second .entry)) layout) (markSquare layout) (now (work .entry)) (now (work .exit)) ⌝ }
 {
     let inclusions = Square {
         base: layout.first,
@@ -332,9 +322,9 @@ fn lose_edges(
     while next < layout.names {
         let x = next;
         next = hints::next(work, inclusions, Hints::FILLERS, end, x + 1);
-        if has_edge(signature, first, layout, x) {
+        if has_edge(edges, x) {
             lose_edge(
-                signature,
+                edges,
                 first,
                 second,
                 work,
@@ -379,7 +369,7 @@ fn hand_down(work: &mut [u8], waiting: &mut [u16; Waiting::LENGTH], layout: Layo
 
 // All that the new marks of row x give.
 pub fn deal(
-    signature: &[u8],
+    edges: &[u8],
     first: &[u16],
     second: &[u16],
     work: &mut [u8],
@@ -388,9 +378,9 @@ pub fn deal(
     layout: Layout,
     x: usize,
 )
-    requires { ⌜ Setting (now signature) (now first) (now second) layout (now work) ⌝ }
+    requires { ⌜ Setting (now edges) (now first) (now second) layout (now work) ⌝ }
     requires { ⌜ x ≤ layout .names ⌝ }
-    ensures { λ _. ⌜ Grows (Step (now (signature .entry)) (now (first .entry)) (now (second .entry)) layout) (markSquare layout) (now (work .entry)) (now (work .exit)) ⌝ }
+    ensures { λ _. ⌜ Grows (Follows (now (edges .entry)) (now (first .entry)) (now (second .entry)) layout) (markSquare layout) (now (work .entry)) (now (work .exit)) ⌝ }
 {
     let marks = Square {
         base: layout.marks,
@@ -400,7 +390,7 @@ pub fn deal(
     let fresh = hints::see(work, marks, x, &mut new);
     hand_down(work, waiting, layout, x);
     lose_edges(
-        signature,
+        edges,
         first,
         second,
         work,

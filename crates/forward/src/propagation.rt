@@ -6,13 +6,13 @@ ghost use Rattle.marks.specs.Squares.{Room};
 ghost use Rattle.marks.specs.Lines.{Spans};
 ghost use Rattle.marks.specs.Passes.{Grows};
 ghost use Rattle.layout.specs.Layouts.{firstSquare, markSquare};
-ghost use Rattle.forward.specs.Rules.{Setting, Step};
+ghost use Rattle.forward.specs.Rules.{Setting, Named, NameLost, Follows};
 use crate::consequences::deal;
 use crate::consequences::lose_row;
 use crate::kept::join_below;
 use crate::partner::Partners;
-use crate::rules::has_edge;
 use layout::Layout;
+use layout::edges::has_edge;
 use layout::has_name;
 use marks::Square;
 use marks::inclusions::take;
@@ -52,19 +52,12 @@ pub fn sort(first: &[u16], work: &[u8], layout: Layout, order: &mut [u16; Order:
 }
 
 // Marks the name x with all that it is not above by the second release, if it is in the signature.
-fn mark_name(
-    signature: &[u8],
-    first: &[u16],
-    second: &[u16],
-    work: &mut [u8],
-    layout: Layout,
-    x: usize,
-)
-    requires { ⌜ Setting (now signature) (now first) (now second) layout (now work) ⌝ }
+fn mark_name(chosen_names: &[u8], work: &mut [u8], layout: Layout, x: usize)
+    requires { ⌜ Named (now «chosen_names») layout (now work) ⌝ }
     requires { ⌜ x < layout .names ⌝ }
-    ensures { λ _. ⌜ Grows (Step (now (signature .entry)) (now (first .entry)) (now (second .entry)) layout) (markSquare layout) (now (work .entry)) (now (work .exit)) ⌝ }
+    ensures { λ _. ⌜ Grows (NameLost (now («chosen_names» .entry)) layout) (markSquare layout) (now (work .entry)) (now (work .exit)) ⌝ }
 {
-    if has_name(signature, layout, x) {
+    if has_name(chosen_names, layout, x) {
         let mut kept = [0u8; Line::LENGTH];
         join_below(&mut kept, work, layout, x);
         line::mark_missing(
@@ -80,15 +73,15 @@ fn mark_name(
 }
 
 // Does so for all names.
-fn mark_names(signature: &[u8], first: &[u16], second: &[u16], work: &mut [u8], layout: Layout)
-    requires { ⌜ Setting (now signature) (now first) (now second) layout (now work) ⌝ }
-    ensures { λ _. ⌜ Grows (Step (now (signature .entry)) (now (first .entry)) (now (second .entry)) layout) (markSquare layout) (now (work .entry)) (now (work .exit)) ⌝ }
+pub fn mark_names(chosen_names: &[u8], work: &mut [u8], layout: Layout)
+    requires { ⌜ Named (now «chosen_names») layout (now work) ⌝ }
+    ensures { λ _. ⌜ Grows (NameLost (now («chosen_names» .entry)) layout) (markSquare layout) (now (work .entry)) (now (work .exit)) ⌝ }
 {
     let mut next = 0;
     while next < layout.names {
         let x = next;
         next += 1;
-        mark_name(signature, first, second, work, layout, x);
+        mark_name(chosen_names, work, layout, x);
     }
 }
 
@@ -119,7 +112,7 @@ fn wait_for_above(
 
 // The edge of x. If its end is not done, it waits.
 fn first_edge(
-    signature: &[u8],
+    edges: &[u8],
     first: &[u16],
     second: &[u16],
     work: &mut [u8],
@@ -128,14 +121,14 @@ fn first_edge(
     layout: Layout,
     x: usize,
 )
-    requires { ⌜ Setting (now signature) (now first) (now second) layout (now work) ⌝ }
+    requires { ⌜ Setting (now edges) (now first) (now second) layout (now work) ⌝ }
     requires { ⌜ Spans (layout .names) (now done) ⌝ }
     requires { ⌜ x < layout .names ⌝ }
-    ensures { λ _. ⌜ Grows (Step (now (signature .entry)) (now (first .entry)) (now (second .entry)) layout) (markSquare layout) (now (work .entry)) (now (work .exit)) ⌝ }
+    ensures { λ _. ⌜ Grows (Follows (now (edges .entry)) (now (first .entry)) (now (second .entry)) layout) (markSquare layout) (now (work .entry)) (now (work .exit)) ⌝ }
 {
-    if has_edge(signature, first, layout, x) {
+    if has_edge(edges, x) {
         let end = table::filler(first, x);
-        lose_row(signature, first, second, work, layout, x);
+        lose_row(edges, first, second, work, layout, x);
         if line::has(done, end) {
             return;
         }
@@ -145,7 +138,7 @@ fn first_edge(
 
 // Row x: the marks of what lies above it, and its edge.
 fn first_row(
-    signature: &[u8],
+    edges: &[u8],
     first: &[u16],
     second: &[u16],
     work: &mut [u8],
@@ -155,10 +148,10 @@ fn first_row(
     x: usize,
     near: usize,
 )
-    requires { ⌜ Setting (now signature) (now first) (now second) layout (now work) ⌝ }
+    requires { ⌜ Setting (now edges) (now first) (now second) layout (now work) ⌝ }
     requires { ⌜ Spans (layout .names) (now done) ⌝ }
     requires { ⌜ x ≤ layout .names ⌝ }
-    ensures { λ _. ⌜ Grows (Step (now (signature .entry)) (now (first .entry)) (now (second .entry)) layout) (markSquare layout) (now (work .entry)) (now (work .exit)) ⌝ }
+    ensures { λ _. ⌜ Grows (Follows (now (edges .entry)) (now (first .entry)) (now (second .entry)) layout) (markSquare layout) (now (work .entry)) (now (work .exit)) ⌝ }
 {
     take(
         work,
@@ -176,13 +169,13 @@ fn first_row(
     );
     wait_for_above(work, waiting, done, layout, x);
     if x < layout.names {
-        first_edge(signature, first, second, work, waiting, done, layout, x);
+        first_edge(edges, first, second, work, waiting, done, layout, x);
     }
 }
 
 // All rows, one after the other.
 fn first_rows(
-    signature: &[u8],
+    edges: &[u8],
     first: &[u16],
     second: &[u16],
     work: &mut [u8],
@@ -191,9 +184,9 @@ fn first_rows(
     order: &[u16; Order::NODES],
     layout: Layout,
 )
-    requires { ⌜ Setting (now signature) (now first) (now second) layout (now work) ⌝ }
+    requires { ⌜ Setting (now edges) (now first) (now second) layout (now work) ⌝ }
     requires { ⌜ Spans (layout .names) (now done) ⌝ }
-    ensures { λ _. ⌜ Grows (Step (now (signature .entry)) (now (first .entry)) (now (second .entry)) layout) (markSquare layout) (now (work .entry)) (now (work .exit)) ⌝ }
+    ensures { λ _. ⌜ Grows (Follows (now (edges .entry)) (now (first .entry)) (now (second .entry)) layout) (markSquare layout) (now (work .entry)) (now (work .exit)) ⌝ }
 {
     let mut near = Order::NODES;
     let mut k = 0;
@@ -201,17 +194,7 @@ fn first_rows(
         let x = order::at(order, k);
         k += 1;
         if x <= layout.names {
-            first_row(
-                signature,
-                first,
-                second,
-                work,
-                waiting,
-                done,
-                layout,
-                x,
-                near,
-            );
+            first_row(edges, first, second, work, waiting, done, layout, x, near);
             line::add(done, x);
             near = x;
         }
@@ -220,15 +203,15 @@ fn first_rows(
 
 // Deals with the rows that wait, until none does.
 fn deal_with_all(
-    signature: &[u8],
+    edges: &[u8],
     first: &[u16],
     second: &[u16],
     work: &mut [u8],
     waiting: &mut [u16; Waiting::LENGTH],
     layout: Layout,
 )
-    requires { ⌜ Setting (now signature) (now first) (now second) layout (now work) ⌝ }
-    ensures { λ _. ⌜ Grows (Step (now (signature .entry)) (now (first .entry)) (now (second .entry)) layout) (markSquare layout) (now (work .entry)) (now (work .exit)) ⌝ }
+    requires { ⌜ Setting (now edges) (now first) (now second) layout (now work) ⌝ }
+    ensures { λ _. ⌜ Grows (Follows (now (edges .entry)) (now (first .entry)) (now (second .entry)) layout) (markSquare layout) (now (work .entry)) (now (work .exit)) ⌝ }
 {
     let mut partners = [0u16; Partners::NODES];
     let mut left = Waiting::TURNS;
@@ -239,7 +222,7 @@ fn deal_with_all(
             return;
         }
         deal(
-            signature,
+            edges,
             first,
             second,
             work,
@@ -251,9 +234,9 @@ fn deal_with_all(
     }
 }
 
-// The marks that names give, and what follows from them by edges, as far as the hints lead.
+// What follows from the marks that names give, as far as the hints lead.
 pub fn begin(
-    signature: &[u8],
+    edges: &[u8],
     first: &[u16],
     second: &[u16],
     work: &mut [u8],
@@ -261,13 +244,12 @@ pub fn begin(
     order: &[u16; Order::NODES],
     layout: Layout,
 )
-    requires { ⌜ Setting (now signature) (now first) (now second) layout (now work) ⌝ }
-    ensures { λ _. ⌜ Grows (Step (now (signature .entry)) (now (first .entry)) (now (second .entry)) layout) (markSquare layout) (now (work .entry)) (now (work .exit)) ⌝ }
+    requires { ⌜ Setting (now edges) (now first) (now second) layout (now work) ⌝ }
+    ensures { λ _. ⌜ Grows (Follows (now (edges .entry)) (now (first .entry)) (now (second .entry)) layout) (markSquare layout) (now (work .entry)) (now (work .exit)) ⌝ }
 {
     let mut done = [0u8; Line::LENGTH];
-    mark_names(signature, first, second, work, layout);
     first_rows(
-        signature,
+        edges,
         first,
         second,
         work,
@@ -276,21 +258,21 @@ pub fn begin(
         order,
         layout,
     );
-    deal_with_all(signature, first, second, work, waiting, layout);
+    deal_with_all(edges, first, second, work, waiting, layout);
 }
 
 // What follows from the marks that a pass found.
 pub fn resume(
-    signature: &[u8],
+    edges: &[u8],
     first: &[u16],
     second: &[u16],
     work: &mut [u8],
     waiting: &mut [u16; Waiting::LENGTH],
     layout: Layout,
 )
-    requires { ⌜ Setting (now signature) (now first) (now second) layout (now work) ⌝ }
-    ensures { λ _. ⌜ Grows (Step (now (signature .entry)) (now (first .entry)) (now (second .entry)) layout) (markSquare layout) (now (work .entry)) (now (work .exit)) ⌝ }
+    requires { ⌜ Setting (now edges) (now first) (now second) layout (now work) ⌝ }
+    ensures { λ _. ⌜ Grows (Follows (now (edges .entry)) (now (first .entry)) (now (second .entry)) layout) (markSquare layout) (now (work .entry)) (now (work .exit)) ⌝ }
 {
     waiting::wait_all(waiting, layout.names);
-    deal_with_all(signature, first, second, work, waiting, layout);
+    deal_with_all(edges, first, second, work, waiting, layout);
 }

@@ -1,13 +1,14 @@
 // Passes over all names and rows, until one finds nothing left to mark.
-ghost use Prim.Native.Nat.{suc, _<_};
+ghost use Prim.Native.Nat.{suc, _≤_, _<_};
+ghost use lib.ListN.{length};
 ghost use Rattle.marks.specs.Passes.{Pass, Closed, Below};
 ghost use Rattle.layout.specs.Layouts.{markSquare};
-ghost use Rattle.forward.specs.Rules.{Setting, Step, ByName, ByEdge, Looked, Row};
+ghost use Rattle.forward.specs.Rules.{Setting, Named, NameLost, Follows, Step, ByName, ByEdge, Looked, Row};
 use crate::kept::join_below;
 use crate::kept::keep;
 use crate::propagation::resume;
-use crate::rules::has_edge;
 use layout::Layout;
+use layout::edges::has_edge;
 use layout::has_name;
 use marks::Square;
 use marks::inclusions::take_all;
@@ -18,19 +19,12 @@ use marks::waiting::Waiting;
 use release::table;
 
 // Marks the name x with all that it is not above by the second release, if it is in the signature. Whether a mark is new.
-fn look_at_name(
-    signature: &[u8],
-    first: &[u16],
-    second: &[u16],
-    work: &mut [u8],
-    layout: Layout,
-    x: usize,
-) -> bool
-    requires { ⌜ Setting (now signature) (now first) (now second) layout (now work) ⌝ }
+fn look_at_name(chosen_names: &[u8], work: &mut [u8], layout: Layout, x: usize) -> bool
+    requires { ⌜ Named (now «chosen_names») layout (now work) ⌝ }
     requires { ⌜ x < layout .names ⌝ }
-    ensures { λ r. ⌜ Pass (Step (now (signature .entry)) (now (first .entry)) (now (second .entry)) layout) (markSquare layout) (ByName (now (signature .entry)) layout x) (now (work .entry)) (now (work .exit)) r ⌝ }
+    ensures { λ r. ⌜ Pass (NameLost (now («chosen_names» .entry)) layout) (markSquare layout) (ByName (now («chosen_names» .entry)) layout x) (now (work .entry)) (now (work .exit)) r ⌝ }
 {
-    if has_name(signature, layout, x) {
+    if has_name(chosen_names, layout, x) {
         let mut kept = [0u8; Line::LENGTH];
         join_below(&mut kept, work, layout, x);
         return line::absorb_missing(
@@ -48,18 +42,18 @@ fn look_at_name(
 
 // Marks the pairs of x that its edge loses. Whether a mark is new.
 fn look_at_edge(
-    signature: &[u8],
+    edges: &[u8],
     first: &[u16],
     second: &[u16],
     work: &mut [u8],
     layout: Layout,
     x: usize,
 ) -> bool
-    requires { ⌜ Setting (now signature) (now first) (now second) layout (now work) ⌝ }
+    requires { ⌜ Setting (now edges) (now first) (now second) layout (now work) ⌝ }
     requires { ⌜ x < layout .names ⌝ }
-    ensures { λ r. ⌜ Pass (Step (now (signature .entry)) (now (first .entry)) (now (second .entry)) layout) (markSquare layout) (ByEdge (now (signature .entry)) (now (first .entry)) (now (second .entry)) layout x) (now (work .entry)) (now (work .exit)) r ⌝ }
+    ensures { λ r. ⌜ Pass (Follows (now (edges .entry)) (now (first .entry)) (now (second .entry)) layout) (markSquare layout) (ByEdge (now (edges .entry)) (now (first .entry)) (now (second .entry)) layout x) (now (work .entry)) (now (work .exit)) r ⌝ }
 {
-    if has_edge(signature, first, layout, x) {
+    if has_edge(edges, x) {
         let mut kept = [0u8; Line::LENGTH];
         let role = table::role(first, x);
         let end = table::filler(first, x);
@@ -79,22 +73,24 @@ fn look_at_edge(
 
 // Both, for all names. Whether a mark is new.
 fn look_at_names(
-    signature: &[u8],
+    chosen_names: &[u8],
+    edges: &[u8],
     first: &[u16],
     second: &[u16],
     work: &mut [u8],
     layout: Layout,
 ) -> bool
-    requires { ⌜ Setting (now signature) (now first) (now second) layout (now work) ⌝ }
-    ensures { λ r. ⌜ Pass (Step (now (signature .entry)) (now (first .entry)) (now (second .entry)) layout) (markSquare layout) (Below (Looked (now (signature .entry)) (now (first .entry)) (now (second .entry)) layout) (layout .names)) (now (work .entry)) (now (work .exit)) r ⌝ }
+    requires { ⌜ layout .names ≤ length (now «chosen_names») ⌝ }
+    requires { ⌜ Setting (now edges) (now first) (now second) layout (now work) ⌝ }
+    ensures { λ r. ⌜ Pass (Step (now («chosen_names» .entry)) (now (edges .entry)) (now (first .entry)) (now (second .entry)) layout) (markSquare layout) (Below (Looked (now («chosen_names» .entry)) (now (edges .entry)) (now (first .entry)) (now (second .entry)) layout) (layout .names)) (now (work .entry)) (now (work .exit)) r ⌝ }
 {
     let mut changed = false;
     let mut next = 0;
     while next < layout.names {
         let x = next;
         next += 1;
-        let name = look_at_name(signature, first, second, work, layout, x);
-        let edge = look_at_edge(signature, first, second, work, layout, x);
+        let name = look_at_name(chosen_names, work, layout, x);
+        let edge = look_at_edge(edges, first, second, work, layout, x);
         changed = changed | (name | edge);
     }
     changed
@@ -102,17 +98,19 @@ fn look_at_names(
 
 // One pass: over all names, and if these gave nothing, over all rows with those above them. Whether a mark is new.
 fn pass(
-    signature: &[u8],
+    chosen_names: &[u8],
+    edges: &[u8],
     first: &[u16],
     second: &[u16],
     work: &mut [u8],
     order: &[u16; Order::NODES],
     layout: Layout,
 ) -> bool
-    requires { ⌜ Setting (now signature) (now first) (now second) layout (now work) ⌝ }
-    ensures { λ r. ⌜ Pass (Step (now (signature .entry)) (now (first .entry)) (now (second .entry)) layout) (markSquare layout) (Below (Row (now (signature .entry)) (now (first .entry)) (now (second .entry)) layout) (suc (layout .names))) (now (work .entry)) (now (work .exit)) r ⌝ }
+    requires { ⌜ layout .names ≤ length (now «chosen_names») ⌝ }
+    requires { ⌜ Setting (now edges) (now first) (now second) layout (now work) ⌝ }
+    ensures { λ r. ⌜ Pass (Step (now («chosen_names» .entry)) (now (edges .entry)) (now (first .entry)) (now (second .entry)) layout) (markSquare layout) (Below (Row (now («chosen_names» .entry)) (now (edges .entry)) (now (first .entry)) (now (second .entry)) layout) (suc (layout .names))) (now (work .entry)) (now (work .exit)) r ⌝ }
 {
-    if look_at_names(signature, first, second, work, layout) {
+    if look_at_names(chosen_names, edges, first, second, work, layout) {
         return true;
     }
     take_all(
@@ -131,7 +129,8 @@ fn pass(
 
 // Passes until nothing is left to mark. What follows from the marks that a pass found is propagated before the next one.
 pub fn close(
-    signature: &[u8],
+    chosen_names: &[u8],
+    edges: &[u8],
     first: &[u16],
     second: &[u16],
     work: &mut [u8],
@@ -139,10 +138,11 @@ pub fn close(
     order: &[u16; Order::NODES],
     layout: Layout,
 )
-    requires { ⌜ Setting (now signature) (now first) (now second) layout (now work) ⌝ }
-    ensures { λ _. ⌜ Closed (Step (now (signature .entry)) (now (first .entry)) (now (second .entry)) layout) (markSquare layout) (Below (Row (now (signature .entry)) (now (first .entry)) (now (second .entry)) layout) (suc (layout .names))) (now (work .entry)) (now (work .exit)) ⌝ }
+    requires { ⌜ layout .names ≤ length (now «chosen_names») ⌝ }
+    requires { ⌜ Setting (now edges) (now first) (now second) layout (now work) ⌝ }
+    ensures { λ _. ⌜ Closed (Step (now («chosen_names» .entry)) (now (edges .entry)) (now (first .entry)) (now (second .entry)) layout) (markSquare layout) (Below (Row (now («chosen_names» .entry)) (now (edges .entry)) (now (first .entry)) (now (second .entry)) layout) (suc (layout .names))) (now (work .entry)) (now (work .exit)) ⌝ }
 {
-    while pass(signature, first, second, work, order, layout) {
-        resume(signature, first, second, work, waiting, layout);
+    while pass(chosen_names, edges, first, second, work, order, layout) {
+        resume(edges, first, second, work, waiting, layout);
     }
 }

@@ -6,7 +6,7 @@ use lib.ListN.{length}
 use Rattle.marks.specs.Passes.{Grows, none}
 use Rattle.marks.proofs.Passes.{grows-frame, grows-further}
 use Rattle.layout.specs.Layouts.{markSquare}
-use Rattle.forward.specs.Rules.{Setting, Step}
+use Rattle.forward.specs.Rules.{Setting, Follows}
 use Rattle.forward.proofs.Tested.{setting-stays}
 use Rattle.forward.proofs.consequences.lose_each.Statement.{statement}
 use Rattle.forward.proofs.consequences.lose_each.Tie as tie
@@ -16,10 +16,10 @@ use Rattle.forward.proofs.consequences.lose.Reads as lose-reads
 use Rattle.marks.proofs.waiting.next.Reads as next-reads
 
 abbrev Inv-loop : tie.InvT-loop
-Inv-loop signature first second work₀ partners₀ waiting₀ layout touched x next₀ work partners waiting next = (length work ≡ length work₀) × Setting signature first second layout work × Grows (Step signature first second layout) (markSquare layout) work₀ work
+Inv-loop edges first second work₀ partners₀ waiting₀ layout touched x next₀ work partners waiting next = (length work ≡ length work₀) × Setting edges first second layout work × Grows (Follows edges first second layout) (markSquare layout) work₀ work
 
 abbrev μ-loop : tie.MeasureT-loop
-μ-loop signature first second work₀ partners₀ waiting₀ layout touched x next₀ work partners waiting next = suc (layout .names) - next
+μ-loop edges first second work₀ partners₀ waiting₀ layout touched x next₀ work partners waiting next = suc (layout .names) - next
 
 next-requires : tie.Need-next-requires Inv-loop μ-loop
 next-requires c κs = search needs

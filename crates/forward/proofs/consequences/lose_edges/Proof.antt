@@ -5,21 +5,21 @@ use lib.ListN.{length}
 use Rattle.marks.specs.Passes.{Grows, none}
 use Rattle.marks.proofs.Passes.{grows-frame, grows-further}
 use Rattle.layout.specs.Layouts.{markSquare}
-use Rattle.forward.specs.Rules.{Setting, Step}
-use Rattle.forward.proofs.Tested.{setting-stays}
+use Rattle.forward.specs.Rules.{Setting, Follows}
+use Rattle.forward.proofs.Tested.{edge-by, setting-stays}
 use Rattle.forward.proofs.consequences.lose_edges.Statement.{statement}
 use Rattle.forward.proofs.consequences.lose_edges.Tie as tie
 use Rattle.forward.proofs.consequences.lose_edges.Reads as reads
 use Rattle.forward.proofs.consequences.lose_edges.Lts as lts
 use Rattle.forward.proofs.consequences.lose_edge.Reads as lose-edge-reads
-use Rattle.forward.proofs.rules.has_edge.Reads as has-edge-reads
+use Rattle.layout.proofs.edges.has_edge.Reads as has-edge-reads
 use Rattle.marks.proofs.hints.next.Reads as next-reads
 
 abbrev Inv-loop : tie.InvT-loop
-Inv-loop signature first second work₀ partners₀ waiting₀ layout new fresh end inclusions next₀ work partners waiting next = (length work ≡ length work₀) × Setting signature first second layout work × Grows (Step signature first second layout) (markSquare layout) work₀ work
+Inv-loop edges first second work₀ partners₀ waiting₀ layout new fresh end inclusions next₀ work partners waiting next = (length work ≡ length work₀) × Setting edges first second layout work × Grows (Follows edges first second layout) (markSquare layout) work₀ work
 
 abbrev μ-loop : tie.MeasureT-loop
-μ-loop signature first second work₀ partners₀ waiting₀ layout new fresh end inclusions next₀ work partners waiting next = suc (layout .names) - next
+μ-loop edges first second work₀ partners₀ waiting₀ layout new fresh end inclusions next₀ work partners waiting next = suc (layout .names) - next
 
 next-requires : tie.Need-next-requires Inv-loop μ-loop
 next-requires c κs = (c .before .before .before .before .before .pre .0 .places .areas .first, (omega arith, c .before .before .before .before .before .pre .1, omega arith))
@@ -34,10 +34,10 @@ next-requires-2 : tie.Need-next-requires-2 Inv-loop μ-loop
 next-requires-2 c κs = (c .before .before .before .loop .inv .1 .places .areas .first, (omega arith, c .before .before .before .before .before .before .before .before .before .before .pre .1, omega (arith, c .before .if1 .taken)))
 
 has-edge-requires : tie.Need-has-edge-requires Inv-loop μ-loop
-has-edge-requires c κs = (c .before .before .before .before .before .before .before .before .before .before .before .pre .0 .places .signature, (c .before .before .before .before .before .before .before .before .before .before .before .pre .0 .places .first-table, c .before .before .if1 .taken))
+has-edge-requires c κs = omega (arith, c .before .before .if1 .taken, c .before .before .before .before .before .before .before .before .before .before .before .pre .0 .places .edge-bytes .bytes)
 
 lose-edge-requires : tie.Need-lose-edge-requires Inv-loop μ-loop
-lose-edge-requires c κs = (c .before .before .before .before .before .before .before .before .before .loop .inv .1, c .before .before .before .before .has-edge .ensures .sound (c .before .before .before .if2 .taken))
+lose-edge-requires c κs = (c .before .before .before .before .before .before .before .before .before .loop .inv .1, (edge-by (c .before .before .before .before .before .before .before .if1 .taken) (c .before .before .before .before .has-edge .ensures) (c .before .before .before .if2 .taken)))
 
 loop-less : tie.Need-loop-less Inv-loop μ-loop
 loop-less c = omega (arith, c .before .before .before .before .before .before .before .before .before .before .if1 .taken, c .before .before .before .before .before .before .before .before .next2 .ensures .0)

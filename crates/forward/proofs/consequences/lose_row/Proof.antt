@@ -23,7 +23,7 @@ slice-aggregate-keep : tie.Need-slice-aggregate-keep
 slice-aggregate-keep c = search needs
 
 keep-requires : tie.Need-keep-requires
-keep-requires c κs = (c .before .before .before .before .before .before .before .before .pre .0 .places .second-table, ((c .before .before .before .before .before .before .before .before .pre .0 .places .marks, c .before .before .before .before .before .before .before .before .pre .0 .below (omega (arith, c .before .before .before .before .before .before .before .before .pre .1 .is-name))), ((record { inside = omega (arith, c .before .before .before .before .before .before .before .before .pre .0 .few) }, empty-zeros 128), (end-small (c .before .before .before .before .before .before .before .before .pre .0 .places .first-table) (c .before .before .before .before .before .before .before .before .pre .1) (c .before .before .filler .ensures), c .before .before .before .before .before .before .before .before .pre .0 .few))))
+keep-requires c κs = (c .before .before .before .before .before .before .before .before .pre .0 .places .second-table, ((c .before .before .before .before .before .before .before .before .pre .0 .places .marks, c .before .before .before .before .before .before .before .before .pre .0 .below (omega (arith, c .before .before .before .before .before .before .before .before .pre .1 .is-name))), ((record { inside = omega (arith, c .before .before .before .before .before .before .before .before .pre .0 .few) }, empty-zeros 128), (end-small (c .before .before .before .before .before .before .before .before .pre .0) (c .before .before .before .before .before .before .before .before .pre .1) (c .before .before .filler .ensures), c .before .before .before .before .before .before .before .before .pre .0 .few))))
 
 slice-aggregate-seems-full : tie.Need-slice-aggregate-seems-full
 slice-aggregate-seems-full c = search needs

@@ -5,7 +5,7 @@ use lib.ListN.{length}
 use Rattle.marks.specs.Passes.{Grows, none}
 use Rattle.marks.proofs.Passes.{grows-frame, grows-further}
 use Rattle.layout.specs.Layouts.{markSquare}
-use Rattle.forward.specs.Rules.{Setting, Step}
+use Rattle.forward.specs.Rules.{Setting, Follows}
 use Rattle.forward.proofs.Tested.{setting-stays}
 use Rattle.forward.proofs.propagation.deal_with_all.Statement.{statement}
 use Rattle.forward.proofs.propagation.deal_with_all.Tie as tie
@@ -15,10 +15,10 @@ use Rattle.forward.proofs.consequences.deal.Reads as deal-reads
 use Rattle.marks.proofs.waiting.take.Reads as take-reads
 
 abbrev Inv-loop : tie.InvT-loop
-Inv-loop signature first second work₀ waiting₀ layout partners₀ left₀ work waiting partners left = (length work ≡ length work₀) × Setting signature first second layout work × Grows (Step signature first second layout) (markSquare layout) work₀ work
+Inv-loop edges first second work₀ waiting₀ layout partners₀ left₀ work waiting partners left = (length work ≡ length work₀) × Setting edges first second layout work × Grows (Follows edges first second layout) (markSquare layout) work₀ work
 
 abbrev μ-loop : tie.MeasureT-loop
-μ-loop signature first second work₀ waiting₀ layout partners₀ left₀ work waiting partners left = left
+μ-loop edges first second work₀ waiting₀ layout partners₀ left₀ work waiting partners left = left
 
 loop-holds : tie.Need-loop-holds Inv-loop μ-loop
 loop-holds c = (refl, c .before .before .before .before .pre, none)

@@ -6,7 +6,7 @@ use lib.ListN.{length}
 use Rattle.marks.specs.Passes.{Grows, none}
 use Rattle.marks.proofs.Passes.{grows-frame, grows-further}
 use Rattle.layout.specs.Layouts.{markSquare}
-use Rattle.forward.specs.Rules.{Setting, Step}
+use Rattle.forward.specs.Rules.{Setting, Follows}
 use Rattle.forward.proofs.Tested.{setting-stays}
 use Rattle.forward.proofs.propagation.first_rows.Statement.{statement}
 use Rattle.forward.proofs.propagation.first_rows.Tie as tie
@@ -17,10 +17,10 @@ use Rattle.marks.proofs.line.add.Reads as add-reads
 use Rattle.marks.proofs.order.at.Reads as at-reads
 
 abbrev Inv-loop : tie.InvT-loop
-Inv-loop signature first second work₀ waiting₀ done₀ order layout near₀ k₀ work waiting done near k = (k ≤ suc (layout .names)) × ((length work ≡ length work₀) × (length done ≡ length done₀)) × Setting signature first second layout work × Grows (Step signature first second layout) (markSquare layout) work₀ work
+Inv-loop edges first second work₀ waiting₀ done₀ order layout near₀ k₀ work waiting done near k = (k ≤ suc (layout .names)) × ((length work ≡ length work₀) × (length done ≡ length done₀)) × Setting edges first second layout work × Grows (Follows edges first second layout) (markSquare layout) work₀ work
 
 abbrev μ-loop : tie.MeasureT-loop
-μ-loop signature first second work₀ waiting₀ done₀ order layout near₀ k₀ work waiting done near k = suc (layout .names) - k
+μ-loop edges first second work₀ waiting₀ done₀ order layout near₀ k₀ work waiting done near k = suc (layout .names) - k
 
 loop-holds : tie.Need-loop-holds Inv-loop μ-loop
 loop-holds c = (omega arith, (refl, refl), c .before .before .before .before .before .pre .0, none)

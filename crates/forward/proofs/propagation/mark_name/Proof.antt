@@ -19,7 +19,7 @@ slice-aggregate-join-below : tie.Need-slice-aggregate-join-below
 slice-aggregate-join-below c = search needs
 
 join-below-requires : tie.Need-join-below-requires
-join-below-requires c κs = (c .before .before .before .before .before .before .before .before .pre .0 .below (omega (arith, c .before .before .before .before .before .before .before .before .pre .1)), (record { inside = search (needs, c .before .before .before .before .before .before .before .before .pre .0 .few) }, c .before .before .before .before .before .before .before .before .pre .1))
+join-below-requires c κs = (c .before .before .before .before .before .before .pre .0 .below (omega (arith, c .before .before .before .before .before .before .pre .1)), (record { inside = search (needs, c .before .before .before .before .before .before .pre .0 .few) }, c .before .before .before .before .before .before .pre .1))
 
 slice-aggregate-mark-missing : tie.Need-slice-aggregate-mark-missing
 slice-aggregate-mark-missing c = search needs
@@ -31,7 +31,7 @@ same-length : tie.Need-same-length
 same-length c = search needs
 
 returns : tie.Need-returns
-returns c = names-lost (c .before .before .before .before .before .before .before .before .before .before .before .before .before .before .before .pre .0) (c .before .before .before .before .before .before .before .before .before .before .before .before .before .before .before .pre .1) (sym (c .before .before .before .before .before .before .before .before .before .before .has-name .ensures) ∙ c .before .before .before .before .before .before .before .before .before .if1 .taken) (empty-zeros 128) (c .before .before .before .before .before .before .join-below .ensures) (c .before .before .mark-missing .ensures)
+returns c = names-lost (c .before .before .before .before .before .before .before .before .before .before .before .before .before .pre .0) (c .before .before .before .before .before .before .before .before .before .before .before .before .before .pre .1) (sym (c .before .before .before .before .before .before .before .before .before .before .has-name .ensures) ∙ c .before .before .before .before .before .before .before .before .before .if1 .taken) (empty-zeros 128) (c .before .before .before .before .before .before .join-below .ensures) (c .before .before .mark-missing .ensures)
 
 returns-2 : tie.Need-returns-2
 returns-2 c = none

@@ -5,8 +5,8 @@ use lib.ListN.{length}
 use Rattle.marks.specs.Passes.{Grows, none}
 use Rattle.marks.proofs.Passes.{grows-frame, grows-further}
 use Rattle.layout.specs.Layouts.{markSquare}
-use Rattle.forward.specs.Rules.{Setting, Step}
-use Rattle.forward.proofs.Tested.{setting-stays}
+use Rattle.forward.specs.Rules.{Named, NameLost}
+use Rattle.forward.proofs.Tested.{named-stays}
 use Rattle.forward.proofs.propagation.mark_names.Statement.{statement}
 use Rattle.forward.proofs.propagation.mark_names.Tie as tie
 use Rattle.forward.proofs.propagation.mark_names.Reads as reads
@@ -14,16 +14,16 @@ use Rattle.forward.proofs.propagation.mark_names.Lts as lts
 use Rattle.forward.proofs.propagation.mark_name.Reads as mark-name-reads
 
 abbrev Inv-loop : tie.InvT-loop
-Inv-loop signature first second work₀ layout next₀ work next = (next ≤ layout .names) × (length work ≡ length work₀) × Setting signature first second layout work × Grows (Step signature first second layout) (markSquare layout) work₀ work
+Inv-loop names work₀ layout next₀ work next = (next ≤ layout .names) × (length work ≡ length work₀) × Named names layout work × Grows (NameLost names layout) (markSquare layout) work₀ work
 
 abbrev μ-loop : tie.MeasureT-loop
-μ-loop signature first second work₀ layout next₀ work next = layout .names - next
+μ-loop names work₀ layout next₀ work next = layout .names - next
 
 loop-holds : tie.Need-loop-holds Inv-loop μ-loop
-loop-holds c = (omega arith, refl, c .before .before .before .before .pre, none)
+loop-holds c = (omega arith, refl, c .before .before .pre, none)
 
 add-next : tie.Need-add-next Inv-loop μ-loop
-add-next c = omega (arith, c .if1 .taken, c .before .before .before .before .before .before .before .pre .few)
+add-next c = omega (arith, c .if1 .taken, c .before .before .before .before .before .pre .few)
 
 mark-name-requires : tie.Need-mark-name-requires Inv-loop μ-loop
 mark-name-requires c κs = (c .before .before .before .loop .inv .2, c .before .if1 .taken)
@@ -32,7 +32,7 @@ loop-less : tie.Need-loop-less Inv-loop μ-loop
 loop-less c = omega (arith, c .before .before .before .before .if1 .taken)
 
 loop-again : tie.Need-loop-again Inv-loop μ-loop
-loop-again c = (omega (arith, c .before .before .before .before .if1 .taken), grows-frame (c .before .before .mark-name .ensures) .long ∙ c .before .before .before .before .before .before .loop .inv .1, setting-stays (c .before .before .mark-name .ensures) (c .before .before .before .before .before .before .loop .inv .2), grows-further (c .before .before .before .before .before .before .loop .inv .3) (c .before .before .mark-name .ensures))
+loop-again c = (omega (arith, c .before .before .before .before .if1 .taken), grows-frame (c .before .before .mark-name .ensures) .long ∙ c .before .before .before .before .before .before .loop .inv .1, named-stays (c .before .before .mark-name .ensures) (c .before .before .before .before .before .before .loop .inv .2), grows-further (c .before .before .before .before .before .before .loop .inv .3) (c .before .before .mark-name .ensures))
 
 same-length : tie.Need-same-length Inv-loop μ-loop
 same-length c = c .before .before .loop .inv .1

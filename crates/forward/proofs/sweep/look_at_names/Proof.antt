@@ -3,10 +3,10 @@ use Prim.Native.Nat.{_≤_, _-_}
 use mathlib.Core.Path.{_≡_, refl, _∙_}
 use lib.ListN.{length}
 use Rattle.marks.specs.Passes.{Pass, Below}
-use Rattle.marks.proofs.Passes.{grows-frame, pass-both, turns-none, turn-both, turns-end}
+use Rattle.marks.proofs.Passes.{grows-frame, turns-none, turn-both, turns-end}
 use Rattle.layout.specs.Layouts.{markSquare}
 use Rattle.forward.specs.Rules.{Setting, Step, Looked}
-use Rattle.forward.proofs.Tested.{setting-stays}
+use Rattle.forward.proofs.Tested.{named, setting-stays, looked}
 use Rattle.forward.proofs.sweep.look_at_names.Statement.{statement}
 use Rattle.forward.proofs.sweep.look_at_names.Tie as tie
 use Rattle.forward.proofs.sweep.look_at_names.Reads as reads
@@ -15,19 +15,19 @@ use Rattle.forward.proofs.sweep.look_at_edge.Reads as look-at-edge-read
 use Rattle.forward.proofs.sweep.look_at_name.Reads as look-at-name-reads
 
 abbrev Inv-loop : tie.InvT-loop
-Inv-loop signature first second work₀ layout changed₀ next₀ work changed next = (next ≤ layout .names) × (length work ≡ length work₀) × Setting signature first second layout work × Pass (Step signature first second layout) (markSquare layout) (Below (Looked signature first second layout) next) work₀ work changed
+Inv-loop names edges first second work₀ layout changed₀ next₀ work changed next = (next ≤ layout .names) × (length work ≡ length work₀) × Setting edges first second layout work × Pass (Step names edges first second layout) (markSquare layout) (Below (Looked names edges first second layout) next) work₀ work changed
 
 abbrev μ-loop : tie.MeasureT-loop
-μ-loop signature first second work₀ layout changed₀ next₀ work changed next = layout .names - next
+μ-loop names edges first second work₀ layout changed₀ next₀ work changed next = layout .names - next
 
 loop-holds : tie.Need-loop-holds Inv-loop μ-loop
-loop-holds c = (omega arith, refl, c .before .before .before .before .pre, turns-none)
+loop-holds c = (omega arith, refl, c .before .before .before .before .before .pre .1, turns-none)
 
 add-next : tie.Need-add-next Inv-loop μ-loop
-add-next c = omega (arith, c .if1 .taken, c .before .before .before .before .before .before .before .pre .few)
+add-next c = omega (arith, c .if1 .taken, c .before .before .before .before .before .before .before .before .pre .1 .few)
 
 look-at-name-requires : tie.Need-look-at-name-requires Inv-loop μ-loop
-look-at-name-requires c κs = (c .before .before .before .loop .inv .2, c .before .if1 .taken)
+look-at-name-requires c κs = (named (c .before .before .before .before .before .before .before .before .before .pre .0) (c .before .before .before .loop .inv .2), c .before .if1 .taken)
 
 look-at-edge-requires : tie.Need-look-at-edge-requires Inv-loop μ-loop
 look-at-edge-requires c κs = (setting-stays (c .before .before .before .look-at-name .ensures .grows) (c .before .before .before .before .before .before .before .loop .inv .2), c .before .before .before .before .before .if1 .taken)
@@ -36,7 +36,7 @@ loop-less : tie.Need-loop-less Inv-loop μ-loop
 loop-less c = omega (arith, c .before .before .before .before .before .before .before .before .if1 .taken)
 
 loop-again : tie.Need-loop-again Inv-loop μ-loop
-loop-again c = (omega (arith, c .before .before .before .before .before .before .before .before .if1 .taken), grows-frame (c .before .before .look-at-edge .ensures .grows) .long ∙ (grows-frame (c .before .before .before .before .before .before .look-at-name .ensures .grows) .long ∙ c .before .before .before .before .before .before .before .before .before .before .loop .inv .1), setting-stays (c .before .before .look-at-edge .ensures .grows) (setting-stays (c .before .before .before .before .before .before .look-at-name .ensures .grows) (c .before .before .before .before .before .before .before .before .before .before .loop .inv .2)), turn-both (c .before .before .before .before .before .before .before .before .before .before .loop .inv .3) (pass-both (λ n e. record { name = n; edge = e }) (c .before .before .before .before .before .before .look-at-name .ensures) (c .before .before .look-at-edge .ensures)))
+loop-again c = (omega (arith, c .before .before .before .before .before .before .before .before .if1 .taken), grows-frame (c .before .before .look-at-edge .ensures .grows) .long ∙ (grows-frame (c .before .before .before .before .before .before .look-at-name .ensures .grows) .long ∙ c .before .before .before .before .before .before .before .before .before .before .loop .inv .1), setting-stays (c .before .before .look-at-edge .ensures .grows) (setting-stays (c .before .before .before .before .before .before .look-at-name .ensures .grows) (c .before .before .before .before .before .before .before .before .before .before .loop .inv .2)), turn-both (c .before .before .before .before .before .before .before .before .before .before .loop .inv .3) (looked (c .before .before .before .before .before .before .look-at-name .ensures) (c .before .before .look-at-edge .ensures)))
 
 same-length : tie.Need-same-length Inv-loop μ-loop
 same-length c = c .before .before .loop .inv .1

@@ -10,7 +10,7 @@ use Rattle.forward.proofs.sweep.look_at_names.Reads as look-at-names-re
 use Rattle.marks.proofs.inclusions.take_all.Reads as take-all-reads
 
 look-at-names-requires : tie.Need-look-at-names-requires
-look-at-names-requires c κs = c .before .before .before .before .before .pre
+look-at-names-requires c κs = c .before .before .before .before .before .before .pre
 
 same-length : tie.Need-same-length
 same-length c = search needs
@@ -19,7 +19,7 @@ returns : tie.Need-returns
 returns c = pass-found (c .before .before .before .look-at-names .ensures) (c .if1 .taken)
 
 take-all-requires : tie.Need-take-all-requires
-take-all-requires c κs = ((setting-stays (c .before .before .before .before .look-at-names .ensures .grows) (c .before .before .before .before .before .before .before .before .before .before .pre) .places .first, setting-stays (c .before .before .before .before .look-at-names .ensures .grows) (c .before .before .before .before .before .before .before .before .before .before .pre) .places .marks), record { same = refl; few = c .before .before .before .before .before .before .before .before .before .before .pre .few })
+take-all-requires c κs = ((setting-stays (c .before .before .before .before .look-at-names .ensures .grows) (c .before .before .before .before .before .before .before .before .before .before .before .pre .1) .places .first, setting-stays (c .before .before .before .before .look-at-names .ensures .grows) (c .before .before .before .before .before .before .before .before .before .before .before .pre .1) .places .marks), record { same = refl; few = c .before .before .before .before .before .before .before .before .before .before .before .pre .1 .few })
 
 same-length-2 : tie.Need-same-length-2
 same-length-2 c = search needs
