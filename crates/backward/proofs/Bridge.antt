@@ -23,11 +23,13 @@ use Rattle.release.specs.Tables.{kindAt, roleAt, fillerAt, countAt, partAt}
 use Rattle.marks.specs.Squares.{Marked}
 use Rattle.classification.specs.Inclusions.{nodeAt, says}
 use Rattle.classification.proofs.Nodes.{at-top, number-at, number-small, said, marked}
-use Rattle.classification.proofs.AxiomRows.{Found, defined-conjunction, defined-restriction, role-is, name-is, filler-is, part-in, part-at, formed, own}
+use Rattle.classification.proofs.AxiomRows.{Found, defined-conjunction, defined-restriction, restriction-restricts, role-is, name-is, filler-is, part-in, part-at, formed, own}
 use Rattle.layout.specs.declared.Layout.{Layout}
 use Rattle.layout.specs.Layouts.{firstSquare, secondSquare, markSquare, chosen}
 use Rattle.layout.specs.Searches.{SomeBelow, EachBelow}
+use Rattle.layout.specs.Findings.{Handed}
 use Rattle.layout.specs.Comparing.{Comparing}
+use Rattle.layout.proofs.Findings.{name-handed}
 use Rattle.layout.proofs.Comparing.{chosen-below}
 use Rattle.backward.specs.Rules.{PlainColumn, ColumnPart, RowPart, Filled, PartnerLost, of-filler, of-nothing, RoleLost, RowLost, by-top, by-parts, by-role, Defined, by-part, by-row, Own, by-definition, by-name, Quiet}
 use Rattle.backward.specs.Backward.{columnAt}
@@ -37,7 +39,7 @@ use Rattle.backward.proofs.Defined.{joins-2, found-2, found-4, not-join
 no-plain-top : {al : List Axiom} → el.PlainColumn al (node everything) → ⊥
 no-plain-top (el.plain-node p) = elim p [ ]
 
-module _ {g s t a b : List ℕ} {l : Layout} {w : List ℕ} (c : Comparing g s t a b l w) (v : List ℕ) where
+module _ {names edges g s t a b : List ℕ} {l : Layout} {w : List ℕ} (handed : Handed g a (l .names) (l .roles) names edges) (c : Comparing s t a b l w) (v : List ℕ) where
   abbrev n : ℕ
   n = l .names
 
@@ -87,7 +89,7 @@ module _ {g s t a b : List ℕ} {l : Layout} {w : List ℕ} (c : Comparing g s t
 
   -- definitions are the rule
   module _ {x y : ℕ} (x-in : x ≤ n) (y-in : y ≤ n) where
-    row-backward : PlainColumn b n y → RowLost g s a b l v x y → Rule (nodeAt n x) (columnAt n y)
+    row-backward : PlainColumn b n y → RowLost edges s a b l v x y → Rule (nodeAt n x) (columnAt n y)
     row-backward plain (by-top e) = of-everything (plain-there y-in plain) (at-top n x e)
     row-backward plain (by-parts h e p) =
         let f = found-2 (c .first-release) (c .first-names) x h e in
@@ -96,9 +98,9 @@ module _ {g s t a b : List ℕ} {l : Layout} {w : List ℕ} (c : Comparing g s t
     row-backward plain (by-role h e p) =
         let f = found-4 (c .first-release) (c .first-names) x h e in
         let d = defined-restriction f e in
-        of-role (plain-there y-in plain) (plain-node-at (c .first-release) (c .first-names) h (λ z. omega arith)) (f .member) (name-is f h) (record { is-defined = d .1; is-restriction = d .0; role = refl }) (rw (← role-is f (d .0)) (p .chosen-role)) (partner-there f (d .0) y-in (p .partner) (partner-is (axiomsOf t) (roleOf (f .it)) (columnAt n y)))
+        of-role (plain-there y-in plain) (plain-node-at (c .first-release) (c .first-names) h (λ z. omega arith)) (f .member) (name-is f h) (record { is-defined = d .1; is-restriction = d .0; role = refl }) (rw (← role-is f (d .0)) (handed .found .flag x h .tells .sound (p .has-edge) .chosen-role)) (partner-there f (d .0) y-in (p .partner) (partner-is (axiomsOf t) (roleOf (f .it)) (columnAt n y)))
 
-    pub step-backward : Defined g s t a b l v x y → Rule (nodeAt n x) (columnAt n y)
+    pub step-backward : Defined edges s t a b l v x y → Rule (nodeAt n x) (columnAt n y)
     step-backward (by-row p) = row-backward (p .plain) (p .row)
     step-backward (by-part o) =
         let p = o .part in
@@ -128,18 +130,18 @@ module _ {g s t a b : List ℕ} {l : Layout} {w : List ℕ} (c : Comparing g s t
           let f = found-4 (c .second-release) (c .second-names) y (h .is-name) (h .kind) in
           d (f .it) (f .member) (ap (λ z. node (named z)) (f .left) ∙ sym (column-name n y (h .is-name))) (filled-by (c .second-release) (c .second-names) h f)
 
-  module _ (quiet : Quiet g s t a b l v) (x : Node) (x-in : IsNode n x) where
+  module _ (quiet : Quiet names edges s t a b l v) (x : Node) (x-in : IsNode n x) where
     module _ {y : ℕ} (y-in : y ≤ n) where
-      at-cell : {z : ℕ} → z ≤ n → Own g s t a b l v z y → Marked (markSquare l) v z y
+      at-cell : {z : ℕ} → z ≤ n → Own names edges s t a b l v z y → Marked (markSquare l) v z y
       at-cell {z} z-in own-step = quiet .rows .at z (omega arith) .cells .at y (omega arith) .marked own-step
 
-      marked-by : Defined g s t a b l v (nodeNumber n x) y → saysColumn (markSquare l) v x (columnAt n y) ≡ true
+      marked-by : Defined edges s t a b l v (nodeNumber n x) y → saysColumn (markSquare l) v x (columnAt n y) ≡ true
       marked-by step = said-column x refl y-in (at-cell (number-small n x x-in) (by-definition step))
 
-      marked-row : el.PlainColumn (axiomsOf t) (columnAt n y) → RowLost g s a b l v (nodeNumber n x) y → saysColumn (markSquare l) v x (columnAt n y) ≡ true
+      marked-row : el.PlainColumn (axiomsOf t) (columnAt n y) → RowLost edges s a b l v (nodeNumber n x) y → saysColumn (markSquare l) v x (columnAt n y) ≡ true
       marked-row plain lost = marked-by (by-row (record { plain = plain-back plain; row = lost }))
 
-      marked-above : {d : ℕ} → d < n → Own g s t a b l v d y → Marked (firstSquare l) v d (nodeNumber n x) → saysColumn (markSquare l) v x (columnAt n y) ≡ true
+      marked-above : {d : ℕ} → d < n → Own names edges s t a b l v d y → Marked (firstSquare l) v d (nodeNumber n x) → saysColumn (markSquare l) v x (columnAt n y) ≡ true
       marked-above {d} d-in own-step below-x = said-column x refl y-in (quiet .handed .at d (omega arith) .each (nodeNumber n x) (number-small n x x-in) below-x .marked y y-in (at-cell (omega arith) own-step))
 
       cell-closed : Rule x (columnAt n y) → saysColumn (markSquare l) v x (columnAt n y) ≡ true
@@ -154,12 +156,12 @@ module _ {g s t a b : List ℕ} {l : Layout} {w : List ℕ} (c : Comparing g s t
           let f = own (c .first-release) (c .first-names) o-in in
           let each : EachBelow (RowPart s a l v (o .left) y) (countAt s a (o .left)) = record { at = λ i h. record { marked = column-marked (named (partAt s a (o .left) i)) refl y-in (every .at (partAt s a (o .left) i) (part-in f (joins .is-conjunction) i h)) } } in
           marked-row plain (rw (← e) (by-parts (formed (c .first-release) (c .first-names) .left-in o-in) (joins-2 (c .first-release) (c .first-names) o-in joins) each))
-      cell-closed (of-name {b = d} plain x-plain over below-x not-below) = marked-above (chosen-below l g d over) (by-name (record { chosen-name = over; not-second = under-not y-in not-below })) (marked (named d) x refl refl below-x)
+      cell-closed (of-name {b = d} plain x-plain over below-x not-below) = marked-above (chosen-below l g d over) (by-name (record { chosen-name = name-handed handed d ∙ over; not-second = under-not y-in not-below })) (marked (named d) x refl refl below-x)
       cell-closed (of-role {a = o} {r = r} plain x-plain o-in e fills over m) =
           let f = own (c .first-release) (c .first-names) o-in in
           let h = fills-filled (c .first-release) (c .first-names) o-in fills in
           let p = partner-back o-in (fills .is-restriction) y-in (partner-is (axiomsOf t) r (columnAt n y)) m in
-          let lost : RoleLost g a b l v (o .left) y = record { chosen-role = rw (h .role) over; partner = rw (h .role, ← filler-is f (fills .is-restriction)) p } in
+          let lost : RoleLost edges a b l v (o .left) y = record { has-edge = handed .found .flag (o .left) (h .is-name) .tells .complete (record { is-restriction = restriction-restricts f (fills .is-restriction); chosen-role = rw (h .role) over }); partner = rw (h .role, ← filler-is f (fills .is-restriction)) p } in
           marked-row plain (rw (← e) (by-role (h .is-name) (h .kind) lost))
 
     not-at-top : Rule x (node everything) → ⊥

@@ -1,7 +1,7 @@
 -- What the square holds when nothing is left to mark.
 --   defined-sound, name-sound, below-sound     what each rule marks is lost
 --   backwarded                                 what computing backward marks gives
-use mathlib.Core.Path.{_≡_, refl}
+use mathlib.Core.Path.{_≡_, refl, sym, _∙_}
 use mathlib.Core.Bool.{true, false, false≢true}
 use mathlib.Core.List.{List}
 use mathlib.Core.Logic.{_⊎_, inl, inr}
@@ -25,14 +25,16 @@ use Rattle.classification.proofs.Nodes.{at-name, at-node, number-at, at-number,
 use Rattle.layout.specs.declared.Layout.{Layout}
 use Rattle.classification.proofs.Meaning.{inclusions-stay}
 use Rattle.layout.specs.Layouts.{secondSquare, markSquare, chosen}
+use Rattle.layout.specs.Findings.{Handed}
 use Rattle.layout.specs.Comparing.{Comparing}
+use Rattle.layout.proofs.Findings.{name-handed}
 use Rattle.layout.proofs.Comparing.{chosen-below, comparable, first-table-by, second-table-by}
 use Rattle.backward.specs.Rules.{NameLost, Defined, by-definition, by-name, FromBelow, Step, by-own, by-below, Quiet}
 use Rattle.backward.specs.Backward.{columnAt, Backwarded}
 use Rattle.backward.proofs.Columns.{column-last, column-name, last-or-name, column-in, by-column, saysColumn, column-marked}
 use Rattle.backward.proofs.Bridge.{step-backward, rows-closed}
 
-module _ {g s t a b : List ℕ} {l : Layout} {w v : List ℕ} (c : Comparing g s t a b l w) (closed : Closed (Step g s t a b l) (markSquare l) (Quiet g s t a b l) w v) where
+module _ {names edges g s t a b : List ℕ} {l : Layout} {w v : List ℕ} (handed : Handed g a (l .names) (l .roles) names edges) (c : Comparing s t a b l w) (closed : Closed (Step names edges s t a b l) (markSquare l) (Quiet names edges s t a b l) w v) where
   abbrev n : ℕ
   n = l .names
 
@@ -40,8 +42,8 @@ module _ {g s t a b : List ℕ} {l : Layout} {w v : List ℕ} (c : Comparing g s
   Means x y = LostBelow (chosen l g) (axiomsOf s) (axiomsOf t) (nodeAt n x) (columnAt n y)
 
   module _ {u : List ℕ} {x y : ℕ} (frame : Frame (markSquare l) w u) (x-in : x ≤ n) (y-in : y ≤ n) where
-    defined-sound : AllGood (markSquare l) Means u → Defined g s t a b l u x y → Means x y
-    defined-sound good step = backward-sound (comparable c) (first-table-by c frame) (second-table-by c frame) (saysColumn (markSquare l) u) good-said (nodeAt n x) (columnAt n y) (at-node n x x-in) (column-in n y y-in) (step-backward c u x-in y-in step)
+    defined-sound : AllGood (markSquare l) Means u → Defined edges s t a b l u x y → Means x y
+    defined-sound good step = backward-sound (comparable c g) (first-table-by c frame) (second-table-by c frame) (saysColumn (markSquare l) u) good-said (nodeAt n x) (columnAt n y) (at-node n x x-in) (column-in n y y-in) (step-backward handed c u x-in y-in step)
       where
         good-said : (p : Node) (q : Column) → IsNode n p → IsColumn n q → saysColumn (markSquare l) u p q ≡ true → LostBelow (chosen l g) (axiomsOf s) (axiomsOf t) p q
         good-said p q i j h = elim (by-column n q j) [
@@ -50,11 +52,14 @@ module _ {g s t a b : List ℕ} {l : Layout} {w v : List ℕ} (c : Comparing g s
         ]
 
     -- a name is below itself
-    name-sound : NameLost g l u x y → Means x y
-    name-sound p = rw (at-name n x x-name) (record { it = name x; over = p .chosen-name; by-first = same; not-second = not-below (last-or-name n y y-in) (p .not-second) })
+    name-sound : NameLost names l u x y → Means x y
+    name-sound p = rw (at-name n x x-name) (record { it = name x; over = over; by-first = same; not-second = not-below (last-or-name n y y-in) (p .not-second) })
       where
+        over : chosen l g .has-name x ≡ true
+        over = sym (name-handed handed x) ∙ p .chosen-name
+
         x-name : x < n
-        x-name = chosen-below l g x (p .chosen-name)
+        x-name = chosen-below l g x over
 
         second : (y < n) → Derives (axiomsOf t) (name x) (name y) → Marked (secondSquare l) u x y
         second h d = inclusions-stay frame (inl (c .second-apart)) (c .second-inclusions) .complete x y x-in y-in (rw (at-name n x x-name, at-name n y h) d)
@@ -71,7 +76,7 @@ module _ {g s t a b : List ℕ} {l : Layout} {w v : List ℕ} (c : Comparing g s
         let above = inclusions-stay frame (inl (c .first-apart)) (c .first-inclusions) .sound (p .lower) x (p .small) x-in (p .first) in
         record { it = lost .it; over = lost .over; by-first = lost .by-first ▹ above; not-second = lost .not-second }
 
-  step-sound : (u : List ℕ) (x y : ℕ) → Grows (Step g s t a b l) (markSquare l) w u → AllGood (markSquare l) Means u → x ≤ n → y ≤ n → Step g s t a b l u x y → Means x y
+  step-sound : (u : List ℕ) (x y : ℕ) → Grows (Step names edges s t a b l) (markSquare l) w u → AllGood (markSquare l) Means u → x ≤ n → y ≤ n → Step names edges s t a b l u x y → Means x y
   step-sound u x y grows good x-in y-in (by-own (by-definition p)) = defined-sound (grows-frame grows) x-in y-in good p
   step-sound u x y grows good x-in y-in (by-own (by-name p)) = name-sound (grows-frame grows) x-in y-in p
   step-sound u x y grows good x-in y-in (by-below p) = below-sound (grows-frame grows) x-in y-in good p
@@ -86,6 +91,6 @@ module _ {g s t a b : List ℕ} {l : Layout} {w v : List ℕ} (c : Comparing g s
         frame = frame;
         marked = record {
           sound = grows-good step-sound (unmarked-good (c .unmarked)) (closed .grows) .good;
-          kept = λ x y x-in y-in k d over p. below-kept (comparable c) (first-table-by c frame) (second-table-by c frame) (saysColumn (markSquare l) v) (λ o q i j rule. rows-closed c v (closed .done) o i q j rule) d over (nodeAt n x) (columnAt n y) (at-node n x x-in) (column-in n y y-in) (unsaid x y x-in y-in k) p;
+          kept = λ x y x-in y-in k d over p. below-kept (comparable c g) (first-table-by c frame) (second-table-by c frame) (saysColumn (markSquare l) v) (λ o q i j rule. rows-closed handed c v (closed .done) o i q j rule) d over (nodeAt n x) (columnAt n y) (at-node n x x-in) (column-in n y y-in) (unsaid x y x-in y-in k) p;
         };
       }

@@ -3,9 +3,9 @@
 ghost use Prim.Native.Nat.{_≤_, _<_};
 ghost use Rattle.marks.specs.Passes.{Grows};
 ghost use Rattle.layout.specs.Layouts.{markSquare, Rowed, Areas};
-ghost use Rattle.backward.specs.Rules.{Setting, Squares, Filling, Over, FromBelow, Step};
+ghost use Rattle.backward.specs.Rules.{Setting, Squares, Filling, Over, FromBelow, Follows};
+use crate::rules::defined_lost;
 use crate::rules::is_filling;
-use crate::rules::is_lost;
 use classification::hints::Hints;
 use layout::Layout;
 use layout::is_marked;
@@ -22,9 +22,9 @@ use marks::waiting::Waiting;
 use marks::waiting::wait;
 use release::table;
 
-// The pair x, y, if a definition or a name allows it. A pair that is marked already is asked no rule.
+// The pair x, y, if the definitions allow it. A pair that is marked already is asked no rule.
 fn put_lost(
-    signature: &[u8],
+    edges: &[u8],
     first: &[u8],
     second: &[u8],
     first_table: &[u16],
@@ -35,15 +35,15 @@ fn put_lost(
     x: usize,
     y: usize,
 )
-    requires { ⌜ Setting (now signature) (now first) (now second) (now «first_table») (now «second_table») layout (now work) ⌝ }
+    requires { ⌜ Setting (now edges) (now first) (now second) (now «first_table») (now «second_table») layout (now work) ⌝ }
     requires { ⌜ (x ≤ layout .names) × (y ≤ layout .names) ⌝ }
-    ensures { λ _. ⌜ Grows (Step (now (signature .entry)) (now (first .entry)) (now (second .entry)) (now («first_table» .entry)) (now («second_table» .entry)) layout) (markSquare layout) (now (work .entry)) (now (work .exit)) ⌝ }
+    ensures { λ _. ⌜ Grows (Follows (now (edges .entry)) (now (first .entry)) (now (second .entry)) (now («first_table» .entry)) (now («second_table» .entry)) layout) (markSquare layout) (now (work .entry)) (now (work .exit)) ⌝ }
 {
     if is_marked(work, layout, x, y) {
         return;
     }
-    if is_lost(
-        signature,
+    if defined_lost(
+        edges,
         first,
         second,
         first_table,
@@ -60,7 +60,7 @@ fn put_lost(
 
 // What is lost in row x.
 fn put_row(
-    signature: &[u8],
+    edges: &[u8],
     first: &[u8],
     second: &[u8],
     first_table: &[u16],
@@ -70,9 +70,9 @@ fn put_row(
     layout: Layout,
     x: usize,
 )
-    requires { ⌜ Setting (now signature) (now first) (now second) (now «first_table») (now «second_table») layout (now work) ⌝ }
+    requires { ⌜ Setting (now edges) (now first) (now second) (now «first_table») (now «second_table») layout (now work) ⌝ }
     requires { ⌜ x ≤ layout .names ⌝ }
-    ensures { λ _. ⌜ Grows (Step (now (signature .entry)) (now (first .entry)) (now (second .entry)) (now («first_table» .entry)) (now («second_table» .entry)) layout) (markSquare layout) (now (work .entry)) (now (work .exit)) ⌝ }
+    ensures { λ _. ⌜ Grows (Follows (now (edges .entry)) (now (first .entry)) (now (second .entry)) (now («first_table» .entry)) (now («second_table» .entry)) layout) (markSquare layout) (now (work .entry)) (now (work .exit)) ⌝ }
 {
     let marks = Square {
         base: layout.marks,
@@ -81,7 +81,7 @@ fn put_row(
     let mut y = next_unmarked(work, marks, x, 0);
     while y <= layout.names {
         put_lost(
-            signature,
+            edges,
             first,
             second,
             first_table,
@@ -98,7 +98,7 @@ fn put_row(
 
 // What is lost in row x, in the columns of a line.
 fn put_line(
-    signature: &[u8],
+    edges: &[u8],
     first: &[u8],
     second: &[u8],
     first_table: &[u16],
@@ -109,14 +109,14 @@ fn put_line(
     line: &[u8; Line::LENGTH],
     x: usize,
 )
-    requires { ⌜ Setting (now signature) (now first) (now second) (now «first_table») (now «second_table») layout (now work) ⌝ }
+    requires { ⌜ Setting (now edges) (now first) (now second) (now «first_table») (now «second_table») layout (now work) ⌝ }
     requires { ⌜ x ≤ layout .names ⌝ }
-    ensures { λ _. ⌜ Grows (Step (now (signature .entry)) (now (first .entry)) (now (second .entry)) (now («first_table» .entry)) (now («second_table» .entry)) layout) (markSquare layout) (now (work .entry)) (now (work .exit)) ⌝ }
+    ensures { λ _. ⌜ Grows (Follows (now (edges .entry)) (now (first .entry)) (now (second .entry)) (now («first_table» .entry)) (now («second_table» .entry)) layout) (markSquare layout) (now (work .entry)) (now (work .exit)) ⌝ }
 {
     let mut y = waiting::next(line, layout.names, 0);
     while y <= layout.names {
         put_lost(
-            signature,
+            edges,
             first,
             second,
             first_table,
@@ -177,7 +177,7 @@ fn put_over(
 // What is lost in row x, a restriction whose filler is marked with the columns of the line: where one is nothing, in any column; else
 // in those of the restrictions with such a filler.
 fn put_filled(
-    signature: &[u8],
+    edges: &[u8],
     first: &[u8],
     second: &[u8],
     first_table: &[u16],
@@ -189,9 +189,9 @@ fn put_filled(
     filler: usize,
     x: usize,
 )
-    requires { ⌜ Setting (now signature) (now first) (now second) (now «first_table») (now «second_table») layout (now work) ⌝ }
-    requires { ⌜ Filling (now signature) (now «first_table») layout x filler ⌝ }
-    ensures { λ _. ⌜ Grows (Step (now (signature .entry)) (now (first .entry)) (now (second .entry)) (now («first_table» .entry)) (now («second_table» .entry)) layout) (markSquare layout) (now (work .entry)) (now (work .exit)) ⌝ }
+    requires { ⌜ Setting (now edges) (now first) (now second) (now «first_table») (now «second_table») layout (now work) ⌝ }
+    requires { ⌜ Filling (now edges) (now «first_table») layout x filler ⌝ }
+    ensures { λ _. ⌜ Grows (Follows (now (edges .entry)) (now (first .entry)) (now (second .entry)) (now («first_table» .entry)) (now («second_table» .entry)) layout) (markSquare layout) (now (work .entry)) (now (work .exit)) ⌝ }
 {
     let mut next = waiting::next(line, layout.names, 0);
     while next < layout.names {
@@ -203,7 +203,7 @@ fn put_filled(
     }
     if next == layout.names {
         put_row(
-            signature,
+            edges,
             first,
             second,
             first_table,
@@ -218,7 +218,7 @@ fn put_filled(
 
 // What is lost in the rows of the restrictions of the first release with this filler, which is marked with the columns of the line.
 fn put_by_filler(
-    signature: &[u8],
+    edges: &[u8],
     first: &[u8],
     second: &[u8],
     first_table: &[u16],
@@ -229,9 +229,9 @@ fn put_by_filler(
     line: &[u8; Line::LENGTH],
     filler: usize,
 )
-    requires { ⌜ Setting (now signature) (now first) (now second) (now «first_table») (now «second_table») layout (now work) ⌝ }
+    requires { ⌜ Setting (now edges) (now first) (now second) (now «first_table») (now «second_table») layout (now work) ⌝ }
     requires { ⌜ filler ≤ layout .names ⌝ }
-    ensures { λ _. ⌜ Grows (Step (now (signature .entry)) (now (first .entry)) (now (second .entry)) (now («first_table» .entry)) (now («second_table» .entry)) layout) (markSquare layout) (now (work .entry)) (now (work .exit)) ⌝ }
+    ensures { λ _. ⌜ Grows (Follows (now (edges .entry)) (now (first .entry)) (now (second .entry)) (now («first_table» .entry)) (now («second_table» .entry)) layout) (markSquare layout) (now (work .entry)) (now (work .exit)) ⌝ }
 {
     let inclusions = Square {
         base: layout.first,
@@ -241,9 +241,9 @@ fn put_by_filler(
     while next < layout.names {
         let x = next;
         next = hints::next(work, inclusions, Hints::FILLERS, filler, x + 1);
-        if is_filling(signature, first_table, layout, x, filler) {
+        if is_filling(edges, first_table, layout, x, filler) {
             put_filled(
-                signature,
+                edges,
                 first,
                 second,
                 first_table,
@@ -261,7 +261,7 @@ fn put_by_filler(
 
 // What is lost in the rows of the conjunctions of the first release with this conjunct, in the columns of the line.
 fn put_by_part(
-    signature: &[u8],
+    edges: &[u8],
     first: &[u8],
     second: &[u8],
     first_table: &[u16],
@@ -272,9 +272,9 @@ fn put_by_part(
     line: &[u8; Line::LENGTH],
     part: usize,
 )
-    requires { ⌜ Setting (now signature) (now first) (now second) (now «first_table») (now «second_table») layout (now work) ⌝ }
+    requires { ⌜ Setting (now edges) (now first) (now second) (now «first_table») (now «second_table») layout (now work) ⌝ }
     requires { ⌜ part ≤ layout .names ⌝ }
-    ensures { λ _. ⌜ Grows (Step (now (signature .entry)) (now (first .entry)) (now (second .entry)) (now («first_table» .entry)) (now («second_table» .entry)) layout) (markSquare layout) (now (work .entry)) (now (work .exit)) ⌝ }
+    ensures { λ _. ⌜ Grows (Follows (now (edges .entry)) (now (first .entry)) (now (second .entry)) (now («first_table» .entry)) (now («second_table» .entry)) layout) (markSquare layout) (now (work .entry)) (now (work .exit)) ⌝ }
 {
     let inclusions = Square {
         base: layout.first,
@@ -285,7 +285,7 @@ fn put_by_part(
         let x = next;
         next = hints::next(work, inclusions, Hints::CONJUNCTS, part, x + 1);
         put_line(
-            signature,
+            edges,
             first,
             second,
             first_table,
@@ -301,7 +301,7 @@ fn put_by_part(
 
 // What is lost in row x, in the columns of the conjunctions of the second release with the conjunct y.
 fn put_columns(
-    signature: &[u8],
+    edges: &[u8],
     first: &[u8],
     second: &[u8],
     first_table: &[u16],
@@ -312,9 +312,9 @@ fn put_columns(
     x: usize,
     y: usize,
 )
-    requires { ⌜ Setting (now signature) (now first) (now second) (now «first_table») (now «second_table») layout (now work) ⌝ }
+    requires { ⌜ Setting (now edges) (now first) (now second) (now «first_table») (now «second_table») layout (now work) ⌝ }
     requires { ⌜ (x ≤ layout .names) × (y ≤ layout .names) ⌝ }
-    ensures { λ _. ⌜ Grows (Step (now (signature .entry)) (now (first .entry)) (now (second .entry)) (now («first_table» .entry)) (now («second_table» .entry)) layout) (markSquare layout) (now (work .entry)) (now (work .exit)) ⌝ }
+    ensures { λ _. ⌜ Grows (Follows (now (edges .entry)) (now (first .entry)) (now (second .entry)) (now («first_table» .entry)) (now («second_table» .entry)) layout) (markSquare layout) (now (work .entry)) (now (work .exit)) ⌝ }
 {
     let inclusions = Square {
         base: layout.second,
@@ -325,7 +325,7 @@ fn put_columns(
         let z = next;
         next = hints::next(work, inclusions, Hints::CONJUNCTS, y, z + 1);
         put_lost(
-            signature,
+            edges,
             first,
             second,
             first_table,
@@ -341,7 +341,7 @@ fn put_columns(
 
 // The same for each column y of the line.
 fn put_all_columns(
-    signature: &[u8],
+    edges: &[u8],
     first: &[u8],
     second: &[u8],
     first_table: &[u16],
@@ -352,14 +352,14 @@ fn put_all_columns(
     line: &[u8; Line::LENGTH],
     x: usize,
 )
-    requires { ⌜ Setting (now signature) (now first) (now second) (now «first_table») (now «second_table») layout (now work) ⌝ }
+    requires { ⌜ Setting (now edges) (now first) (now second) (now «first_table») (now «second_table») layout (now work) ⌝ }
     requires { ⌜ x ≤ layout .names ⌝ }
-    ensures { λ _. ⌜ Grows (Step (now (signature .entry)) (now (first .entry)) (now (second .entry)) (now («first_table» .entry)) (now («second_table» .entry)) layout) (markSquare layout) (now (work .entry)) (now (work .exit)) ⌝ }
+    ensures { λ _. ⌜ Grows (Follows (now (edges .entry)) (now (first .entry)) (now (second .entry)) (now («first_table» .entry)) (now («second_table» .entry)) layout) (markSquare layout) (now (work .entry)) (now (work .exit)) ⌝ }
 {
     let mut y = waiting::next(line, layout.names, 0);
     while y < layout.names {
         put_columns(
-            signature,
+            edges,
             first,
             second,
             first_table,
@@ -402,7 +402,7 @@ fn put_above(work: &mut [u8], waiting: &mut [u16; Waiting::LENGTH], layout: Layo
 
 // All that the new marks of row x give.
 pub fn deal(
-    signature: &[u8],
+    edges: &[u8],
     first: &[u8],
     second: &[u8],
     first_table: &[u16],
@@ -412,9 +412,9 @@ pub fn deal(
     layout: Layout,
     x: usize,
 )
-    requires { ⌜ Setting (now signature) (now first) (now second) (now «first_table») (now «second_table») layout (now work) ⌝ }
+    requires { ⌜ Setting (now edges) (now first) (now second) (now «first_table») (now «second_table») layout (now work) ⌝ }
     requires { ⌜ x ≤ layout .names ⌝ }
-    ensures { λ _. ⌜ Grows (Step (now (signature .entry)) (now (first .entry)) (now (second .entry)) (now («first_table» .entry)) (now («second_table» .entry)) layout) (markSquare layout) (now (work .entry)) (now (work .exit)) ⌝ }
+    ensures { λ _. ⌜ Grows (Follows (now (edges .entry)) (now (first .entry)) (now (second .entry)) (now («first_table» .entry)) (now («second_table» .entry)) layout) (markSquare layout) (now (work .entry)) (now (work .exit)) ⌝ }
 {
     let marks = Square {
         base: layout.marks,
@@ -424,7 +424,7 @@ pub fn deal(
     hints::see(work, marks, x, &mut line);
     put_above(work, waiting, layout, x);
     put_by_filler(
-        signature,
+        edges,
         first,
         second,
         first_table,
@@ -436,7 +436,7 @@ pub fn deal(
         x,
     );
     put_by_part(
-        signature,
+        edges,
         first,
         second,
         first_table,
@@ -448,7 +448,7 @@ pub fn deal(
         x,
     );
     put_all_columns(
-        signature,
+        edges,
         first,
         second,
         first_table,

@@ -3,7 +3,7 @@
 ghost use Prim.Native.Nat.{_≤_};
 ghost use Rattle.marks.specs.Passes.{Grows};
 ghost use Rattle.layout.specs.Layouts.{markSquare};
-ghost use Rattle.backward.specs.Rules.{Setting, Named, Squares, NameLost, FromBelow, Step};
+ghost use Rattle.backward.specs.Rules.{Setting, Named, Squares, NameLost, FromBelow, Follows};
 use crate::consequences::deal;
 use layout::Layout;
 use layout::has_name;
@@ -19,12 +19,12 @@ use marks::waiting;
 use marks::waiting::Waiting;
 
 // Marks x with all that it is not below by the second release, if it is a name of the signature.
-fn mark_name(signature: &[u8], work: &mut [u8], layout: Layout, x: usize)
-    requires { ⌜ Named (now signature) layout (now work) ⌝ }
+fn mark_name(chosen_names: &[u8], work: &mut [u8], layout: Layout, x: usize)
+    requires { ⌜ Named (now «chosen_names») layout (now work) ⌝ }
     requires { ⌜ x ≤ layout .names ⌝ }
-    ensures { λ _. ⌜ Grows (NameLost (now (signature .entry)) layout) (markSquare layout) (now (work .entry)) (now (work .exit)) ⌝ }
+    ensures { λ _. ⌜ Grows (NameLost (now («chosen_names» .entry)) layout) (markSquare layout) (now (work .entry)) (now (work .exit)) ⌝ }
 {
-    if has_name(signature, layout, x) {
+    if has_name(chosen_names, layout, x) {
         let mut row = [0u8; Line::LENGTH];
         line::join(
             &mut row,
@@ -49,15 +49,15 @@ fn mark_name(signature: &[u8], work: &mut [u8], layout: Layout, x: usize)
 }
 
 // Does so for each name.
-pub fn mark_names(signature: &[u8], work: &mut [u8], layout: Layout)
-    requires { ⌜ Named (now signature) layout (now work) ⌝ }
-    ensures { λ _. ⌜ Grows (NameLost (now (signature .entry)) layout) (markSquare layout) (now (work .entry)) (now (work .exit)) ⌝ }
+pub fn mark_names(chosen_names: &[u8], work: &mut [u8], layout: Layout)
+    requires { ⌜ Named (now «chosen_names») layout (now work) ⌝ }
+    ensures { λ _. ⌜ Grows (NameLost (now («chosen_names» .entry)) layout) (markSquare layout) (now (work .entry)) (now (work .exit)) ⌝ }
 {
     let mut next = 0;
     while next < layout.names {
         let x = next;
         next += 1;
-        mark_name(signature, work, layout, x);
+        mark_name(chosen_names, work, layout, x);
     }
 }
 
@@ -111,7 +111,7 @@ pub fn hand_all_up(work: &mut [u8], order: &[u16; Order::NODES], layout: Layout)
 
 // Deals with the rows that have new marks, until none waits.
 pub fn propagate(
-    signature: &[u8],
+    edges: &[u8],
     first: &[u8],
     second: &[u8],
     first_table: &[u16],
@@ -120,8 +120,8 @@ pub fn propagate(
     waiting: &mut [u16; Waiting::LENGTH],
     layout: Layout,
 )
-    requires { ⌜ Setting (now signature) (now first) (now second) (now «first_table») (now «second_table») layout (now work) ⌝ }
-    ensures { λ _. ⌜ Grows (Step (now (signature .entry)) (now (first .entry)) (now (second .entry)) (now («first_table» .entry)) (now («second_table» .entry)) layout) (markSquare layout) (now (work .entry)) (now (work .exit)) ⌝ }
+    requires { ⌜ Setting (now edges) (now first) (now second) (now «first_table») (now «second_table») layout (now work) ⌝ }
+    ensures { λ _. ⌜ Grows (Follows (now (edges .entry)) (now (first .entry)) (now (second .entry)) (now («first_table» .entry)) (now («second_table» .entry)) layout) (markSquare layout) (now (work .entry)) (now (work .exit)) ⌝ }
 {
     let marks = Square {
         base: layout.marks,
@@ -136,7 +136,7 @@ pub fn propagate(
             return;
         }
         deal(
-            signature,
+            edges,
             first,
             second,
             first_table,

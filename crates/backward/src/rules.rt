@@ -1,19 +1,17 @@
 // The rules by which a pair x, y is marked. What they ask is said in specs/Rules.
 ghost use mathlib.Core.Path.{_≡_};
 ghost use mathlib.Core.Bool.{true, false};
-ghost use Prim.Native.Nat.{_+_, _≤_, _<_};
+ghost use Prim.Native.Nat.{_≤_, _<_};
 ghost use lib.ListN.{length};
 ghost use Rattle.el.proofs.Tests.{Tells};
 ghost use Rattle.release.specs.Tables.{kindAt, countAt, Shaped};
 ghost use Rattle.marks.specs.Squares.{Room};
 ghost use Rattle.layout.specs.Searches.{SomeBelow, EachBelow};
-ghost use Rattle.layout.specs.Layouts.{secondSquare, markSquare, Rowed};
-ghost use Rattle.backward.specs.Rules.{Setting, Rows, PlainColumn, ColumnPart, RowPart, NameLost, Filled, RoleLost, Filling, NoRule, RowLost, Defined, Own};
+ghost use Rattle.layout.specs.Layouts.{markSquare, Rowed};
+ghost use Rattle.backward.specs.Rules.{Setting, Rows, PlainColumn, ColumnPart, RowPart, Filled, RoleLost, Filling, NoRule, RowLost, Defined};
 use layout::Layout;
-use layout::has_name;
-use layout::has_role;
+use layout::edges::has_edge;
 use layout::is_marked;
-use layout::second_includes;
 use release::table;
 
 // Whether x is marked with a conjunct of the conjunction y of the second release.
@@ -69,25 +67,6 @@ fn all_parts_lost(
     true
 }
 
-// Whether x is a name of the signature that is not below y by the second release.
-pub fn name_lost(signature: &[u8], work: &[u8], layout: Layout, x: usize, y: usize) -> bool
-    requires { ⌜ layout .names + layout .roles ≤ length (now signature) ⌝ }
-    requires { ⌜ Room (secondSquare layout) (now work) ⌝ }
-    requires { ⌜ (x ≤ layout .names) × (y ≤ layout .names) ⌝ }
-    ensures { λ r. ⌜ Tells r (NameLost (now (signature .entry)) layout (now (work .entry)) x y) ⌝ }
-{
-    if has_name(signature, layout, x) {
-        if y == layout.names {
-            return true;
-        }
-        if second_includes(work, layout, x, y) {
-            return false;
-        }
-        return true;
-    }
-    false
-}
-
 // Whether y is defined by a restriction with the role.
 fn is_filled(table: &[u16], layout: Layout, y: usize, role: usize) -> bool
     requires { ⌜ Rowed (layout .names) (now table) ⌝ }
@@ -110,7 +89,7 @@ fn is_filled(table: &[u16], layout: Layout, y: usize, role: usize) -> bool
 // Whether the filler of x, which is defined by a restriction, is marked with what has to lie above it for y: the filler of y, if y
 // is defined by a restriction with the same role, else nothing. A filler ⊤ of y is above all.
 fn role_lost(
-    signature: &[u8],
+    edges: &[u8],
     first: &[u16],
     second: &[u16],
     work: &[u8],
@@ -118,15 +97,15 @@ fn role_lost(
     x: usize,
     y: usize,
 ) -> bool
-    requires { ⌜ layout .names + layout .roles ≤ length (now signature) ⌝ }
+    requires { ⌜ layout .names ≤ length (now edges) ⌝ }
     requires { ⌜ Rowed (layout .names) (now first) × Rowed (layout .names) (now second) ⌝ }
     requires { ⌜ Room (markSquare layout) (now work) ⌝ }
     requires { ⌜ (x < layout .names) × (kindAt (now first) x ≡ 4) ⌝ }
-    ensures { λ r. ⌜ Tells r (RoleLost (now (signature .entry)) (now (first .entry)) (now (second .entry)) layout (now (work .entry)) x y) ⌝ }
+    ensures { λ r. ⌜ Tells r (RoleLost (now (edges .entry)) (now (first .entry)) (now (second .entry)) layout (now (work .entry)) x y) ⌝ }
 {
     let role = table::role(first, x);
     let end = table::filler(first, x);
-    if has_role(signature, layout, role) {
+    if has_edge(edges, x) {
         if is_filled(second, layout, y, role) {
             let over = table::filler(second, y);
             if layout.names <= over {
@@ -141,7 +120,7 @@ fn role_lost(
 
 // Whether the definition of x allows the mark x, y, where y is not defined by a conjunction.
 pub fn column_lost(
-    signature: &[u8],
+    edges: &[u8],
     first: &[u8],
     first_table: &[u16],
     second_table: &[u16],
@@ -150,9 +129,9 @@ pub fn column_lost(
     x: usize,
     y: usize,
 ) -> bool
-    requires { ⌜ Rows (now signature) (now first) (now «first_table») (now «second_table») layout (now work) ⌝ }
+    requires { ⌜ Rows (now edges) (now first) (now «first_table») (now «second_table») layout (now work) ⌝ }
     requires { ⌜ (x ≤ layout .names) × (y ≤ layout .names) ⌝ }
-    ensures { λ r. ⌜ Tells r (RowLost (now (signature .entry)) (now (first .entry)) (now («first_table» .entry)) (now («second_table» .entry)) layout (now (work .entry)) x y) ⌝ }
+    ensures { λ r. ⌜ Tells r (RowLost (now (edges .entry)) (now (first .entry)) (now («first_table» .entry)) (now («second_table» .entry)) layout (now (work .entry)) x y) ⌝ }
 {
     if layout.names <= x {
         return true;
@@ -162,14 +141,14 @@ pub fn column_lost(
         return all_parts_lost(first, first_table, work, layout, x, y);
     }
     if kind == 4 {
-        return role_lost(signature, first_table, second_table, work, layout, x, y);
+        return role_lost(edges, first_table, second_table, work, layout, x, y);
     }
     false
 }
 
 // Whether the definitions of x and y allow the mark x, y.
-fn defined_lost(
-    signature: &[u8],
+pub fn defined_lost(
+    edges: &[u8],
     first: &[u8],
     second: &[u8],
     first_table: &[u16],
@@ -179,94 +158,43 @@ fn defined_lost(
     x: usize,
     y: usize,
 ) -> bool
-    requires { ⌜ Setting (now signature) (now first) (now second) (now «first_table») (now «second_table») layout (now work) ⌝ }
+    requires { ⌜ Setting (now edges) (now first) (now second) (now «first_table») (now «second_table») layout (now work) ⌝ }
     requires { ⌜ (x ≤ layout .names) × (y ≤ layout .names) ⌝ }
-    ensures { λ r. ⌜ Tells r (Defined (now (signature .entry)) (now (first .entry)) (now (second .entry)) (now («first_table» .entry)) (now («second_table» .entry)) layout (now (work .entry)) x y) ⌝ }
+    ensures { λ r. ⌜ Tells r (Defined (now (edges .entry)) (now (first .entry)) (now (second .entry)) (now («first_table» .entry)) (now («second_table» .entry)) layout (now (work .entry)) x y) ⌝ }
 {
     if layout.names <= y {
-        return column_lost(
-            signature,
-            first,
-            first_table,
-            second_table,
-            work,
-            layout,
-            x,
-            y,
-        );
+        return column_lost(edges, first, first_table, second_table, work, layout, x, y);
     }
     let kind = table::kind(second_table, y);
     if kind == 2 {
         return some_part_lost(second, second_table, work, layout, x, y);
     }
-    column_lost(
-        signature,
-        first,
-        first_table,
-        second_table,
-        work,
-        layout,
-        x,
-        y,
-    )
-}
-
-// Whether a rule allows the mark x, y that does not ask what lies below x.
-pub fn is_lost(
-    signature: &[u8],
-    first: &[u8],
-    second: &[u8],
-    first_table: &[u16],
-    second_table: &[u16],
-    work: &[u8],
-    layout: Layout,
-    x: usize,
-    y: usize,
-) -> bool
-    requires { ⌜ Setting (now signature) (now first) (now second) (now «first_table») (now «second_table») layout (now work) ⌝ }
-    requires { ⌜ (x ≤ layout .names) × (y ≤ layout .names) ⌝ }
-    ensures { λ r. ⌜ Tells r (Own (now (signature .entry)) (now (first .entry)) (now (second .entry)) (now («first_table» .entry)) (now («second_table» .entry)) layout (now (work .entry)) x y) ⌝ }
-{
-    if name_lost(signature, work, layout, x, y) {
-        return true;
-    }
-    defined_lost(
-        signature,
-        first,
-        second,
-        first_table,
-        second_table,
-        work,
-        layout,
-        x,
-        y,
-    )
+    column_lost(edges, first, first_table, second_table, work, layout, x, y)
 }
 
 // Whether x is defined by a restriction with this filler and a role of the signature. Where it says no, nothing is said.
-pub fn is_filling(signature: &[u8], table: &[u16], layout: Layout, x: usize, filler: usize) -> bool
-    requires { ⌜ layout .names + layout .roles ≤ length (now signature) ⌝ }
+pub fn is_filling(edges: &[u8], table: &[u16], layout: Layout, x: usize, filler: usize) -> bool
+    requires { ⌜ layout .names ≤ length (now edges) ⌝ }
     requires { ⌜ Rowed (layout .names) (now table) ⌝ }
     requires { ⌜ x < layout .names ⌝ }
-    ensures { λ r. ⌜ (r ≡ true → Filling (now (signature .entry)) (now (table .entry)) layout x filler) ⌝ }
+    ensures { λ r. ⌜ (r ≡ true → Filling (now (edges .entry)) (now (table .entry)) layout x filler) ⌝ }
 {
     let kind = table::kind(table, x);
     let own = table::filler(table, x);
-    let role = table::role(table, x);
     if kind != 4 {
         return false;
     }
     if own != filler {
         return false;
     }
-    has_role(signature, layout, role)
+    has_edge(edges, x)
 }
 
 // Whether the definition of x may allow a mark. Where it says yes, nothing is said.
-pub fn may_be_lost(signature: &[u8], table: &[u16], layout: Layout, x: usize) -> bool
-    requires { ⌜ layout .names + layout .roles ≤ length (now signature) ⌝ }
+pub fn may_be_lost(edges: &[u8], table: &[u16], layout: Layout, x: usize) -> bool
+    requires { ⌜ layout .names ≤ length (now edges) ⌝ }
     requires { ⌜ Rowed (layout .names) (now table) ⌝ }
-    ensures { λ r. ⌜ (r ≡ false → NoRule (now (signature .entry)) (now (table .entry)) layout x) ⌝ }
+    ensures { λ r. ⌜ (r ≡ false → NoRule (now (edges .entry)) (now (table .entry)) layout x) ⌝ }
 {
     if layout.names <= x {
         return true;
@@ -276,8 +204,7 @@ pub fn may_be_lost(signature: &[u8], table: &[u16], layout: Layout, x: usize) ->
         return true;
     }
     if kind == 4 {
-        let role = table::role(table, x);
-        return has_role(signature, layout, role);
+        return has_edge(edges, x);
     }
     false
 }

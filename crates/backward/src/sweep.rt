@@ -1,6 +1,7 @@
 // Passes over all pairs, until one finds nothing left to mark.
 ghost use mathlib.Core.Path.{_≡_};
 ghost use Prim.Native.Nat.{suc, _≤_, _<_};
+ghost use lib.ListN.{length};
 ghost use Rattle.release.specs.Tables.{kindAt, Shaped};
 ghost use Rattle.marks.specs.Squares.{Room};
 ghost use Rattle.marks.specs.Passes.{Pass, Closed, Below};
@@ -26,12 +27,12 @@ use marks::waiting::Waiting;
 use release::table;
 
 // Marks x with all that it is not below by the second release, if it is a name of the signature. Whether a mark is new.
-fn name(signature: &[u8], work: &mut [u8], layout: Layout, x: usize) -> bool
-    requires { ⌜ Named (now signature) layout (now work) ⌝ }
+fn name(chosen_names: &[u8], work: &mut [u8], layout: Layout, x: usize) -> bool
+    requires { ⌜ Named (now «chosen_names») layout (now work) ⌝ }
     requires { ⌜ x ≤ layout .names ⌝ }
-    ensures { λ r. ⌜ Pass (NameLost (now (signature .entry)) layout) (markSquare layout) (Row (NameLost (now (signature .entry)) layout) layout x) (now (work .entry)) (now (work .exit)) r ⌝ }
+    ensures { λ r. ⌜ Pass (NameLost (now («chosen_names» .entry)) layout) (markSquare layout) (Row (NameLost (now («chosen_names» .entry)) layout) layout x) (now (work .entry)) (now (work .exit)) r ⌝ }
 {
-    if has_name(signature, layout, x) {
+    if has_name(chosen_names, layout, x) {
         let mut row = [0u8; Line::LENGTH];
         line::join(
             &mut row,
@@ -59,7 +60,7 @@ fn name(signature: &[u8], work: &mut [u8], layout: Layout, x: usize) -> bool
 
 // Marks the pair x, y if the definition of x allows it and y is not defined by a conjunction. Whether the mark is new.
 fn look(
-    signature: &[u8],
+    edges: &[u8],
     first: &[u8],
     first_table: &[u16],
     second_table: &[u16],
@@ -68,21 +69,12 @@ fn look(
     x: usize,
     y: usize,
 ) -> bool
-    requires { ⌜ Rows (now signature) (now first) (now «first_table») (now «second_table») layout (now work) ⌝ }
+    requires { ⌜ Rows (now edges) (now first) (now «first_table») (now «second_table») layout (now work) ⌝ }
     requires { ⌜ (x ≤ layout .names) × (y ≤ layout .names) ⌝ }
-    ensures { λ r. ⌜ Pass (PlainLost (now (signature .entry)) (now (first .entry)) (now («first_table» .entry)) (now («second_table» .entry)) layout) (markSquare layout) (Cell (PlainLost (now (signature .entry)) (now (first .entry)) (now («first_table» .entry)) (now («second_table» .entry)) layout) layout x y) (now (work .entry)) (now (work .exit)) r ⌝ }
+    ensures { λ r. ⌜ Pass (PlainLost (now (edges .entry)) (now (first .entry)) (now («first_table» .entry)) (now («second_table» .entry)) layout) (markSquare layout) (Cell (PlainLost (now (edges .entry)) (now (first .entry)) (now («first_table» .entry)) (now («second_table» .entry)) layout) layout x y) (now (work .entry)) (now (work .exit)) r ⌝ }
 {
     if is_plain(second_table, layout, y) {
-        if column_lost(
-            signature,
-            first,
-            first_table,
-            second_table,
-            work,
-            layout,
-            x,
-            y,
-        ) {
+        if column_lost(edges, first, first_table, second_table, work, layout, x, y) {
             return mark(work, layout, x, y);
         }
     }
@@ -91,7 +83,7 @@ fn look(
 
 // Looks at all pairs of row x that are not marked. Whether a mark is new.
 fn row(
-    signature: &[u8],
+    edges: &[u8],
     first: &[u8],
     first_table: &[u16],
     second_table: &[u16],
@@ -99,9 +91,9 @@ fn row(
     layout: Layout,
     x: usize,
 ) -> bool
-    requires { ⌜ Rows (now signature) (now first) (now «first_table») (now «second_table») layout (now work) ⌝ }
+    requires { ⌜ Rows (now edges) (now first) (now «first_table») (now «second_table») layout (now work) ⌝ }
     requires { ⌜ x ≤ layout .names ⌝ }
-    ensures { λ r. ⌜ Pass (PlainLost (now (signature .entry)) (now (first .entry)) (now («first_table» .entry)) (now («second_table» .entry)) layout) (markSquare layout) (Row (PlainLost (now (signature .entry)) (now (first .entry)) (now («first_table» .entry)) (now («second_table» .entry)) layout) layout x) (now (work .entry)) (now (work .exit)) r ⌝ }
+    ensures { λ r. ⌜ Pass (PlainLost (now (edges .entry)) (now (first .entry)) (now («first_table» .entry)) (now («second_table» .entry)) layout) (markSquare layout) (Row (PlainLost (now (edges .entry)) (now (first .entry)) (now («first_table» .entry)) (now («second_table» .entry)) layout) layout x) (now (work .entry)) (now (work .exit)) r ⌝ }
 {
     let marks = Square {
         base: layout.marks,
@@ -110,16 +102,7 @@ fn row(
     let mut changed = false;
     let mut y = next_unmarked(work, marks, x, 0);
     while y <= layout.names {
-        let new = look(
-            signature,
-            first,
-            first_table,
-            second_table,
-            work,
-            layout,
-            x,
-            y,
-        );
+        let new = look(edges, first, first_table, second_table, work, layout, x, y);
         changed = changed | new;
         y = next_unmarked(work, marks, x, y + 1);
     }
@@ -128,7 +111,7 @@ fn row(
 
 // The same, but a row is not looked at whose definition allows no mark.
 fn plain(
-    signature: &[u8],
+    edges: &[u8],
     first: &[u8],
     first_table: &[u16],
     second_table: &[u16],
@@ -136,12 +119,12 @@ fn plain(
     layout: Layout,
     x: usize,
 ) -> bool
-    requires { ⌜ Rows (now signature) (now first) (now «first_table») (now «second_table») layout (now work) ⌝ }
+    requires { ⌜ Rows (now edges) (now first) (now «first_table») (now «second_table») layout (now work) ⌝ }
     requires { ⌜ x ≤ layout .names ⌝ }
-    ensures { λ r. ⌜ Pass (PlainLost (now (signature .entry)) (now (first .entry)) (now («first_table» .entry)) (now («second_table» .entry)) layout) (markSquare layout) (Row (PlainLost (now (signature .entry)) (now (first .entry)) (now («first_table» .entry)) (now («second_table» .entry)) layout) layout x) (now (work .entry)) (now (work .exit)) r ⌝ }
+    ensures { λ r. ⌜ Pass (PlainLost (now (edges .entry)) (now (first .entry)) (now («first_table» .entry)) (now («second_table» .entry)) layout) (markSquare layout) (Row (PlainLost (now (edges .entry)) (now (first .entry)) (now («first_table» .entry)) (now («second_table» .entry)) layout) layout x) (now (work .entry)) (now (work .exit)) r ⌝ }
 {
-    if may_be_lost(signature, first_table, layout, x) {
-        return row(signature, first, first_table, second_table, work, layout, x);
+    if may_be_lost(edges, first_table, layout, x) {
+        return row(edges, first, first_table, second_table, work, layout, x);
     }
     false
 }
@@ -193,7 +176,8 @@ fn joined(second: &[u8], table: &[u16], work: &mut [u8], layout: Layout, y: usiz
 
 // One pass over all pairs: for each name its row and its column, and the row of ⊤. Whether a mark is new.
 fn names(
-    signature: &[u8],
+    chosen_names: &[u8],
+    edges: &[u8],
     first: &[u8],
     second: &[u8],
     first_table: &[u16],
@@ -201,21 +185,22 @@ fn names(
     work: &mut [u8],
     layout: Layout,
 ) -> bool
-    requires { ⌜ Setting (now signature) (now first) (now second) (now «first_table») (now «second_table») layout (now work) ⌝ }
-    ensures { λ r. ⌜ Pass (Own (now (signature .entry)) (now (first .entry)) (now (second .entry)) (now («first_table» .entry)) (now («second_table» .entry)) layout) (markSquare layout) (Below (Row (Own (now (signature .entry)) (now (first .entry)) (now (second .entry)) (now («first_table» .entry)) (now («second_table» .entry)) layout) layout) (suc (layout .names))) (now (work .entry)) (now (work .exit)) r ⌝ }
+    requires { ⌜ layout .names ≤ length (now «chosen_names») ⌝ }
+    requires { ⌜ Setting (now edges) (now first) (now second) (now «first_table») (now «second_table») layout (now work) ⌝ }
+    ensures { λ r. ⌜ Pass (Own (now («chosen_names» .entry)) (now (edges .entry)) (now (first .entry)) (now (second .entry)) (now («first_table» .entry)) (now («second_table» .entry)) layout) (markSquare layout) (Below (Row (Own (now («chosen_names» .entry)) (now (edges .entry)) (now (first .entry)) (now (second .entry)) (now («first_table» .entry)) (now («second_table» .entry)) layout) layout) (suc (layout .names))) (now (work .entry)) (now (work .exit)) r ⌝ }
 {
     let mut changed = false;
     let mut next = 0;
     while next < layout.names {
         let x = next;
         next += 1;
-        let by_row = plain(signature, first, first_table, second_table, work, layout, x);
-        let by_name = name(signature, work, layout, x);
+        let by_row = plain(edges, first, first_table, second_table, work, layout, x);
+        let by_name = name(chosen_names, work, layout, x);
         let by_column = joined(second, second_table, work, layout, x);
         changed = changed | (by_row | (by_name | by_column));
     }
     let top = plain(
-        signature,
+        edges,
         first,
         first_table,
         second_table,
@@ -228,7 +213,8 @@ fn names(
 
 // One pass: over all pairs, and if nothing is new there, over all rows with the rows above them. Whether a mark is new.
 fn pass(
-    signature: &[u8],
+    chosen_names: &[u8],
+    edges: &[u8],
     first: &[u8],
     second: &[u8],
     first_table: &[u16],
@@ -237,11 +223,13 @@ fn pass(
     order: &[u16; Order::NODES],
     layout: Layout,
 ) -> bool
-    requires { ⌜ Setting (now signature) (now first) (now second) (now «first_table») (now «second_table») layout (now work) ⌝ }
-    ensures { λ r. ⌜ Pass (Step (now (signature .entry)) (now (first .entry)) (now (second .entry)) (now («first_table» .entry)) (now («second_table» .entry)) layout) (markSquare layout) (Quiet (now (signature .entry)) (now (first .entry)) (now (second .entry)) (now («first_table» .entry)) (now («second_table» .entry)) layout) (now (work .entry)) (now (work .exit)) r ⌝ }
+    requires { ⌜ layout .names ≤ length (now «chosen_names») ⌝ }
+    requires { ⌜ Setting (now edges) (now first) (now second) (now «first_table») (now «second_table») layout (now work) ⌝ }
+    ensures { λ r. ⌜ Pass (Step (now («chosen_names» .entry)) (now (edges .entry)) (now (first .entry)) (now (second .entry)) (now («first_table» .entry)) (now («second_table» .entry)) layout) (markSquare layout) (Quiet (now («chosen_names» .entry)) (now (edges .entry)) (now (first .entry)) (now (second .entry)) (now («first_table» .entry)) (now («second_table» .entry)) layout) (now (work .entry)) (now (work .exit)) r ⌝ }
 {
     if names(
-        signature,
+        chosen_names,
+        edges,
         first,
         second,
         first_table,
@@ -267,7 +255,8 @@ fn pass(
 
 // Passes until nothing is left to mark. What a pass finds is dealt with before the next one.
 pub fn close(
-    signature: &[u8],
+    chosen_names: &[u8],
+    edges: &[u8],
     first: &[u8],
     second: &[u8],
     first_table: &[u16],
@@ -276,8 +265,9 @@ pub fn close(
     order: &[u16; Order::NODES],
     layout: Layout,
 )
-    requires { ⌜ Setting (now signature) (now first) (now second) (now «first_table») (now «second_table») layout (now work) ⌝ }
-    ensures { λ _. ⌜ Closed (Step (now (signature .entry)) (now (first .entry)) (now (second .entry)) (now («first_table» .entry)) (now («second_table» .entry)) layout) (markSquare layout) (Quiet (now (signature .entry)) (now (first .entry)) (now (second .entry)) (now («first_table» .entry)) (now («second_table» .entry)) layout) (now (work .entry)) (now (work .exit)) ⌝ }
+    requires { ⌜ layout .names ≤ length (now «chosen_names») ⌝ }
+    requires { ⌜ Setting (now edges) (now first) (now second) (now «first_table») (now «second_table») layout (now work) ⌝ }
+    ensures { λ _. ⌜ Closed (Step (now («chosen_names» .entry)) (now (edges .entry)) (now (first .entry)) (now (second .entry)) (now («first_table» .entry)) (now («second_table» .entry)) layout) (markSquare layout) (Quiet (now («chosen_names» .entry)) (now (edges .entry)) (now (first .entry)) (now (second .entry)) (now («first_table» .entry)) (now («second_table» .entry)) layout) (now (work .entry)) (now (work .exit)) ⌝ }
 {
     let marks = Square {
         base: layout.marks,
@@ -286,7 +276,8 @@ pub fn close(
     let mut waiting = [0u16; Waiting::LENGTH];
     see_all(work, marks);
     while pass(
-        signature,
+        chosen_names,
+        edges,
         first,
         second,
         first_table,
@@ -296,7 +287,7 @@ pub fn close(
         layout,
     ) {
         propagate(
-            signature,
+            edges,
             first,
             second,
             first_table,

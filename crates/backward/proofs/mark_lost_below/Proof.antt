@@ -1,5 +1,5 @@
 use Rattle.marks.proofs.Passes.{closed-further}
-use Rattle.backward.proofs.Tested.{setting, setting-stays, named, squares, name-grows, below-grows}
+use Rattle.backward.proofs.Tested.{setting, setting-stays, named, squares, name-grows, below-grows, follows-grows}
 use Rattle.backward.proofs.Meaning.{backwarded}
 use borrow.Author.Needs.{needs}
 use Rattle.backward.proofs.mark_lost_below.Statement.{statement}
@@ -12,22 +12,22 @@ use Rattle.backward.proofs.sweep.close.Reads as close-reads
 use Rattle.marks.proofs.order.sort.Reads as sort-reads
 
 sort-requires : tie.Need-sort-requires
-sort-requires c κs = let h = setting (c .before .before .before .before .before .before .before .before .before .pre) in (h .places .first, h .few)
+sort-requires c κs = let p = c .before .before .before .before .before .before .before .before .before .before .pre in let h = setting (p .1 .0) (p .1 .1) in (h .places .first, h .few)
 
 mark-names-requires : tie.Need-mark-names-requires
-mark-names-requires c κs = named (setting (c .before .before .before .before .before .before .before .before .before .before .before .pre))
+mark-names-requires c κs = let p = c .before .before .before .before .before .before .before .before .before .before .before .before .pre in named (setting (p .1 .0) (p .1 .1)) (p .0)
 
 hand-all-up-requires : tie.Need-hand-all-up-requires
-hand-all-up-requires c κs = squares (setting-stays (c .before .before .before .before .mark-names .ensures) (setting (c .before .before .before .before .before .before .before .before .before .before .before .before .before .before .before .before .pre)))
+hand-all-up-requires c κs = let p = c .before .before .before .before .before .before .before .before .before .before .before .before .before .before .before .before .before .pre in squares (setting-stays (c .before .before .before .before .mark-names .ensures) (setting (p .1 .0) (p .1 .1)))
 
 close-requires : tie.Need-close-requires
-close-requires c κs = setting-stays (c .before .before .before .before .hand-all-up .ensures) (setting-stays (c .before .before .before .before .before .before .before .before .before .mark-names .ensures) (setting (c .before .before .before .before .before .before .before .before .before .before .before .before .before .before .before .before .before .before .before .before .before .pre)))
+close-requires c κs = let p = c .before .before .before .before .before .before .before .before .before .before .before .before .before .before .before .before .before .before .before .before .before .before .pre in (p .0, setting-stays (c .before .before .before .before .hand-all-up .ensures) (setting-stays (c .before .before .before .before .before .before .before .before .before .mark-names .ensures) (setting (p .1 .0) (p .1 .1))))
 
 same-length : tie.Need-same-length
 same-length c = search needs
 
 returns : tie.Need-returns
-returns c = backwarded (c .before .before .before .before .before .before .before .before .before .before .before .before .before .before .before .before .before .before .before .before .before .before .before .before .pre) (closed-further (name-grows (c .before .before .before .before .before .before .before .before .before .before .before .before .mark-names .ensures)) (closed-further (below-grows (c .before .before .before .before .before .before .before .hand-all-up .ensures)) (c .before .before .close .ensures)))
+returns c = record { of-signature = λ g handed. backwarded handed (c .before .before .before .before .before .before .before .before .before .before .before .before .before .before .before .before .before .before .before .before .before .before .before .before .before .pre .1 .1) (closed-further (name-grows (c .before .before .before .before .before .before .before .before .before .before .before .before .mark-names .ensures)) (closed-further (follows-grows (below-grows (c .before .before .before .before .before .before .before .hand-all-up .ensures))) (c .before .before .close .ensures))) }
 
 pub mark-lost-below-spec : {M : Type 1} → statement M
 mark-lost-below-spec =

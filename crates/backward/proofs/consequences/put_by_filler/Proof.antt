@@ -6,7 +6,7 @@ use lib.ListN.{length}
 use Rattle.layout.specs.Layouts.{markSquare}
 use Rattle.marks.specs.Passes.{Grows, none}
 use Rattle.marks.proofs.Passes.{grows-further}
-use Rattle.backward.specs.Rules.{Step}
+use Rattle.backward.specs.Rules.{Follows}
 use Rattle.backward.proofs.Tested.{setting-stays}
 use Rattle.backward.proofs.consequences.put_by_filler.Statement.{statement}
 use Rattle.backward.proofs.consequences.put_by_filler.Tie as tie
@@ -18,10 +18,10 @@ use Rattle.marks.proofs.hints.next.Reads as next-reads
 
 -- marks put by the rules
 abbrev Inv-loop : tie.InvT-loop
-Inv-loop signature first second first-table second-table work₀ waiting₀ layout line filler inclusions next₀ work waiting next = (length work ≡ length work₀) × Grows (Step signature first second first-table second-table layout) (markSquare layout) work₀ work
+Inv-loop edges first second first-table second-table work₀ waiting₀ layout line filler inclusions next₀ work waiting next = (length work ≡ length work₀) × Grows (Follows edges first second first-table second-table layout) (markSquare layout) work₀ work
 
 abbrev μ-loop : tie.MeasureT-loop
-μ-loop signature first second first-table second-table work₀ waiting₀ layout line filler inclusions next₀ work waiting next = layout .names - next
+μ-loop edges first second first-table second-table work₀ waiting₀ layout line filler inclusions next₀ work waiting next = layout .names - next
 
 next-requires : tie.Need-next-requires Inv-loop μ-loop
 next-requires c κs = (c .before .before .before .before .before .before .before .pre .0 .places .areas .first, (omega arith, c .before .before .before .before .before .before .before .pre .1, omega arith))
@@ -36,7 +36,7 @@ next-requires-2 : tie.Need-next-requires-2 Inv-loop μ-loop
 next-requires-2 c κs = (setting-stays (c .before .before .before .loop .inv .1) (c .before .before .before .before .before .before .before .before .before .before .before .before .pre .0) .places .areas .first, (omega arith, c .before .before .before .before .before .before .before .before .before .before .before .before .pre .1, omega (arith, c .before .if1 .taken)))
 
 is-filling-requires : tie.Need-is-filling-requires Inv-loop μ-loop
-is-filling-requires c κs = (c .before .before .before .before .before .before .before .before .before .before .before .before .before .pre .0 .places .signature, (c .before .before .before .before .before .before .before .before .before .before .before .before .before .pre .0 .places .first-table, c .before .before .if1 .taken))
+is-filling-requires c κs = (c .before .before .before .before .before .before .before .before .before .before .before .before .before .pre .0 .places .edge-bytes .bytes, (c .before .before .before .before .before .before .before .before .before .before .before .before .before .pre .0 .places .first-table, c .before .before .if1 .taken))
 
 put-filled-requires : tie.Need-put-filled-requires Inv-loop μ-loop
 put-filled-requires c κs = (setting-stays (c .before .before .before .before .before .before .before .before .loop .inv .1) (c .before .before .before .before .before .before .before .before .before .before .before .before .before .before .before .before .before .pre .0), c .before .before .before .is-filling .ensures (c .before .before .if2 .taken))

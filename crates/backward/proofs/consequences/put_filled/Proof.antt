@@ -6,7 +6,7 @@ use lib.ListN.{length}
 use Rattle.layout.specs.Layouts.{markSquare}
 use Rattle.marks.specs.Passes.{Grows, none}
 use Rattle.marks.proofs.Passes.{grows-further}
-use Rattle.backward.specs.Rules.{Step}
+use Rattle.backward.specs.Rules.{Follows}
 use Rattle.backward.proofs.Tested.{setting-stays, restricted, over-grows}
 use Rattle.backward.proofs.consequences.put_filled.Statement.{statement}
 use Rattle.backward.proofs.consequences.put_filled.Tie as tie
@@ -19,10 +19,10 @@ use Rattle.marks.proofs.waiting.next.Reads as next-reads
 
 -- marks put by the rules
 abbrev Inv-loop : tie.InvT-loop
-Inv-loop signature first second first-table second-table work₀ waiting₀ layout line filler x next₀ work waiting next = (length work ≡ length work₀) × Grows (Step signature first second first-table second-table layout) (markSquare layout) work₀ work
+Inv-loop edges first second first-table second-table work₀ waiting₀ layout line filler x next₀ work waiting next = (length work ≡ length work₀) × Grows (Follows edges first second first-table second-table layout) (markSquare layout) work₀ work
 
 abbrev μ-loop : tie.MeasureT-loop
-μ-loop signature first second first-table second-table work₀ waiting₀ layout line filler x next₀ work waiting next = layout .names - next
+μ-loop edges first second first-table second-table work₀ waiting₀ layout line filler x next₀ work waiting next = layout .names - next
 
 next-requires : tie.Need-next-requires Inv-loop μ-loop
 next-requires c κs = search needs

@@ -1,12 +1,12 @@
 use borrow.Author.Needs.{needs}
 use Rattle.marks.specs.Passes.{none}
 use Rattle.marks.proofs.Passes.{put-grows}
-use Rattle.backward.specs.Rules.{by-own}
+use Rattle.backward.specs.Rules.{from-definition}
 use Rattle.backward.proofs.consequences.put_lost.Statement.{statement}
 use Rattle.backward.proofs.consequences.put_lost.Tie as tie
 use Rattle.backward.proofs.consequences.put_lost.Reads as reads
 use Rattle.backward.proofs.consequences.put_lost.Lts as lts
-use Rattle.backward.proofs.rules.is_lost.Reads as is-lost-reads
+use Rattle.backward.proofs.rules.defined_lost.Reads as defined-lost-reads
 use Rattle.layout.proofs.is_marked.Reads as is-marked-reads
 use Rattle.layout.proofs.mark.Reads as mark-reads
 use Rattle.marks.proofs.waiting.wait.Reads as wait-reads
@@ -20,8 +20,8 @@ same-length c = search needs
 returns : tie.Need-returns
 returns c = none
 
-is-lost-requires : tie.Need-is-lost-requires
-is-lost-requires c κs = search needs
+defined-lost-requires : tie.Need-defined-lost-requires
+defined-lost-requires c κs = search needs
 
 mark-requires : tie.Need-mark-requires
 mark-requires c κs = search needs
@@ -33,7 +33,7 @@ same-length-2 : tie.Need-same-length-2
 same-length-2 c = search needs
 
 returns-2 : tie.Need-returns-2
-returns-2 c = put-grows (c .before .before .before .before .mark .ensures) (by-own (c .before .before .before .before .before .before .before .is-lost .ensures .sound (c .before .before .before .before .before .before .if2 .taken)))
+returns-2 c = put-grows (c .before .before .before .before .mark .ensures) (from-definition (c .before .before .before .before .before .before .before .defined-lost .ensures .sound (c .before .before .before .before .before .before .if2 .taken)))
 
 same-length-3 : tie.Need-same-length-3
 same-length-3 c = search needs
@@ -48,7 +48,7 @@ put-lost-spec =
     is-marked-requires
     same-length
     returns
-    is-lost-requires
+    defined-lost-requires
     mark-requires
     wait-requires
     same-length-2

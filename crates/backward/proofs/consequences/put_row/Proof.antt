@@ -6,7 +6,7 @@ use lib.ListN.{length}
 use Rattle.layout.specs.Layouts.{markSquare}
 use Rattle.marks.specs.Passes.{Grows, none}
 use Rattle.marks.proofs.Passes.{grows-further}
-use Rattle.backward.specs.Rules.{Step}
+use Rattle.backward.specs.Rules.{Follows}
 use Rattle.backward.proofs.Tested.{setting-stays}
 use Rattle.backward.proofs.consequences.put_row.Statement.{statement}
 use Rattle.backward.proofs.consequences.put_row.Tie as tie
@@ -17,10 +17,10 @@ use Rattle.marks.proofs.rows.next_unmarked.Reads as next-unmarked-reads
 
 -- marks put by the rules
 abbrev Inv-loop : tie.InvT-loop
-Inv-loop signature first second first-table second-table work₀ waiting₀ layout x marks y₀ work waiting y = (y ≤ suc (layout .names)) × (length work ≡ length work₀) × Grows (Step signature first second first-table second-table layout) (markSquare layout) work₀ work
+Inv-loop edges first second first-table second-table work₀ waiting₀ layout x marks y₀ work waiting y = (y ≤ suc (layout .names)) × (length work ≡ length work₀) × Grows (Follows edges first second first-table second-table layout) (markSquare layout) work₀ work
 
 abbrev μ-loop : tie.MeasureT-loop
-μ-loop signature first second first-table second-table work₀ waiting₀ layout x marks y₀ work waiting y = suc (layout .names) - y
+μ-loop edges first second first-table second-table work₀ waiting₀ layout x marks y₀ work waiting y = suc (layout .names) - y
 
 next-unmarked-requires : tie.Need-next-unmarked-requires Inv-loop μ-loop
 next-unmarked-requires c κs = (c .before .before .before .before .before .before .before .pre .0 .places .marks, (c .before .before .before .before .before .before .before .pre .1, omega arith))

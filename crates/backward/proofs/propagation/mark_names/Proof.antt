@@ -16,10 +16,10 @@ use Rattle.backward.proofs.propagation.mark_name.Reads as mark-name-rea
 
 -- marks put by names
 abbrev Inv-loop : tie.InvT-loop
-Inv-loop signature work₀ layout next₀ work next = (length work ≡ length work₀) × Grows (NameLost signature layout) (markSquare layout) work₀ work
+Inv-loop names work₀ layout next₀ work next = (length work ≡ length work₀) × Grows (NameLost names layout) (markSquare layout) work₀ work
 
 abbrev μ-loop : tie.MeasureT-loop
-μ-loop signature work₀ layout next₀ work next = layout .names - next
+μ-loop names work₀ layout next₀ work next = layout .names - next
 
 loop-holds : tie.Need-loop-holds Inv-loop μ-loop
 loop-holds c = (refl, none)

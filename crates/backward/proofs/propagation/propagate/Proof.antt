@@ -5,7 +5,7 @@ use lib.ListN.{length}
 use Rattle.layout.specs.Layouts.{markSquare}
 use Rattle.marks.specs.Passes.{Grows, none}
 use Rattle.marks.proofs.Passes.{grows-further}
-use Rattle.backward.specs.Rules.{Step}
+use Rattle.backward.specs.Rules.{Follows}
 use Rattle.backward.proofs.Tested.{setting-stays}
 use Rattle.backward.proofs.propagation.propagate.Statement.{statement}
 use Rattle.backward.proofs.propagation.propagate.Tie as tie
@@ -17,10 +17,10 @@ use Rattle.marks.proofs.hints.wait_for_new.Reads as wait-for-new-reads
 
 -- marks put by the rules
 abbrev Inv-loop : tie.InvT-loop
-Inv-loop signature first second first-table second-table work₀ waiting₀ layout left₀ work waiting left = (length work ≡ length work₀) × Grows (Step signature first second first-table second-table layout) (markSquare layout) work₀ work
+Inv-loop edges first second first-table second-table work₀ waiting₀ layout left₀ work waiting left = (length work ≡ length work₀) × Grows (Follows edges first second first-table second-table layout) (markSquare layout) work₀ work
 
 abbrev μ-loop : tie.MeasureT-loop
-μ-loop signature first second first-table second-table work₀ waiting₀ layout left₀ work waiting left = left
+μ-loop edges first second first-table second-table work₀ waiting₀ layout left₀ work waiting left = left
 
 wait-for-new-requires : tie.Need-wait-for-new-requires Inv-loop μ-loop
 wait-for-new-requires c κs = c .before .before .before .before .before .before .before .before .pre .places .areas .marks

@@ -23,7 +23,7 @@ returns-2 : tie.Need-returns-2
 returns-2 c = parts-step (c .before .before .before .if1 .left) (sym (c .before .before .kind .ensures) ∙ c .before .if2 .taken) (c .all-parts-lost .ensures)
 
 role-lost-requires : tie.Need-role-lost-requires
-role-lost-requires c κs = let p = c .before .before .before .before .before .before .before .before .before .before .pre .0 .places in (p .signature, ((p .first-table, p .second-table), (p .marks, (c .before .before .before .if1 .left, sym (c .before .before .kind .ensures) ∙ c .if3 .taken))))
+role-lost-requires c κs = let p = c .before .before .before .before .before .before .before .before .before .before .pre .0 .places in (p .edge-bytes .bytes, ((p .first-table, p .second-table), (p .marks, (c .before .before .before .if1 .left, sym (c .before .before .kind .ensures) ∙ c .if3 .taken))))
 
 returns-3 : tie.Need-returns-3
 returns-3 c = role-step (c .before .before .before .before .if1 .left) (sym (c .before .before .before .kind .ensures) ∙ c .before .if3 .taken) (c .role-lost .ensures)

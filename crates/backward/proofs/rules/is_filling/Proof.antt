@@ -5,10 +5,9 @@ use Rattle.backward.proofs.rules.is_filling.Statement.{statement}
 use Rattle.backward.proofs.rules.is_filling.Tie as tie
 use Rattle.backward.proofs.rules.is_filling.Reads as reads
 use Rattle.backward.proofs.rules.is_filling.Lts as lts
-use Rattle.layout.proofs.has_role.Reads as has-role-reads
+use Rattle.layout.proofs.edges.has_edge.Reads as has-edge-reads
 use Rattle.release.proofs.table.filler.Reads as filler-reads
 use Rattle.release.proofs.table.kind.Reads as kind-reads
-use Rattle.release.proofs.table.role.Reads as role-reads
 
 kind-requires : tie.Need-kind-requires
 kind-requires c κs = search needs
@@ -16,20 +15,17 @@ kind-requires c κs = search needs
 filler-requires : tie.Need-filler-requires
 filler-requires c κs = search needs
 
-role-requires : tie.Need-role-requires
-role-requires c κs = search needs
-
 returns : tie.Need-returns
 returns c = λ e. not-false e
 
 returns-2 : tie.Need-returns-2
 returns-2 c = λ e. not-false e
 
-has-role-requires : tie.Need-has-role-requires
-has-role-requires c κs = search needs
+has-edge-requires : tie.Need-has-edge-requires
+has-edge-requires c κs = search needs
 
 returns-3 : tie.Need-returns-3
-returns-3 c = λ e. record { is-name = c .before .before .before .before .before .before .before .before .pre .1 .1; kind = sym (c .before .before .before .before .before .kind .ensures) ∙ c .before .before .if1 .left; filler = sym (c .before .before .before .before .filler .ensures) ∙ c .before .if2 .left; chosen-role = rw (← c .before .before .before .role .ensures) (sym (c .has-role .ensures) ∙ e) }
+returns-3 c = λ e. record { is-name = c .before .before .before .before .before .before .before .pre .1 .1; kind = sym (c .before .before .before .before .kind .ensures) ∙ c .before .before .if1 .left; filler = sym (c .before .before .before .filler .ensures) ∙ c .before .if2 .left; has-edge = sym (c .has-edge .ensures) ∙ e }
 
 pub is-filling-spec : {M : Type 1} → statement M
 is-filling-spec =
@@ -37,8 +33,7 @@ is-filling-spec =
     (tie.spec
     kind-requires
     filler-requires
-    role-requires
     returns
     returns-2
-    has-role-requires
+    has-edge-requires
     returns-3)

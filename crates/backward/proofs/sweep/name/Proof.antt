@@ -15,7 +15,7 @@ use Rattle.marks.proofs.line.absorb_missing.Reads as absorb-missing-reads
 use Rattle.marks.proofs.line.join.Reads as join-reads
 
 has-name-requires : tie.Need-has-name-requires
-has-name-requires c κs = c .before .before .pre .0 .signature
+has-name-requires c κs = c .before .before .pre .0 .bytes
 
 slice-aggregate-join : tie.Need-slice-aggregate-join
 slice-aggregate-join c = search needs

@@ -18,7 +18,7 @@ returns : tie.Need-returns
 returns c = quiet-changed (c .before .before .before .names .ensures) (c .if1 .taken)
 
 give-all-requires : tie.Need-give-all-requires
-give-all-requires c κs = let h = setting-stays (c .before .before .before .before .names .ensures .grows) (c .before .before .before .before .before .before .before .before .before .before .before .before .pre) in ((h .places .first, h .places .marks), record { same = refl; few = h .few })
+give-all-requires c κs = let h = setting-stays (c .before .before .before .before .names .ensures .grows) (c .before .before .before .before .before .before .before .before .before .before .before .before .before .pre .1) in ((h .places .first, h .places .marks), record { same = refl; few = h .few })
 
 same-length-2 : tie.Need-same-length-2
 same-length-2 c = search needs

@@ -9,7 +9,7 @@ use Rattle.backward.proofs.rules.may_be_lost.Reads as may-be-lost-reads
 use Rattle.backward.proofs.sweep.row.Reads as row-reads
 
 may-be-lost-requires : tie.Need-may-be-lost-requires
-may-be-lost-requires c κs = (c .before .before .before .before .before .pre .0 .places .signature, c .before .before .before .before .before .pre .0 .places .first-table)
+may-be-lost-requires c κs = (c .before .before .before .before .before .pre .0 .places .edge-bytes .bytes, c .before .before .before .before .before .pre .0 .places .first-table)
 
 row-requires : tie.Need-row-requires
 row-requires c κs = search needs

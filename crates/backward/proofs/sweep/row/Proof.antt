@@ -17,10 +17,10 @@ use Rattle.marks.proofs.rows.next_unmarked.Reads as next-unmarked-reads
 
 -- the cells before y are looked at, or marked
 abbrev Inv-loop : tie.InvT-loop
-Inv-loop signature first first-table second-table work₀ layout x marks changed₀ y₀ work changed y = (y ≤ suc (layout .names)) × (length work ≡ length work₀) × Pass (PlainLost signature first first-table second-table layout) (markSquare layout) (Below (Cell (PlainLost signature first first-table second-table layout) layout x) y) work₀ work changed
+Inv-loop edges first first-table second-table work₀ layout x marks changed₀ y₀ work changed y = (y ≤ suc (layout .names)) × (length work ≡ length work₀) × Pass (PlainLost edges first first-table second-table layout) (markSquare layout) (Below (Cell (PlainLost edges first first-table second-table layout) layout x) y) work₀ work changed
 
 abbrev μ-loop : tie.MeasureT-loop
-μ-loop signature first first-table second-table work₀ layout x marks changed₀ y₀ work changed y = suc (layout .names) - y
+μ-loop edges first first-table second-table work₀ layout x marks changed₀ y₀ work changed y = suc (layout .names) - y
 
 next-unmarked-requires : tie.Need-next-unmarked-requires Inv-loop μ-loop
 next-unmarked-requires c κs = (c .before .before .before .before .before .before .pre .0 .places .marks, (c .before .before .before .before .before .before .pre .1, omega arith))
