@@ -1,6 +1,7 @@
 -- The four squares one after the other, and the result: what each call asks follows from what the calls before it gave.
 --   first-asks, second-asks, both-included         the two classifications, and what they give together
 --   unchanged, below-room, turned-second, prepared             the second square turned behind its rows: memory that is ready
+--   first-rowed, names-long, handed                what finding edges asks, and what is handed on of the signature
 --   forward-asks, forward-below, backward-asks, all-marked     the marks
 --   readable, marking                              what writing the result bytes asks and gives
 --   given-in, compared, compared-again             what the comparison gives
@@ -12,8 +13,8 @@ use Prim.Native.Nat.{ℕ, _+_, _*_, _≤_, _<_}
 use native.Mathlib.Omega.{arith}
 use borrow.Author.Tests.{eqb-true, ltb-true, ltb-false}
 use lib.Dec.{eqb, ltb}
-use lib.ListN.{length, getD}
-use lib.Seq.{ext-getD}
+use lib.ListN.{length, getD, take}
+use lib.Seq.{ext-getD, getD-take, length-take-le}
 use Rattle.el.proofs.Tests.{which}
 use Rattle.release.specs.Files.{mostNames}
 use Rattle.release.proofs.Checks.{header-sound}
@@ -24,14 +25,17 @@ use Rattle.marks.specs.Squares.{span, place, behind, Room, Area, Unmarked, Touc
 use Rattle.marks.specs.Inclusions.{Turned}
 use Rattle.marks.proofs.Squares.{span-size, place-from, place-below, touches-further, frame-marked, marked-frame, frame-unmarked, zero-unmarked, zeroed-unmarked}
 use Rattle.classification.specs.Inclusions.{Unclassified, Classified}
+use Rattle.classification.proofs.AxiomRows.{ranges}
 use Rattle.classification.proofs.Meaning.{inclusions-stay}
 use Rattle.layout.specs.declared.Layout.{Layout}
-use Rattle.layout.specs.Layouts.{markSquare, Setting}
+use Rattle.layout.specs.Layouts.{markSquare, Rowed, Setting}
+use Rattle.layout.specs.Findings.{Found, Handed}
 use Rattle.layout.specs.Comparing.{Comparing}
-use Rattle.layout.proofs.Comparing.{setting}
+use Rattle.layout.proofs.Findings.{found-edges}
+use Rattle.layout.proofs.Comparing.{rowed, setting}
 use Rattle.forward.specs.Rules.{Beneath}
 use Rattle.forward.specs.Forward.{ForwardMarked, Forwarded, ForwardFrom}
-use Rattle.backward.specs.Backward.{Backwarded}
+use Rattle.backward.specs.Backward.{BackwardFrom}
 use Rattle.comparison.specs.Bytes.{Readable, Written}
 use Rattle.comparison.specs.Compared.{IsSize, SecondTurned, forwardLayout, backwardLayout, squareAt, BothGiven, Given, BothIncluded, Ready, Prepared, AllMarked, ZeroedBetween, Marking, Compared, ComparedAgain}
 use Rattle.comparison.proofs.Rows.{two-spans, RowsSame, same-marked, marked-same}
@@ -143,17 +147,26 @@ module _ {s t : List ℕ} {n k : ℕ} {w v u : List ℕ} (b : BothIncluded s t n
   }
 
 module _ {g s t a b : List ℕ} {n m k : ℕ} {w : List ℕ} (given : Given g s t a b n m w) (e : IsSize n k) where
-  long-enough : n + m ≤ length g
+  pub long-enough : n + m ≤ length g
   long-enough = signature-long n m g (given .signature)
+
+  -- what is handed on of the signature
+  pub first-rowed : Rowed n a
+  first-rowed = rowed (ranges (given .both .first) (given .both .first-names))
+
+  pub names-long : n ≤ length (take n g)
+  names-long = omega (arith, length-take-le n g (omega (arith, long-enough)))
+
+  pub handed : {edges : List ℕ} → Found g a n m edges → Handed g a n m (take n g) edges
+  handed f = record { same-names = λ x h. getD-take n g x 0 h; found = f }
 
   -- marks
   module _ (ready : Ready s t n k w) where
     unmarked : (base : ℕ) → 2 * k ≤ base → base ≤ 3 * k → Unmarked (squareAt n base) w
     unmarked base h l = record { none = λ x y i j m. zero-unmarked (ready .zero (place (squareAt n base) x y) (omega (arith, place-from (squareAt n base) x y)) (omega (arith, place-below (squareAt n base) x y i j, span-size n, e .is))) m }
 
-    comparing : Comparing g s t a b (forwardLayout n m k) w
+    comparing : Comparing s t a b (forwardLayout n m k) w
     comparing = record {
-      signature = long-enough;
       first-release = given .both .first;
       second-release = given .both .second;
       first-names = given .both .first-names;
@@ -169,21 +182,20 @@ module _ {g s t a b : List ℕ} {n m k : ℕ} {w : List ℕ} (given : Given g s 
       second-apart = omega (arith, span-size n, e .is);
     }
 
-    pub forward-asks : Setting g a b (forwardLayout n m k) w
-    forward-asks = setting comparing
+    pub forward-asks : {edges : List ℕ} → Found g a n m edges → Setting edges a b (forwardLayout n m k) w
+    forward-asks f = setting comparing (found-edges f)
 
     pub forward-below : 1 ≤ n → Beneath (forwardLayout n m k) w
     forward-below some = record { room = below-room (few (given .both)) e (omega (arith, given .both .room, e .is)) some refl; turned = ready .turned some; apart = omega (arith, e .is, two-spans n some) }
 
-    module _ {w2 : List ℕ} (f : ForwardFrom g a b (forwardLayout n m k) w w2) where
+    module _ {names edges w2 : List ℕ} (handed : Handed g a n m names edges) (f : ForwardFrom names edges a b (forwardLayout n m k) w w2) where
       abbrev forth : Forwarded g s t (forwardLayout n m k) w w2
-      forth = f .of-releases s t comparing
+      forth = f .of-releases g s t handed comparing
 
-      pub backward-asks : Comparing g s t a b (backwardLayout n m k) w2
+      pub backward-asks : Comparing s t a b (backwardLayout n m k) w2
       backward-asks =
           let long = forth .frame .long in
           record {
-            signature = long-enough;
             first-release = given .both .first;
             second-release = given .both .second;
             first-names = given .both .first-names;
@@ -199,14 +211,16 @@ module _ {g s t a b : List ℕ} {n m k : ℕ} {w : List ℕ} (given : Given g s 
             second-apart = omega (arith, span-size n, e .is);
           }
 
-      pub all-marked : {w3 : List ℕ} → Backwarded g s t (backwardLayout n m k) w2 w3 → AllMarked g s t n m k w w3
-      all-marked r = record {
-        long = r .frame .long ∙ forth .frame .long;
-        before = λ j h. r .frame .before j (omega arith) ∙ forth .frame .before j h;
-        past = λ j h. r .frame .past j (omega (arith, e .is)) ∙ forth .frame .past j (omega (arith, e .is));
-        forward = forward-stays (r .frame) (inl (omega (arith, span-size n, e .is))) (forth .marked);
-        backward = r .marked;
-      }
+      pub all-marked : {w3 : List ℕ} → BackwardFrom names edges s t a (backwardLayout n m k) w2 w3 → AllMarked g s t n m k w w3
+      all-marked b =
+          let r = b .of-signature g handed in
+          record {
+            long = r .frame .long ∙ forth .frame .long;
+            before = λ j h. r .frame .before j (omega arith) ∙ forth .frame .before j h;
+            past = λ j h. r .frame .past j (omega (arith, e .is)) ∙ forth .frame .past j (omega (arith, e .is));
+            forward = forward-stays (r .frame) (inl (omega (arith, span-size n, e .is))) (forth .marked);
+            backward = r .marked;
+          }
 
   -- the result
   module _ {v : List ℕ} (marked : AllMarked g s t n m k w v) where

@@ -6,8 +6,10 @@ ghost use Rattle.comparison.specs.Compared.{IsSize, Given, Ready, AllMar
 use backward::mark_lost_below;
 use forward::mark_lost_above;
 use layout::Layout;
+use layout::edges::find_edges;
+use release::Release;
 
-// Fills the last two squares: the forward marks and the backward marks.
+// Fills the last two squares: the forward marks and the backward marks. The edges with a role of the signature are found once, for both.
 pub fn mark(
     first: &[u8],
     second: &[u8],
@@ -23,6 +25,9 @@ pub fn mark(
     requires { ⌜ IsSize names size × Ready (now first) (now second) names size (now work) ⌝ }
     ensures { λ _. ⌜ AllMarked (now (signature .entry)) (now (first .entry)) (now (second .entry)) names roles size (now (work .entry)) (now (work .exit)) ⌝ }
 {
+    let chosen = &signature[..names];
+    let mut edges = [0u8; Release::NAMES];
+    find_edges(signature, first_table, names, roles, &mut edges);
     let forward = Layout {
         names: names,
         roles: roles,
@@ -30,7 +35,7 @@ pub fn mark(
         second: size,
         marks: 2 * size,
     };
-    mark_lost_above(signature, first_table, second_table, work, forward);
+    mark_lost_above(chosen, &edges, first_table, second_table, work, forward);
     let backward = Layout {
         names: names,
         roles: roles,
@@ -39,7 +44,8 @@ pub fn mark(
         marks: 3 * size,
     };
     mark_lost_below(
-        signature,
+        chosen,
+        &edges,
         first,
         second,
         first_table,
