@@ -50,18 +50,13 @@ module _ (w n : ℕ) (s : List ℕ) (p : ℕ) where
     within : p + 1 ≤ length s
     within = omega arith
 
-    pub conjunction-none : x ≡ 0 → conjunctionFault w n s p ≡ 12
+    pub conjunction-many : mostConjuncts < x → conjunctionFault w n s p ≡ 12
     unfolding conjunctionFault
-    conjunction-none h = simp (conjunctionFault, ← e, le-ltb _ _ within, eq-eqb _ _ h)
+    conjunction-many h = simp (conjunctionFault, ← e, le-ltb _ _ within, lt-ltb _ _ h)
 
-    module _ (some : x ≡ 0 → ⊥) where
-      pub conjunction-many : mostConjuncts < x → conjunctionFault w n s p ≡ 12
-      unfolding conjunctionFault
-      conjunction-many h = simp (conjunctionFault, ← e, le-ltb _ _ within, ne-eqb _ _ some, lt-ltb _ _ h)
-
-      pub conjunction-parts : x ≤ mostConjuncts → conjunctionFault w n s p ≡ partsFault w n x 0 s (p + 1)
-      unfolding conjunctionFault
-      conjunction-parts h = simp (conjunctionFault, ← e, le-ltb _ _ within, ne-eqb _ _ some, le-ltb _ _ h)
+    pub conjunction-parts : x ≤ mostConjuncts → conjunctionFault w n s p ≡ partsFault w n x 0 s (p + 1)
+    unfolding conjunctionFault
+    conjunction-parts h = simp (conjunctionFault, ← e, le-ltb _ _ within, le-ltb _ _ h)
 
 -- and a restriction's
 module _ (w n m : ℕ) (s : List ℕ) (p : ℕ) where

@@ -2,13 +2,13 @@
 --   Alike k s t     the files s and t have at least k bytes, and the same ones at the first k places
 -- Each refusal of a header or an axiom looks at places below 10 + 36 × 1,023 only, and where none is met there, 14 is.
 use mathlib.Core.Path.{_≡_, refl, sym, ap, _∙_}
-use mathlib.Core.Bool.{Bool, true, false, _||_}
+use mathlib.Core.Bool.{Bool, true, false}
 use mathlib.Core.List.{List, [], _∷_}
 use Prim.Native.Nat.{ℕ, zero, suc, _+_, _*_, _≤_, _<_}
 use native.Mathlib.Nat.{mul-le-mul}
 use native.Mathlib.Omega.{arith}
 use borrow.Author.Tests.{lt-ltb, le-ltb, ltb-false}
-use lib.Dec.{eqb, ltb}
+use lib.Dec.{ltb}
 use lib.ListN.{length, getD, take}
 use lib.Seq.{length-take-le, getD-take}
 use Rattle.release.specs.Files.{number, widthOf, mostConjuncts, mark, startsWith, headerLength, firstPlace, namesOf, rolesOf, countOf, headerFault, ends}
@@ -25,10 +25,6 @@ record Alike (k : ℕ) (s t : List ℕ) : Type 0 where
 
 goes-on : (k w : ℕ) (s : List ℕ) (p : ℕ) → k ≤ length s → p + w ≤ k → ends w s p ≡ false
 goes-on k w s p h l = le-ltb (length s) (p + w) (omega arith)
-
-or-right : (a b : Bool) → a || b ≡ false → b ≡ false
-or-right true b e = let z : true ≡ false = e in cc
-or-right false b e = e
 
 starts-alike : (xs s t : List ℕ) → length xs ≤ length s → length xs ≤ length t → ((i : ℕ) → i < length xs → getD s i 0 ≡ getD t i 0) → startsWith xs s ≡ startsWith xs t
 starts-alike [] s t h l same = refl
@@ -61,7 +57,7 @@ module _ {k : ℕ} {s t : List ℕ} (alike : Alike k s t) where
   module _ (w : ℕ) (narrow : w ≤ 2) where
     conjunction-alike : (n p : ℕ) → p + 33 ≤ k → conjunctionFault w n s p ≡ conjunctionFault w n t p
     unfolding conjunctionFault
-    conjunction-alike n p h = by-count (eqb (getD t p 0) 0 || ltb mostConjuncts (getD t p 0)) refl
+    conjunction-alike n p h = by-count (ltb mostConjuncts (getD t p 0)) refl
       where
         e : ends 1 s p ≡ false
         e = goes-on k 1 s p (alike .long) (omega arith)
@@ -72,10 +68,10 @@ module _ {k : ℕ} {s t : List ℕ} (alike : Alike k s t) where
         g : getD s p 0 ≡ getD t p 0
         g = alike .same p (omega arith)
 
-        by-count : (b : Bool) → eqb (getD t p 0) 0 || ltb mostConjuncts (getD t p 0) ≡ b → conjunctionFault w n s p ≡ conjunctionFault w n t p
+        by-count : (b : Bool) → ltb mostConjuncts (getD t p 0) ≡ b → conjunctionFault w n s p ≡ conjunctionFault w n t p
         by-count true z = simp (conjunctionFault, e, f, g, z)
         by-count false z =
-            let few : getD t p 0 ≤ mostConjuncts = ltb-false mostConjuncts (getD t p 0) (or-right (eqb (getD t p 0) 0) (ltb mostConjuncts (getD t p 0)) z) in
+            let few : getD t p 0 ≤ mostConjuncts = ltb-false mostConjuncts (getD t p 0) z in
             let l : w * getD t p 0 ≤ 2 * 16 = mul-le-mul narrow few in
             let more : partsFault w n (getD t p 0) 0 s (p + 1) ≡ partsFault w n (getD t p 0) 0 t (p + 1) = parts-alike w n (getD t p 0) 0 (p + 1) (omega arith) in
             simp (conjunctionFault, e, f, g, z, more)

@@ -1,14 +1,13 @@
 -- What holds of an axiom that meets no refusal.
 --   Sound w n m least s q    the axiom at place q of s lies in the file, and its numbers are in range
-use mathlib.Core.Path.{_≡_, refl, sym, ap, _∙_}
-use mathlib.Core.Bool.{Bool, true, false, _||_, true≢false, false≢true}
-use mathlib.Core.Logic.{_⊎_, inl, inr}
+use mathlib.Core.Path.{_≡_, refl}
+use mathlib.Core.Bool.{Bool, true, false}
 use mathlib.Core.List.{List}
 use Prim.Native.Nat.{ℕ, zero, suc, _+_, _*_, _≤_, _<_}
 use native.Mathlib.Omega.{arith}
 use native.Mathlib.Nat.{mul-le-mul}
-use borrow.Author.Tests.{ltb-false, leb-false, eqb-false}
-use lib.Dec.{eqb, ltb, leb}
+use borrow.Author.Tests.{ltb-false, leb-false}
+use lib.Dec.{ltb, leb}
 use lib.ListN.{length, getD}
 use Rattle.el.specs.Lists.{pick}
 use Rattle.release.specs.Files.{number, mostConjuncts, partsFault, conjunctionFault, restrictionFault, tailFault, axiomFault, tailLength, joins, restricts, isFiller}
@@ -38,22 +37,15 @@ parts-sound w n (suc k) least s p l h =
     by-place (suc i) j x f = let e : p + w * suc i ≡ p + w + w * i = omega arith in rw e (f i (omega arith))
 
 pub record Joined (w n : ℕ) (s : List ℕ) (p : ℕ) : Type 0 where
-  pub some : 1 ≤ getD s p 0
   pub few : getD s p 0 ≤ mostConjuncts
   pub parts : Parts w n (getD s p 0) s (p + 1)
-
-or-false : (a b : Bool) → a || b ≡ false → (a ≡ false) × (b ≡ false)
-or-false true b h = absurd (true≢false h)
-or-false false b h = (refl, h)
 
 conjunction-sound : (w n : ℕ) (s : List ℕ) (p : ℕ) → conjunctionFault w n s p ≡ 0 → Joined w n s p
 unfolding conjunctionFault
 conjunction-sound w n s p h =
     let a = passed (ltb (length s) (p + 1)) 6 _ h in
-    let b = passed (eqb (getD s p 0) 0 || ltb mostConjuncts (getD s p 0)) 11 _ (a .1) in
-    let c = or-false (eqb (getD s p 0) 0) _ (b .0) in
-    let z = eqb-false (getD s p 0) 0 (c .0) in
-    record { some = omega arith; few = ltb-false mostConjuncts (getD s p 0) (c .1); parts = parts-sound w n (getD s p 0) 0 s (p + 1) (ltb-false (length s) (p + 1) (a .0)) (b .1) }
+    let b = passed (ltb mostConjuncts (getD s p 0)) 11 _ (a .1) in
+    record { few = ltb-false mostConjuncts (getD s p 0) (b .0); parts = parts-sound w n (getD s p 0) 0 s (p + 1) (ltb-false (length s) (p + 1) (a .0)) (b .1) }
 
 pub record Restricted (w n m : ℕ) (s : List ℕ) (p : ℕ) : Type 0 where
   pub within : p + 1 + w ≤ length s

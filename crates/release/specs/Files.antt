@@ -86,9 +86,9 @@ unfoldable pub partsFault : ℕ → ℕ → ℕ → ℕ → List ℕ → ℕ →
 partsFault w n zero least s p = 0
 partsFault w n (suc k) least s p = pick (ends w s p) 7 (pick (leb n (number w s p)) 9 (pick (ltb (number w s p) least) 13 (partsFault w n k (suc (number w s p)) s (p + w))))
 
--- the tail of kinds 1 and 2: k, a byte (7, 12), then k names
+-- the tail of kinds 1 and 2: k, a byte (7, 12), then k names; k may be 0, and the conjunction is ⊤
 unfoldable pub conjunctionFault : ℕ → ℕ → List ℕ → ℕ → ℕ
-conjunctionFault w n s p = pick (ends 1 s p) 7 (pick (eqb (getD s p 0) 0 || ltb mostConjuncts (getD s p 0)) 12 (partsFault w n (getD s p 0) 0 s (p + 1)))
+conjunctionFault w n s p = pick (ends 1 s p) 7 (pick (ltb mostConjuncts (getD s p 0)) 12 (partsFault w n (getD s p 0) 0 s (p + 1)))
 
 -- the tail of kinds 3 and 4: a role, a byte (7, 11), and a filler (7, 9)
 abbrev pub isFiller : ℕ → ℕ → ℕ → Bool

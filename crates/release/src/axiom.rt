@@ -76,9 +76,6 @@ fn read_conjunction(
         return Reading::Refused(7);
     }
     let count = wide(file[tail]);
-    if count == 0 {
-        return Reading::Refused(12);
-    }
     if Release::CONJUNCTS < count {
         return Reading::Refused(12);
     }

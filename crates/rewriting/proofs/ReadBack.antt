@@ -63,18 +63,14 @@ module _ (v w n : ℕ) (s t : List ℕ) (width : IsWidth w) (few : n ≤ mostNam
     count : getD t q 0 ≡ getD s p 0
     same : numbers w (getD t q 0) t (q + 1) ≡ numbers v (getD s p 0) s (p + 1)
 
-  or-false : (a b : Bool) → a || b ≡ false → b ≡ false
-  or-false true b h = let z : true ≡ false = h in cc
-  or-false false b h = h
-
   conjunction-back : (p q : ℕ) → conjunctionFault v n s p ≡ 0 → At t q (tailBytes w (conjunction (numbers v (getD s p 0) s (p + 1)))) → Conjoined p q
   unfolding conjunctionFault tailBytes
   conjunction-back p q h a =
       let k = getD s p 0 in
       let names = numbers v k s (p + 1) in
       let e1 = passed (ends 1 s p) 6 _ h in
-      let e2 = passed (eqb k 0 || ltb mostConjuncts k) 11 _ (e1 .1) in
-      let small : k ≤ 16 = ltb-false mostConjuncts k (or-false (eqb k 0) (ltb mostConjuncts k) (e2 .0)) in
+      let e2 = passed (ltb mostConjuncts k) 11 _ (e1 .1) in
+      let small : k ≤ 16 = ltb-false mostConjuncts k (e2 .0) in
       let l : length names ≡ k = numbers-length v k s (p + 1) in
       let here : At t q (numberBytes 1 (length names)) = at-number 1 (length names) (namesBytes w names) a in
       let count : getD t q 0 ≡ k = byte-back (length names) (omega arith) here ∙ l in
