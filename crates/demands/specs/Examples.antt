@@ -1,4 +1,5 @@
--- The worked examples P1 to P10, some of them in both versions of the file, in one table: files, signatures and concepts as bytes, with what is to come out.
+-- The worked examples P1 to P10, some of them in both versions of the file, and examples of our own of names that mean everything, in
+-- one table: files, signatures and concepts as bytes, with what is to come out.
 --   Holds e        the input of the example e is accepted, and its outcome is the one written
 --   examples       the table
 --   passes e       the same tested, by the answers that crate el computes
@@ -73,6 +74,20 @@ endless-2 = 0x45 ∷ 0x4C ∷ 0x54 ∷ 1 ∷ 0 ∷ 2 ∷ 2 ∷ 2 ∷ 0 ∷ 3 ∷
 abbrev anything : List ℕ
 anything = 0x45 ∷ 0x4C ∷ 0x54 ∷ 1 ∷ 0 ∷ 1 ∷ 1 ∷ 1 ∷ 0 ∷ 4 ∷ 0 ∷ 255 ∷ []
 
+-- A ≡ ⊤; no axiom
+abbrev any-entry : List ℕ
+any-entry = 0x45 ∷ 0x4C ∷ 0x54 ∷ 1 ∷ 0 ∷ 2 ∷ 0 ∷ 1 ∷ 0 ∷ 2 ∷ 0 ∷ []
+
+abbrev no-axiom : List ℕ
+no-axiom = 0x45 ∷ 0x4C ∷ 0x54 ∷ 1 ∷ 0 ∷ 2 ∷ 0 ∷ 0 ∷ []
+
+-- A ≡ ∃r.T, T ≡ ⊤; A ≡ ∃r.⊤
+abbrev named-filler : List ℕ
+named-filler = 0x45 ∷ 0x4C ∷ 0x54 ∷ 1 ∷ 0 ∷ 2 ∷ 1 ∷ 2 ∷ 0 ∷ 4 ∷ 0 ∷ 1 ∷ 1 ∷ 2 ∷ 0 ∷ []
+
+abbrev top-filler : List ℕ
+top-filler = 0x45 ∷ 0x4C ∷ 0x54 ∷ 1 ∷ 0 ∷ 2 ∷ 1 ∷ 1 ∷ 0 ∷ 4 ∷ 0 ∷ 255 ∷ []
+
 abbrev pub examples : List Example
 examples =
     -- P1, P2
@@ -100,6 +115,13 @@ examples =
     -- P10: ∃r.A ⊑ A, A ⊑ ∃r.A
     ∷ asked anything (3 ∷ 0 ∷ 1 ∷ 0 ∷ []) (1 ∷ 0 ∷ []) 1
     ∷ asked anything (1 ∷ 0 ∷ []) (3 ∷ 0 ∷ 1 ∷ 0 ∷ []) 0
+    -- our own: a name that means everything against one left undefined, each order; ⊤ lies below it
+    ∷ compared any-entry no-axiom (1 ∷ 1 ∷ []) (2 ∷ 1 ∷ [])
+    ∷ compared no-axiom any-entry (1 ∷ 1 ∷ []) (0 ∷ 0 ∷ [])
+    ∷ asked any-entry (0 ∷ []) (1 ∷ 0 ∷ []) 1
+    -- our own: such a name as a filler, each order
+    ∷ compared named-filler top-filler (1 ∷ 0 ∷ 1 ∷ []) (0 ∷ 0 ∷ [])
+    ∷ compared top-filler named-filler (1 ∷ 0 ∷ 1 ∷ []) (0 ∷ 0 ∷ [])
     ∷ []
 
 -- the tests
