@@ -1,5 +1,5 @@
 """What checking a release file, showing an axiom, rewriting a release and building a signature answer by document 01
-and request 1: written apart from the library, to confirm the tables refusals.txt, shows.txt, rewrites.txt and
+and requests 1 and 4: written apart from the library, to confirm the tables refusals.txt, shows.txt, rewrites.txt and
 signatures.txt."""
 from typing import NamedTuple
 
@@ -73,7 +73,7 @@ def axiom(reader, n, m, before):
     kind = reader.byte(8, lambda x: x in KINDS_WITH_NAMES + KINDS_WITH_ROLE)
     conjuncts = []
     if kind in KINDS_WITH_NAMES:
-        for _ in range(reader.byte(12, lambda x: 1 <= x <= 16)):
+        for _ in range(reader.byte(12, lambda x: x <= 16)):
             name = reader.name(9, lambda x: x < n)
             if conjuncts and name <= conjuncts[-1]:
                 raise Refused(13)

@@ -7,7 +7,7 @@ use crate::verdict::What;
 const MARK: u8 = 165;
 
 // How much memory a case can lend.
-pub const ROOM: usize = 348160;
+pub const ROOM: usize = 360448;
 
 pub fn mark(memory: &mut [u8]) {
     let mut i: usize = 0;
