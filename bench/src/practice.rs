@@ -32,6 +32,7 @@ pub struct Form {
     pub names: usize,
     pub roles: usize,
     pub weights: [usize; 5],
+    pub fewest_parts: usize,
     pub most_parts: usize,
     /// How many names get another axiom in the second release.
     pub changes: usize,
@@ -79,7 +80,7 @@ const fn form(
     changes: usize,
     chosen: usize,
 ) -> Form {
-    Form { name, names, roles, weights, most_parts, changes, chosen }
+    Form { name, names, roles, weights, fewest_parts: 1, most_parts, changes, chosen }
 }
 
 /// How many inputs of each form.
@@ -141,6 +142,7 @@ pub fn small_form(draws: &mut Draws) -> Form {
         names: 1 + draws.below(9),
         roles: 1 + draws.below(3),
         weights: [1, draws.below(3), draws.below(4), draws.below(4), draws.below(5)],
+        fewest_parts: 0,
         most_parts: 1 + draws.below(3),
         changes: 1 + draws.below(3),
         chosen: 30 + draws.below(71),
@@ -183,8 +185,8 @@ pub fn concept(version: Version, names: usize, roles: usize, depth: usize, draws
 fn axiom(form: &Form, kind: usize, pool: &[u16], draws: &mut Draws) -> Axiom {
     match kind {
         1 | 2 if !pool.is_empty() => {
-            let mut parts: Vec<u16> =
-                (0..1 + draws.below(form.most_parts)).map(|_| pool[draws.below(pool.len())]).collect();
+            let count = form.fewest_parts + draws.below(form.most_parts - form.fewest_parts + 1);
+            let mut parts: Vec<u16> = (0..count).map(|_| pool[draws.below(pool.len())]).collect();
             parts.sort();
             parts.dedup();
             Axiom::Conjunction { equal: kind == 2, parts }

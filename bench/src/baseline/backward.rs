@@ -51,10 +51,11 @@ impl<'a, const W: usize> Backward<'a, W> {
         }
     }
 
-    /// ⊤ has every concept below it; a name has below it the signature names below it.
+    /// ⊤ has every concept below it, as has a name that means everything; another has the signature names below it.
     fn start(&mut self, first: &Side<W>, second: &Side<W>) {
-        let everything = self.first.names;
-        self.add(everything, &Fresh::of(self.plain));
+        for everything in self.first.everything.members().chain([self.first.names]) {
+            self.add(everything, &Fresh::of(self.plain));
+        }
         for x in 0..self.first.names {
             let below = first.order.below[x] & self.chosen.names;
             if self.first.kind(x) != Kind::Conjunction && !below.is_empty() {

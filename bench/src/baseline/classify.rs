@@ -33,7 +33,9 @@ impl<'a, const W: usize> Classification<'a, W> {
         for name in 0..release.names {
             agenda.add(name, &Fresh::of(Bits::one(name)));
         }
-        agenda.add(release.names, &Fresh::of(release.nodes()));
+        for everything in release.everything.members().chain([release.names]) {
+            agenda.add(everything, &Fresh::of(release.nodes()));
+        }
         Classification { release, agenda, above_some: Rows::empty() }
     }
 

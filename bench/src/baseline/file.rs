@@ -120,6 +120,8 @@ pub struct Release<const W: usize> {
     pub parts: Relation<W>,
     /// The names defined as a conjunction.
     pub conjunctions: Bits<W>,
+    /// Those without a conjunct: each means everything.
+    pub everything: Bits<W>,
     /// The names defined as a conjunction in which a name is a part.
     pub conjunctions_with: Relation<W>,
     /// The names with ∃, by role and by filler.
@@ -146,6 +148,7 @@ impl<const W: usize> Release<W> {
             axiom: vec![Axiom { kind: Kind::None, role: 0, filler: 0 }; nodes],
             parts: Relation::empty(nodes),
             conjunctions: Bits::EMPTY,
+            everything: Bits::EMPTY,
             conjunctions_with: Relation::empty(nodes),
             with_role: [Bits::EMPTY; MOST_ROLES],
             with_filler: Relation::empty(nodes),
@@ -182,6 +185,9 @@ impl<const W: usize> Release<W> {
         self.axiom[name].kind = if equal { Kind::Conjunction } else { Kind::Below };
         if equal {
             self.conjunctions.insert(name);
+            if self.parts.row(name).is_empty() {
+                self.everything.insert(name);
+            }
         }
     }
 
@@ -239,7 +245,7 @@ impl Reader<'_> {
         let kind = self.byte(8, |kind| (1..=4).contains(&kind))?;
         let equal = kind % 2 == 0;
         if kind <= 2 {
-            let count = self.byte(12, |count| (1..=MOST_PARTS).contains(&count))?;
+            let count = self.byte(12, |count| count <= MOST_PARTS)?;
             let mut before = None;
             for _ in 0..count {
                 let part = self.rising_name(names, before, 13)?;
