@@ -1,4 +1,4 @@
--- P1 to P10: tested all at once by computing, and so true of the definitions.
+-- P1 to P10 and the examples of our own: tested all at once by computing, and so true of the definitions.
 use mathlib.Core.Path.{_≡_, refl, ap₂}
 use mathlib.Core.Bool.{true, false≢true}
 use mathlib.Core.List.{List, [], _∷_}
@@ -53,6 +53,6 @@ all-pass : all passes examples ≡ true
 unfolding number numbers widthOf namesOf rolesOf countOf fault headerFault partsFault conjunctionFault restrictionFault tailFault axiomFault axiomAt axiomsFault axiomsFrom conjunctDefined signatureFault conceptOk
 all-pass = refl
 
--- P1 to P10
+-- the whole table
 pub examples-hold : Every examples Holds
 examples-hold = record { at = λ e i. passes-holds e (tells-all passes examples (λ e _. tells-true (passes e)) .sound all-pass .at e i) }
