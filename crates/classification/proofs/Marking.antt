@@ -47,6 +47,9 @@ module _ {s t : List ℕ} {q : Square} where
   pub source-stays : {w v : List ℕ} {x b : ℕ} → Grows (Step s t q) q w v → Source s t q w x b → Source s t q v x b
   source-stays g h = record { in-row = record { setting = setting-stays g (h .in-row .setting); row = h .in-row .row; name = h .in-row .name }; marked = marks-stay g (h .marked) }
 
+  pub in-top-row : {w : List ℕ} {b : ℕ} → Setting s t q w → b < q .names → InRow s t q w (q .names) b
+  in-top-row h l = record { setting = h; row = omega arith; name = l }
+
 module _ {s t : List ℕ} {q : Square} {w : List ℕ} {x b : ℕ} (h : InRow s t q w x b) where
   pub name-row : HasRow t b
   name-row = shaped-row (h .setting .shaped) (h .name)

@@ -5,11 +5,13 @@ ghost use Rattle.marks.specs.Passes.{Grows};
 ghost use Rattle.classification.specs.Steps.{Step, Setting};
 use crate::consequences::deal;
 use crate::hints::Hints;
+use crate::rules::gathers;
 use crate::rules::mark_parts;
 use crate::rules::seed;
 use marks::Square;
 use marks::hints;
 use marks::is_marked;
+use marks::mark;
 use marks::order;
 use marks::order::Order;
 use marks::rows::hand_on;
@@ -41,6 +43,21 @@ fn start(file: &[u8], table: &[u16], work: &mut [u8], square: Square)
         let x = next;
         next += 1;
         start_row(file, table, work, square, x);
+    }
+}
+
+// In the row of ⊤ the names that mean everything: the conjunctions of no names.
+fn start_top(file: &[u8], table: &[u16], work: &mut [u8], square: Square)
+    requires { ⌜ Setting (now file) (now table) square (now work) ⌝ }
+    ensures { λ _. ⌜ Grows (Step (now (file .entry)) (now (table .entry)) square) square (now (work .entry)) (now (work .exit)) ⌝ }
+{
+    let mut next = 0;
+    while next < square.names {
+        let y = next;
+        next += 1;
+        if gathers(file, table, work, square, square.names, y) {
+            mark(work, square, square.names, y);
+        }
     }
 }
 
@@ -85,7 +102,8 @@ fn hand_on_rows(
     }
 }
 
-// Marks what follows by conjuncts alone, and writes an order in which each node comes after what it lies below by them.
+// Marks what follows by conjuncts alone, the names that mean everything in each row, and writes an order in which each node comes after
+// what it lies below by them.
 pub fn begin(
     file: &[u8],
     table: &[u16],
@@ -98,8 +116,10 @@ pub fn begin(
 {
     let before = [Order::NONE; Order::NODES];
     start(file, table, work, square);
+    start_top(file, table, work, square);
     order::sort(work, square, &before, order);
     hand_on_rows(file, table, work, square, order);
+    hand_on_row(file, table, work, square, square.names);
 }
 
 // Deals with the rows that are not as they were seen, and with those that get marks by that, until none waits.

@@ -29,7 +29,7 @@ loop-holds : tie.Need-loop-holds Inv-loop μ-loop
 loop-holds c = (search needs, refl, turns-none)
 
 gather-requires : tie.Need-gather-requires Inv-loop μ-loop
-gather-requires c κs = (record { setting = setting-stays (c .before .before .before .loop .inv .2 .grows) (c .before .before .before .before .before .before .before .before .pre .0); row = c .before .if1 .taken; name = c .before .before .before .before .before .before .before .before .pre .1 .0 }, record { kind = c .before .before .before .before .before .before .before .before .pre .1 .1; count = c .before .before .before .before .count .ensures })
+gather-requires c κs = (record { setting = setting-stays (c .before .before .before .loop .inv .2 .grows) (c .before .before .before .before .before .before .before .before .pre .0); row = omega (arith, c .before .if1 .taken); name = c .before .before .before .before .before .before .before .before .pre .1 .0 }, record { kind = c .before .before .before .before .before .before .before .before .pre .1 .1; count = c .before .before .before .before .count .ensures })
 
 add-x : tie.Need-add-x Inv-loop μ-loop
 add-x c = omega (arith, c .before .before .before .before .if1 .taken, c .before .before .before .before .before .before .before .before .before .before .before .pre .0 .few)
