@@ -33,11 +33,7 @@ pub fn baseline_branches(
         if answer != 0 {
             return answer;
         }
-        let count = |test: fn(u8) -> bool| result.iter().filter(|&&byte| test(byte)).count() as u32;
-        row.chosen = signature[..names].iter().filter(|&&byte| byte == 1).count() as u32;
-        row.left = count(|byte| byte & 1 == 1);
-        row.right = count(|byte| byte & 2 == 2);
-        row.share = (count(|byte| byte != 0) * 1000).checked_div(row.chosen).unwrap_or(0);
+        *row = ours::Row::of(signature, &result);
     }
     0
 }

@@ -7,6 +7,8 @@
 //!     bench agree COUNT [--wide]      both on so many random inputs, whole and damaged, short of memory at times
 //!     bench repeat BY INPUT COUNT FOLDER
 //!                                     one input, COUNT times, by `ours` or `baseline`: for counting instructions
+//!     bench repeat sheet INPUT COUNT FOLDER
+//!                                     a sheet of it, COUNT times
 //!
 //! With --wide the inputs have files of version 2: those of FOLDER/1023, questions with 1,023 names, random ones. Without
 //! it none has, so that a library that refuses version 2 can be measured.
@@ -56,7 +58,7 @@ fn main() -> ExitCode {
 
 fn usage() -> bool {
     eprintln!("bench vectors FOLDER | compare FOLDER [--wide] | sheet FOLDER [--wide] | question [all] [--wide] | agree COUNT [--wide]");
-    eprintln!("bench repeat ours|baseline INPUT COUNT FOLDER");
+    eprintln!("bench repeat ours|baseline|sheet INPUT COUNT FOLDER");
     false
 }
 
@@ -113,13 +115,14 @@ fn concepts_of(row: &Measured) -> &str {
 }
 
 fn repeat(by: &str, name: &str, count: &str, folder: &Path) -> bool {
+    let (Ok(count), Some(input)) = (count.parse::<usize>(), find(name, folder)) else {
+        return usage();
+    };
     let by = match by {
         "ours" => Implementation::Ours,
         "baseline" => Implementation::Baseline,
+        "sheet" => return sheet::repeat(&input, count),
         _ => return usage(),
-    };
-    let (Ok(count), Some(input)) = (count.parse::<usize>(), find(name, folder)) else {
-        return usage();
     };
     let mut buffers = Buffers::for_names(input.call.names());
     for _ in 0..count {

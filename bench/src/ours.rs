@@ -3,10 +3,8 @@
 //!
 //! Without the feature `ours` the baseline stands in, so that the measuring itself can be tried.
 
-/// A comparison: number * 256 + side, 0 for accepted.
-pub fn compare(first: &[u8], second: &[u8], signature: &[u8], result: &mut [u8], work: &mut [u8]) -> u32 {
-    linked::compare(first, second, signature, result, work)
-}
+/// A comparison and a sheet: number * 256 + side, 0 for accepted. A question: number * 65536 + side * 256 + value.
+pub use linked::{ask, compare, compare_branches};
 
 /// The row of a branch.
 #[repr(C)]
@@ -18,21 +16,19 @@ pub struct Row {
     pub share: u32,
 }
 
-/// A sheet: number * 256 + side, 0 for accepted.
-pub fn compare_branches(
-    first: &[u8],
-    second: &[u8],
-    signatures: &[u8],
-    count: usize,
-    work: &mut [u8],
-    rows: &mut [Row],
-) -> u32 {
-    linked::compare_branches(first, second, signatures, count, work, rows)
-}
-
-/// A question: number * 65536 + side * 256 + value.
-pub fn ask(file: &[u8], below: &[u8], above: &[u8], work: &mut [u8]) -> u32 {
-    linked::ask(file, below, above, work)
+impl Row {
+    /// The row of a comparison over the signature, with its byte for each name.
+    pub fn of(signature: &[u8], result: &[u8]) -> Row {
+        let count = |test: fn(u8) -> bool| result.iter().filter(|&&byte| test(byte)).count() as u32;
+        let chosen = signature.iter().take(result.len()).filter(|&&byte| byte == 1).count() as u32;
+        let reported = count(|byte| byte != 0);
+        Row {
+            chosen,
+            left: count(|byte| byte & 1 == 1),
+            right: count(|byte| byte & 2 == 2),
+            share: (reported * 1000).checked_div(chosen).unwrap_or(0),
+        }
+    }
 }
 
 #[cfg(feature = "ours")]

@@ -58,16 +58,7 @@ impl Sheet<'_> {
     /// The row that a single comparison tells.
     fn single(&self, signature: &[u8], buffers: &mut Buffers) -> Row {
         assert_eq!(self.compare(signature, buffers), 0, "a comparison that is refused");
-        let result = &buffers.result[..self.names];
-        let count = |test: fn(u8) -> bool| result.iter().filter(|&&byte| test(byte)).count() as u32;
-        let chosen = signature[..self.names].iter().filter(|&&byte| byte == 1).count() as u32;
-        let reported = count(|byte| byte != 0);
-        Row {
-            chosen,
-            left: count(|byte| byte & 1 == 1),
-            right: count(|byte| byte & 2 == 2),
-            share: (reported * 1000).checked_div(chosen).unwrap_or(0),
-        }
+        Row::of(signature, &buffers.result[..self.names])
     }
 
     fn agrees(&self) -> bool {
@@ -143,4 +134,16 @@ pub fn table(inputs: &[Input]) -> bool {
     }
     println!("worst ratio {worst:.2}");
     all_agree
+}
+
+/// A sheet of the input, `count` times: for counting instructions. Whether the input is a comparison.
+pub fn repeat(input: &Input, count: usize) -> bool {
+    let Some(sheet) = Sheet::of(input) else {
+        return false;
+    };
+    let mut buffers = Buffers::for_names(sheet.names);
+    for _ in 0..count {
+        black_box(sheet.rows(BRANCHES, &mut buffers));
+    }
+    true
 }
