@@ -73,7 +73,8 @@ fn turn_row(work: &mut [u8], square: Square, k: usize, x: usize)
     }
 }
 
-// Puts into the line what is new in row x since it was seen, and sees it. How many bytes have something new.
+// Puts into the line what is new in row x since it was seen, and sees it. How many bytes have something new: counted in a byte, so that
+// the machine can count many at a time.
 fn see_behind(
     work: &mut [u8],
     square: Square,
@@ -87,7 +88,7 @@ fn see_behind(
 {
     let source = place(square, x, 0);
     let target = place(seen, x, 0);
-    let mut count = 0;
+    let mut count: u8 = 0;
     let mut i = 0;
     while i <= seen.names / 8 {
         let byte = work[source + i];
@@ -100,7 +101,7 @@ fn see_behind(
             count += 1;
         }
     }
-    count
+    count as usize
 }
 
 // Sees row x.
