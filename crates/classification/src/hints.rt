@@ -7,7 +7,9 @@ ghost use Rattle.release.specs.Files.{joins, restricts};
 ghost use Rattle.release.specs.Tables.{kindAt, Shaped};
 ghost use Rattle.marks.specs.Squares.{Area, Kept};
 use marks::Square;
+use marks::hints::next;
 use marks::hints::put;
+use marks::hints::turn;
 use release::table;
 
 // Which of the four squares behind the rows holds what; the first is for what was seen of a row.
@@ -60,5 +62,15 @@ pub fn list(file: &[u8], table: &[u16], work: &mut [u8], square: Square)
         } else if table::kind(table, b) == 2 {
             list_conjunction(file, table, work, square, b);
         }
+    }
+}
+
+// Notes for each node what lies below it, unless it is noted: ⊤ has something below it then.
+pub fn list_below(work: &mut [u8], square: Square)
+    requires { ⌜ Area square (now work) ⌝ }
+    ensures { λ _. ⌜ Kept square (now (work .entry)) (now (work .exit)) ⌝ }
+{
+    if square.names < next(work, square, Hints::BELOW, square.names, 0) {
+        turn(work, square, Hints::BELOW);
     }
 }

@@ -4,7 +4,7 @@ ghost use Prim.Native.Nat.{_≤_};
 ghost use Rattle.marks.specs.Passes.{Grows};
 ghost use Rattle.classification.specs.Steps.{Step, Setting};
 use crate::consequences::deal;
-use crate::hints::Hints;
+use crate::hints::list_below;
 use crate::rules::gathers;
 use crate::rules::mark_parts;
 use crate::rules::seed;
@@ -47,18 +47,21 @@ fn start(file: &[u8], table: &[u16], work: &mut [u8], square: Square)
 }
 
 // In the row of ⊤ the names that mean everything: the conjunctions of no names.
-fn start_top(file: &[u8], table: &[u16], work: &mut [u8], square: Square)
+fn start_top(file: &[u8], table: &[u16], work: &mut [u8], square: Square) -> bool
     requires { ⌜ Setting (now file) (now table) square (now work) ⌝ }
     ensures { λ _. ⌜ Grows (Step (now (file .entry)) (now (table .entry)) square) square (now (work .entry)) (now (work .exit)) ⌝ }
 {
+    let mut some = false;
     let mut next = 0;
     while next < square.names {
         let y = next;
         next += 1;
         if gathers(file, table, work, square, square.names, y) {
             mark(work, square, square.names, y);
+            some = true;
         }
     }
+    some
 }
 
 // Hands the row of a node on to each row that it is marked in.
@@ -116,10 +119,12 @@ pub fn begin(
 {
     let before = [Order::NONE; Order::NODES];
     start(file, table, work, square);
-    start_top(file, table, work, square);
+    let some = start_top(file, table, work, square);
     order::sort(work, square, &before, order);
     hand_on_rows(file, table, work, square, order);
-    hand_on_row(file, table, work, square, square.names);
+    if some {
+        hand_on_row(file, table, work, square, square.names);
+    }
 }
 
 // Deals with the rows that are not as they were seen, and with those that get marks by that, until none waits.
@@ -133,7 +138,7 @@ pub fn propagate(
     requires { ⌜ Setting (now file) (now table) square (now work) ⌝ }
     ensures { λ _. ⌜ Grows (Step (now (file .entry)) (now (table .entry)) square) square (now (work .entry)) (now (work .exit)) ⌝ }
 {
-    hints::turn(work, square, Hints::BELOW);
+    list_below(work, square);
     hints::wait_for_new(work, square, waiting);
     let mut left = Waiting::TURNS;
     while 0 < left {

@@ -4,9 +4,8 @@ ghost use Rattle.release.specs.Files.{mostNames};
 ghost use lib.ListN.{length};
 ghost use Rattle.comparison.specs.Compared.{IsSize, SecondTurned, BothGiven, BothIncluded, Prepared};
 use classification::classify;
-use classification::hints::Hints;
+use classification::hints::list_below;
 use marks::Square;
-use marks::hints;
 use marks::turned::turn;
 
 // Fills the first two of four squares of `size` cells, one after the other: the inclusions of the first release, and those of the
@@ -43,13 +42,12 @@ fn fill_inclusions(
             names: names,
         },
     );
-    hints::turn(
+    list_below(
         work,
         Square {
             base: 0,
             names: names,
         },
-        Hints::BELOW,
     );
 }
 

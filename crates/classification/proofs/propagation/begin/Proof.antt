@@ -25,13 +25,19 @@ hand-on-rows-requires : tie.Need-hand-on-rows-requires
 hand-on-rows-requires c κs = setting-stays (grows-further (c .before .before .before .before .before .before .before .before .before .before .before .before .start .ensures) (c .before .before .before .before .before .before .before .before .start-top .ensures)) (c .before .before .before .before .before .before .before .before .before .before .before .before .before .before .before .before .before .pre)
 
 hand-on-row-requires : tie.Need-hand-on-row-requires
-hand-on-row-requires c κs = (setting-stays (grows-further (grows-further (c .before .before .before .before .before .before .before .before .before .before .before .before .before .before .before .before .start .ensures) (c .before .before .before .before .before .before .before .before .before .before .before .before .start-top .ensures)) (c .before .before .before .hand-on-rows .ensures)) (c .before .before .before .before .before .before .before .before .before .before .before .before .before .before .before .before .before .before .before .before .before .pre), omega arith)
+hand-on-row-requires c κs = (setting-stays (grows-further (grows-further (c .before .before .before .before .before .before .before .before .before .before .before .before .before .before .before .before .before .start .ensures) (c .before .before .before .before .before .before .before .before .before .before .before .before .before .start-top .ensures)) (c .before .before .before .before .hand-on-rows .ensures)) (c .before .before .before .before .before .before .before .before .before .before .before .before .before .before .before .before .before .before .before .before .before .before .pre), omega arith)
 
 same-length : tie.Need-same-length
 same-length c = search needs
 
 returns : tie.Need-returns
-returns c = grows-further (grows-further (grows-further (c .before .before .before .before .before .before .before .before .before .before .before .before .before .before .before .before .before .before .before .start .ensures) (c .before .before .before .before .before .before .before .before .before .before .before .before .before .before .before .start-top .ensures)) (c .before .before .before .before .before .before .hand-on-rows .ensures)) (c .before .before .hand-on-row .ensures)
+returns c = grows-further (grows-further (grows-further (c .before .before .before .before .before .before .before .before .before .before .before .before .before .before .before .before .before .before .before .before .start .ensures) (c .before .before .before .before .before .before .before .before .before .before .before .before .before .before .before .before .start-top .ensures)) (c .before .before .before .before .before .before .before .hand-on-rows .ensures)) (c .before .before .hand-on-row .ensures)
+
+same-length-2 : tie.Need-same-length-2
+same-length-2 c = search needs
+
+returns-2 : tie.Need-returns-2
+returns-2 c = grows-further (grows-further (c .before .before .before .before .before .before .before .before .before .before .before .before .before .before .before .before .start .ensures) (c .before .before .before .before .before .before .before .before .before .before .before .before .start-top .ensures)) (c .before .before .before .hand-on-rows .ensures)
 
 pub begin-spec : {M : Type 1} → statement M
 begin-spec =
@@ -43,4 +49,6 @@ begin-spec =
     hand-on-rows-requires
     hand-on-row-requires
     same-length
-    returns)
+    returns
+    same-length-2
+    returns-2)

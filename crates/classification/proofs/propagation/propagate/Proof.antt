@@ -12,7 +12,7 @@ use Rattle.classification.proofs.propagation.propagate.Tie as tie
 use Rattle.classification.proofs.propagation.propagate.Reads as reads
 use Rattle.classification.proofs.propagation.propagate.Lts as lts
 use Rattle.classification.proofs.consequences.deal.Reads as deal-reads
-use Rattle.marks.proofs.hints.turn.Reads as turn-reads
+use Rattle.classification.proofs.hints.list_below.Reads as list-below-reads
 use Rattle.marks.proofs.hints.wait_for_new.Reads as wait-for-new-reads
 use Rattle.marks.proofs.waiting.take.Reads as take-reads
 
@@ -22,53 +22,41 @@ Inv-loop file table work₀ waiting₀ square left₀ work waiting left = (lengt
 abbrev μ-loop : tie.MeasureT-loop
 μ-loop file table work₀ waiting₀ square left₀ work waiting left = left
 
--- src/propagation.rt:116:5
-turn-requires : tie.Need-turn-requires Inv-loop μ-loop
-turn-requires c κs = (c .before .before .before .before .pre .area, (omega arith, omega arith))
+list-below-requires : tie.Need-list-below-requires Inv-loop μ-loop
+list-below-requires c κs = c .before .before .before .before .pre .area
 
--- src/propagation.rt:117:5
 wait-for-new-requires : tie.Need-wait-for-new-requires Inv-loop μ-loop
-wait-for-new-requires c κs = frame-area (c .before .before .before .before .turn .ensures .extends .frame) (c .before .before .before .before .before .before .before .before .before .pre .area)
+wait-for-new-requires c κs = frame-area (c .before .before .before .before .list-below .ensures .extends .frame) (c .before .before .before .before .before .before .before .before .before .pre .area)
 
--- src/propagation.rt:119:5
 loop-holds : tie.Need-loop-holds Inv-loop μ-loop
 loop-holds c = (refl, none)
 
--- src/propagation.rt:120:9
 sub-left : tie.Need-sub-left Inv-loop μ-loop
 sub-left c = search needs
 
--- src/propagation.rt:121:13
 take-requires : tie.Need-take-requires Inv-loop μ-loop
 take-requires c κs = search needs
 
--- src/propagation.rt:123:13
 same-length : tie.Need-same-length Inv-loop μ-loop
 same-length c = search needs
 
--- src/propagation.rt:123:13
 returns : tie.Need-returns Inv-loop μ-loop
-returns c = grows-further (kept-grows (c .before .before .before .before .before .before .before .before .before .before .before .turn .ensures)) (c .before .before .before .before .before .loop .inv .1)
+returns c = grows-further (kept-grows (c .before .before .before .before .before .before .before .before .before .before .before .list-below .ensures)) (c .before .before .before .before .before .loop .inv .1)
 
--- src/propagation.rt:125:9
 deal-requires : tie.Need-deal-requires Inv-loop μ-loop
-deal-requires c κs = (setting-stays (grows-further (kept-grows (c .before .before .before .before .before .before .before .before .before .before .before .before .before .turn .ensures)) (c .before .before .before .before .before .before .before .loop .inv .1)) (c .before .before .before .before .before .before .before .before .before .before .before .before .before .before .before .before .before .before .pre), c .before .before .if1 .left)
+deal-requires c κs = (setting-stays (grows-further (kept-grows (c .before .before .before .before .before .before .before .before .before .before .before .before .before .list-below .ensures)) (c .before .before .before .before .before .before .before .loop .inv .1)) (c .before .before .before .before .before .before .before .before .before .before .before .before .before .before .before .before .before .before .pre), c .before .before .if1 .left)
 
--- src/propagation.rt:119:5
 loop-less : tie.Need-loop-less Inv-loop μ-loop
 loop-less c = search needs
 
--- src/propagation.rt:119:5
 loop-again : tie.Need-loop-again Inv-loop μ-loop
 loop-again c = (search needs, grows-further (c .before .before .before .before .before .before .before .before .before .before .loop .inv .1) (c .before .before .deal .ensures))
 
--- src/propagation.rt:106:1
 same-length-2 : tie.Need-same-length-2 Inv-loop μ-loop
 same-length-2 c = search needs
 
--- src/propagation.rt:106:1
 returns-2 : tie.Need-returns-2 Inv-loop μ-loop
-returns-2 c = grows-further (kept-grows (c .before .before .before .before .before .before .before .turn .ensures)) (c .before .loop .inv .1)
+returns-2 c = grows-further (kept-grows (c .before .before .before .before .before .before .before .list-below .ensures)) (c .before .loop .inv .1)
 
 pub propagate-spec : {M : Type 1} → statement M
 propagate-spec =
@@ -76,7 +64,7 @@ propagate-spec =
     (tie.spec
     Inv-loop
     μ-loop
-    turn-requires
+    list-below-requires
     wait-for-new-requires
     loop-holds
     sub-left

@@ -16,10 +16,10 @@ use Rattle.marks.proofs.mark.Reads as mark-reads
 
 -- marks put by the rules
 abbrev Inv-loop : tie.InvT-loop
-Inv-loop file table work₀ square next₀ work next = (next ≤ square .names) × (length work ≡ length work₀) × Grows (Step file table square) square work₀ work
+Inv-loop file table work₀ square some₀ next₀ work some next = (next ≤ square .names) × (length work ≡ length work₀) × Grows (Step file table square) square work₀ work
 
 abbrev μ-loop : tie.MeasureT-loop
-μ-loop file table work₀ square next₀ work next = square .names - next
+μ-loop file table work₀ square some₀ next₀ work some next = square .names - next
 
 loop-holds : tie.Need-loop-holds Inv-loop μ-loop
 loop-holds c = (search needs, refl, none)

@@ -6,8 +6,8 @@ use Rattle.comparison.proofs.preparation.fill_inclusions.Tie as tie
 use Rattle.comparison.proofs.preparation.fill_inclusions.Reads as reads
 use Rattle.comparison.proofs.preparation.fill_inclusions.Lts as lts
 use Rattle.classification.proofs.classify.Reads as classify-reads
+use Rattle.classification.proofs.hints.list_below.Reads as list-below-reads
 use Rattle.marks.proofs.clear.Reads as clear-reads
-use Rattle.marks.proofs.hints.turn.Reads as turn-reads
 
 mul-clear : tie.Need-mul-clear
 mul-clear c = search needs
@@ -21,14 +21,14 @@ classify-requires c κs = let p = c .before .before .before .before .before .bef
 classify-requires-2 : tie.Need-classify-requires-2
 classify-requires-2 c κs = let p = c .before .before .before .before .before .before .before .before .before .before .before .before .before .before .pre in second-asks (p .0) (p .1) (c .before .before .before .before .before .before .before .clear .ensures) (c .before .before .before .classify .ensures)
 
-turn-requires : tie.Need-turn-requires
-turn-requires c κs = let p = c .before .before .before .before .before .before .before .before .before .before .before .before .before .before .before .before .before .before .pre in (area-at (p .0) (p .1) 0 (omega arith) _ (both-included (p .0) (p .1) (c .before .before .before .before .before .before .before .before .before .before .before .clear .ensures) (c .before .before .before .before .before .before .before .classify .ensures) (c .before .before .before .classify2 .ensures) .long), (omega arith, omega arith))
+list-below-requires : tie.Need-list-below-requires
+list-below-requires c κs = let p = c .before .before .before .before .before .before .before .before .before .before .before .before .before .before .before .before .before .before .pre in area-at (p .0) (p .1) 0 (omega arith) _ (both-included (p .0) (p .1) (c .before .before .before .before .before .before .before .before .before .before .before .clear .ensures) (c .before .before .before .before .before .before .before .classify .ensures) (c .before .before .before .classify2 .ensures) .long)
 
 same-length : tie.Need-same-length
 same-length c = search needs
 
 returns : tie.Need-returns
-returns c = let p = c .before .before .before .before .before .before .before .before .before .before .before .before .before .before .before .before .before .before .before .before .before .pre in both-kept (p .1) (both-included (p .0) (p .1) (c .before .before .before .before .before .before .before .before .before .before .before .before .before .before .clear .ensures) (c .before .before .before .before .before .before .before .before .before .before .classify .ensures) (c .before .before .before .before .before .before .classify2 .ensures)) (c .before .before .turn .ensures)
+returns c = let p = c .before .before .before .before .before .before .before .before .before .before .before .before .before .before .before .before .before .before .before .before .before .pre in both-kept (p .1) (both-included (p .0) (p .1) (c .before .before .before .before .before .before .before .before .before .before .before .before .before .before .clear .ensures) (c .before .before .before .before .before .before .before .before .before .before .classify .ensures) (c .before .before .before .before .before .before .classify2 .ensures)) (c .before .before .list-below .ensures)
 
 pub fill-inclusions-spec : {M : Type 1} → statement M
 fill-inclusions-spec =
@@ -38,6 +38,6 @@ fill-inclusions-spec =
     clear-requires
     classify-requires
     classify-requires-2
-    turn-requires
+    list-below-requires
     same-length
     returns)
