@@ -158,9 +158,9 @@ no-partner-stays s grows h f p =
     f (record { it = p .it; below = p .below; holds = record { serves = record { is-restriction = q .serves .is-restriction; role = q .serves .role; free = λ m. q .serves .free (marks-stay grows m) }; second = marked-frame (grows-frame grows) (second-apart s) h (omega (arith, p .below)) (q .second) } })
 
 -- marks put where the line of an edge has nothing
-module _ {edges a b : List ℕ} {l : Layout} {w : List ℕ} (s : Setting edges a b l w) {x : ℕ} {k : List ℕ} {z r : ℕ} (edge : Edge edges l x) (end-is : z ≡ fillerAt a x) (role-is : r ≡ roleAt a x) (kept : Kept b l w z r k) where
+module _ {edges a b : List ℕ} {l : Layout} {w : List ℕ} (s : Setting edges a b l w) {x : ℕ} {k : List ℕ} (edge : Edge edges l x) (kept : Kept b l w (fillerAt a x) (roleAt a x) k) where
   edge-missing : (u : List ℕ) (c y : ℕ) → Grows (Missing k x) (markSquare l) w u → c ≤ l .names → y ≤ l .names → Missing k x u c y → Follows edges a b l u c y
-  edge-missing u c y grows c-in y-in m = from-edge (rw (m .row) (record { edge = edge; no-partner = rw (← end-is, ← role-is) (no-partner-stays (s .below (omega (arith, edge .is-name))) grows y-in (kept-lost y-in kept (m .not-there))) }))
+  edge-missing u c y grows c-in y-in m = from-edge (rw (m .row) (record { edge = edge; no-partner = no-partner-stays (s .below (omega (arith, edge .is-name))) grows y-in (kept-lost y-in kept (m .not-there)) }))
 
   pub edges-lost : {v : List ℕ} → Grows (Missing k x) (markSquare l) w v → Grows (Follows edges a b l) (markSquare l) w v
   edges-lost grows = grows-as edge-missing grows
@@ -169,7 +169,7 @@ module _ {edges a b : List ℕ} {l : Layout} {w : List ℕ} (s : Setting edges a
   by-edge-pass {v} p = pass-with done (pass-by edge-missing p)
     where
       done : v ≡ w → Full (markSquare l) k x v → ByEdge edges a b l x v
-      done e full = record { marked = λ y h o. full .marked y h (λ m. o .no-partner (rw (← role-is, ← end-is, e) (kept .only y h m))) }
+      done e full = record { marked = λ y h o. full .marked y h (λ m. o .no-partner (rw e (kept .only y h m))) }
 
 -- marks put where what lies below a name has nothing
 module _ {names : List ℕ} {l : Layout} {w : List ℕ} (s : Named names l w) {x : ℕ} {k i : List ℕ} (is-name : x < l .names) (chosen-name : chosen l names .has-name x ≡ true) (empty : Empty i) (joined : JoinedBelow l w x i k) where

@@ -7,7 +7,7 @@ ghost use Rattle.marks.specs.Lines.{Spans};
 ghost use Rattle.layout.specs.Layouts.{Rowed, firstSquare, secondSquare, markSquare};
 ghost use Rattle.forward.specs.Rules.{Beneath, Setting, Edge, FromAbove, Follows};
 use crate::kept::join_below;
-use crate::kept::keep;
+use crate::kept::keep_partners;
 use crate::partner::Partners;
 use crate::partner::has_partner;
 use classification::hints::Hints;
@@ -55,10 +55,7 @@ pub fn lose_row(
         base: layout.marks,
         names: layout.names,
     };
-    let role = table::role(first, x);
-    let end = table::filler(first, x);
-    keep(second, work, &mut kept, layout, end, role);
-    if line::seems_full(work, marks, x, &kept) {
+    if keep_partners(first, second, work, &mut kept, layout, x) {
         return false;
     }
     line::mark_missing(work, marks, x, &kept);

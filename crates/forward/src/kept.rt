@@ -1,8 +1,11 @@
 // The nodes that keep a partner of an edge, as a line.
+ghost use mathlib.Core.Path.{_≡_};
+ghost use mathlib.Core.Bool.{true};
 ghost use Prim.Native.Nat.{_≤_, _<_};
 ghost use Rattle.el.proofs.Tests.{Tells};
+ghost use Rattle.release.specs.Tables.{roleAt, fillerAt};
 ghost use Rattle.marks.specs.Squares.{Room};
-ghost use Rattle.marks.specs.Lines.{Spans, Empty};
+ghost use Rattle.marks.specs.Lines.{Spans, Empty, Full};
 ghost use Rattle.layout.specs.Layouts.{Rowed, markSquare};
 ghost use Rattle.forward.specs.Rules.{Beneath, JoinedBelow, Serves, KeptBy, Kept};
 use layout::Layout;
@@ -80,7 +83,7 @@ fn keep_by(
 }
 
 // Adds all nodes that have an edge with the role by the second release, to a node that `end` is not marked with.
-pub fn keep(second: &[u16], work: &[u8], kept: &mut [u8], layout: Layout, end: usize, role: usize)
+fn keep(second: &[u16], work: &[u8], kept: &mut [u8], layout: Layout, end: usize, role: usize)
     requires { ⌜ Rowed (layout .names) (now second) ⌝ }
     requires { ⌜ Room (markSquare layout) (now work) × Beneath layout (now work) ⌝ }
     requires { ⌜ Spans (layout .names) (now kept) × Empty (now kept) ⌝ }
@@ -93,4 +96,30 @@ pub fn keep(second: &[u16], work: &[u8], kept: &mut [u8], layout: Layout, end: u
         next += 1;
         keep_by(second, work, kept, layout, end, role, name);
     }
+}
+
+// The line of the edge of x: all nodes that have a partner of it. Whether row x is marked with all others; where it says no, nothing is
+// said.
+pub fn keep_partners(
+    first: &[u16],
+    second: &[u16],
+    work: &[u8],
+    kept: &mut [u8],
+    layout: Layout,
+    x: usize,
+) -> bool
+    requires { ⌜ Rowed (layout .names) (now first) × Rowed (layout .names) (now second) ⌝ }
+    requires { ⌜ Room (markSquare layout) (now work) × Beneath layout (now work) ⌝ }
+    requires { ⌜ Spans (layout .names) (now kept) × Empty (now kept) ⌝ }
+    requires { ⌜ (x < layout .names) × (fillerAt (now first) x ≤ layout .names) × (layout .names ≤ 1023) ⌝ }
+    ensures { λ r. ⌜ Kept (now (second .entry)) layout (now (work .entry)) (fillerAt (now (first .entry)) x) (roleAt (now (first .entry)) x) (now (kept .exit)) × (r ≡ true → Full (markSquare layout) (now (kept .exit)) x (now (work .entry))) ⌝ }
+{
+    let role = table::role(first, x);
+    let end = table::filler(first, x);
+    keep(second, work, kept, layout, end, role);
+    let marks = Square {
+        base: layout.marks,
+        names: layout.names,
+    };
+    line::seems_full(work, marks, x, kept)
 }

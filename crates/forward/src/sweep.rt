@@ -5,7 +5,7 @@ ghost use Rattle.marks.specs.Passes.{Pass, Closed, Below};
 ghost use Rattle.layout.specs.Layouts.{markSquare};
 ghost use Rattle.forward.specs.Rules.{Setting, Named, NameLost, Follows, Step, ByName, ByEdge, Looked, Row};
 use crate::kept::join_below;
-use crate::kept::keep;
+use crate::kept::keep_partners;
 use crate::propagation::resume;
 use layout::Layout;
 use layout::edges::has_edge;
@@ -16,7 +16,6 @@ use marks::line;
 use marks::line::Line;
 use marks::order::Order;
 use marks::waiting::Waiting;
-use release::table;
 
 // Marks the name x with all that it is not above by the second release, if it is in the signature. Whether a mark is new.
 fn look_at_name(chosen_names: &[u8], work: &mut [u8], layout: Layout, x: usize) -> bool
@@ -55,9 +54,9 @@ fn look_at_edge(
 {
     if has_edge(edges, x) {
         let mut kept = [0u8; Line::LENGTH];
-        let role = table::role(first, x);
-        let end = table::filler(first, x);
-        keep(second, work, &mut kept, layout, end, role);
+        if keep_partners(first, second, work, &mut kept, layout, x) {
+            return false;
+        }
         return line::absorb_missing(
             work,
             Square {

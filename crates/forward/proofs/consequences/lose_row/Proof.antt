@@ -1,64 +1,53 @@
 use native.Mathlib.Omega.{arith}
+use borrow.Author.Needs.{needs}
 use Rattle.marks.specs.Passes.{none}
 use Rattle.marks.proofs.Lines.{empty-zeros}
-use Rattle.forward.proofs.Tested.{rowed-row, end-small, edges-lost}
-use borrow.Author.Needs.{needs}
+use Rattle.forward.proofs.Tested.{edge-end, edges-lost}
 use Rattle.forward.proofs.consequences.lose_row.Statement.{statement}
 use Rattle.forward.proofs.consequences.lose_row.Tie as tie
 use Rattle.forward.proofs.consequences.lose_row.Reads as reads
 use Rattle.forward.proofs.consequences.lose_row.Lts as lts
-use Rattle.forward.proofs.kept.keep.Reads as keep-reads
+use Rattle.forward.proofs.kept.keep_partners.Reads as keep-partners-reads
 use Rattle.marks.proofs.line.mark_missing.Reads as mark-missing-reads
-use Rattle.marks.proofs.line.seems_full.Reads as seems-full-reads
-use Rattle.release.proofs.table.filler.Reads as filler-reads
-use Rattle.release.proofs.table.role.Reads as role-reads
 
-role-requires : tie.Need-role-requires
-role-requires c κs = rowed-row (c .before .before .before .before .pre .0 .places .first-table) (c .before .before .before .before .pre .1 .is-name)
+-- src/consequences.rt:58:43
+slice-aggregate-keep-partners : tie.Need-slice-aggregate-keep-partners
+slice-aggregate-keep-partners c = search needs
 
-filler-requires : tie.Need-filler-requires
-filler-requires c κs = rowed-row (c .before .before .before .before .before .pre .0 .places .first-table) (c .before .before .before .before .before .pre .1 .is-name)
+-- src/consequences.rt:58:8
+keep-partners-requires : tie.Need-keep-partners-requires
+keep-partners-requires c κs = ((c .before .before .before .before .before .before .pre .0 .places .first-table, c .before .before .before .before .before .before .pre .0 .places .second-table), ((c .before .before .before .before .before .before .pre .0 .places .marks, c .before .before .before .before .before .before .pre .0 .below (omega (arith, c .before .before .before .before .before .before .pre .1 .is-name))), ((record { inside = omega (arith, c .before .before .before .before .before .before .pre .0 .few) }, empty-zeros 128), (c .before .before .before .before .before .before .pre .1 .is-name, edge-end (c .before .before .before .before .before .before .pre .0) (c .before .before .before .before .before .before .pre .1), c .before .before .before .before .before .before .pre .0 .few))))
 
-slice-aggregate-keep : tie.Need-slice-aggregate-keep
-slice-aggregate-keep c = search needs
-
-keep-requires : tie.Need-keep-requires
-keep-requires c κs = (c .before .before .before .before .before .before .before .before .pre .0 .places .second-table, ((c .before .before .before .before .before .before .before .before .pre .0 .places .marks, c .before .before .before .before .before .before .before .before .pre .0 .below (omega (arith, c .before .before .before .before .before .before .before .before .pre .1 .is-name))), ((record { inside = omega (arith, c .before .before .before .before .before .before .before .before .pre .0 .few) }, empty-zeros 128), (end-small (c .before .before .before .before .before .before .before .before .pre .0) (c .before .before .before .before .before .before .before .before .pre .1) (c .before .before .filler .ensures), c .before .before .before .before .before .before .before .before .pre .0 .few))))
-
-slice-aggregate-seems-full : tie.Need-slice-aggregate-seems-full
-slice-aggregate-seems-full c = search needs
-
-seems-full-requires : tie.Need-seems-full-requires
-seems-full-requires c κs = (c .before .before .before .before .before .before .before .before .before .before .before .before .pre .0 .places .marks, (omega (arith, c .before .before .before .before .before .before .before .before .before .before .before .before .pre .1 .is-name), record { inside = search (needs, c .before .before .before .before .before .before .before .before .before .before .before .before .pre .0 .few) }))
-
+-- src/consequences.rt:59:9
 same-length : tie.Need-same-length
 same-length c = search needs
 
+-- src/consequences.rt:59:9
 returns : tie.Need-returns
 returns c = none
 
+-- src/consequences.rt:61:40
 slice-aggregate-mark-missing : tie.Need-slice-aggregate-mark-missing
 slice-aggregate-mark-missing c = search needs
 
+-- src/consequences.rt:61:5
 mark-missing-requires : tie.Need-mark-missing-requires
-mark-missing-requires c κs = (c .before .before .before .before .before .before .before .before .before .before .before .before .before .before .before .before .pre .0 .places .marks, (omega (arith, c .before .before .before .before .before .before .before .before .before .before .before .before .before .before .before .before .pre .1 .is-name), record { inside = search (needs, c .before .before .before .before .before .before .before .before .before .before .before .before .before .before .before .before .pre .0 .few) }))
+mark-missing-requires c κs = (c .before .before .before .before .before .before .before .before .before .before .before .pre .0 .places .marks, (omega (arith, c .before .before .before .before .before .before .before .before .before .before .before .pre .1 .is-name), record { inside = search (needs, c .before .before .before .before .before .before .before .before .before .before .before .pre .0 .few) }))
 
+-- src/consequences.rt:41:1
 same-length-2 : tie.Need-same-length-2
 same-length-2 c = search needs
 
+-- src/consequences.rt:41:1
 returns-2 : tie.Need-returns-2
-returns-2 c = edges-lost (c .before .before .before .before .before .before .before .before .before .before .before .before .before .before .before .before .before .before .before .pre .0) (c .before .before .before .before .before .before .before .before .before .before .before .before .before .before .before .before .before .before .before .pre .1) (c .before .before .before .before .before .before .before .before .before .before .before .before .before .filler .ensures) (c .before .before .before .before .before .before .before .before .before .before .before .before .before .before .role .ensures) (c .before .before .before .before .before .before .before .before .before .before .keep .ensures) (c .before .before .mark-missing .ensures)
+returns-2 c = edges-lost (c .before .before .before .before .before .before .before .before .before .before .before .before .before .before .pre .0) (c .before .before .before .before .before .before .before .before .before .before .before .before .before .before .pre .1) (c .before .before .before .before .before .before .before .keep-partners .ensures .0) (c .before .before .mark-missing .ensures)
 
 pub lose-row-spec : {M : Type 1} → statement M
 lose-row-spec =
     tie.close
     (tie.spec
-    role-requires
-    filler-requires
-    slice-aggregate-keep
-    keep-requires
-    slice-aggregate-seems-full
-    seems-full-requires
+    slice-aggregate-keep-partners
+    keep-partners-requires
     same-length
     returns
     slice-aggregate-mark-missing
