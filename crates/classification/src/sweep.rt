@@ -144,7 +144,8 @@ fn prepare(file: &[u8], table: &[u16], work: &mut [u8], square: Square)
     hints::see_all(work, square);
 }
 
-// Passes until nothing is left to mark. What a pass finds is followed up from row to row before the next one.
+// Passes until nothing is left to mark. What a pass finds is followed up from row to row before the next one. A pass is called in two places,
+// so that the compiler makes a function of it, with registers for its loops.
 pub fn close(
     file: &[u8],
     table: &[u16],
@@ -157,7 +158,9 @@ pub fn close(
 {
     let mut waiting = [0u16; Waiting::LENGTH];
     prepare(file, table, work, square);
-    while pass(file, table, work, square, order) {
+    let mut changed = pass(file, table, work, square, order);
+    while changed {
         propagate(file, table, work, &mut waiting, square);
+        changed = pass(file, table, work, square, order);
     }
 }

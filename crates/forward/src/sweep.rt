@@ -126,7 +126,8 @@ fn pass(
     )
 }
 
-// Passes until nothing is left to mark. What follows from the marks that a pass found is propagated before the next one.
+// Passes until nothing is left to mark. What follows from the marks that a pass found is propagated before the next one. A pass is called
+// in two places, so that the compiler makes a function of it, with registers for its loops.
 pub fn close(
     chosen_names: &[u8],
     edges: &[u8],
@@ -141,7 +142,9 @@ pub fn close(
     requires { ⌜ Setting (now edges) (now first) (now second) layout (now work) ⌝ }
     ensures { λ _. ⌜ Closed (Step (now («chosen_names» .entry)) (now (edges .entry)) (now (first .entry)) (now (second .entry)) layout) (markSquare layout) (Below (Row (now («chosen_names» .entry)) (now (edges .entry)) (now (first .entry)) (now (second .entry)) layout) (suc (layout .names))) (now (work .entry)) (now (work .exit)) ⌝ }
 {
-    while pass(chosen_names, edges, first, second, work, order, layout) {
+    let mut changed = pass(chosen_names, edges, first, second, work, order, layout);
+    while changed {
         resume(edges, first, second, work, waiting, layout);
+        changed = pass(chosen_names, edges, first, second, work, order, layout);
     }
 }

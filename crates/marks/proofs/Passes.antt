@@ -8,16 +8,18 @@
 --   pass-changed, pass-unchanged                           two passes, by whether the second changed anything
 --   turn-changed, turn-unchanged, turn-both, turn-skipped  the same for a turn of a loop; turns-none, turns-to, turns-end: no turn
 --   pass-closed                                            a pass that changed nothing ends the passes
+--   passesLeft, pass-less                                  passes end: one that finds something leaves fewer bits unset, and one that finds nothing is the last
 -- Not here: laws of single cells (Squares).
-use mathlib.Core.Path.{_≡_, refl, sym, _∙_}
+use mathlib.Core.Path.{_≡_, refl, _∙_}
 use mathlib.Core.Bool.{Bool, true, false, _||_}
 use mathlib.Core.List.{List}
 use mathlib.Core.Logic.{inl, inr}
-use Prim.Native.Nat.{ℕ, _+_, _/_, _≤_, _<_}
+use Prim.Native.Nat.{ℕ, _+_, _*_, _/_, _≤_, _<_}
 use lib.ListN.{getD}
 use native.Mathlib.Omega.{arith}
 use native.Mathlib.Decide.{ℕ-discrete, decLt}
 use Rattle.el.proofs.Tests.{Tells}
+use Rattle.el.specs.Lists.{pick}
 use Rattle.marks.specs.declared.Square.{Square}
 use Rattle.marks.specs.Squares.{place, Room, Marked, Unmarked, Frame, Put, Kept, Within, NextMarked, unset}
 use Rattle.marks.specs.Passes.{Grows, none, more, Pass, Closed, Below, Due, AllGood, FromRow}
@@ -164,6 +166,13 @@ module _ {Rule : List ℕ → ℕ → ℕ → Type 0} {q : Square} where
 
   pub closed-further : {D : List ℕ → Type 0} {u w v : List ℕ} → Grows Rule q u w → Closed Rule q D w v → Closed Rule q D u v
   closed-further g c = record { grows = grows-further g (c .grows); done = c .done }
+
+abbrev pub passesLeft : List ℕ → Bool → ℕ
+passesLeft w r = 2 * unset w + pick r 1 0
+
+pub pass-less : {R S : List ℕ → ℕ → ℕ → Type 0} {q : Square} {D : List ℕ → Type 0} {w u v : List ℕ} {t : Bool} (r : Bool) → t ≡ true → Grows R q w u → Pass S q D u v r → passesLeft v r < passesLeft w t
+pass-less true e g p = rw e (omega (arith, p .fewer refl, unset-falls g))
+pass-less false e g p = rw e (omega (arith, unset-falls (p .grows), unset-falls g))
 
 -- the same growth by another rule, which allows what the first one does
 pub grows-as : {R S : List ℕ → ℕ → ℕ → Type 0} {q : Square} {w v : List ℕ} → ((u : List ℕ) (x y : ℕ) → Grows R q w u → x ≤ q .names → y ≤ q .names → R u x y → S u x y) → Grows R q w v → Grows S q w v
