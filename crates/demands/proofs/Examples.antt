@@ -12,7 +12,7 @@ use Rattle.el.proofs.Tests.{tells-all, tells-true, and-left, and-right}
 use Rattle.release.specs.Files.{number, numbers, widthOf, namesOf, rolesOf, countOf, axiomsOf, fault, headerFault, partsFault, conjunctionFault, restrictionFault, tailFault, axiomFault, axiomAt, axiomsFault, axiomsFrom, conjunctDefined}
 use Rattle.signature.specs.Bytes.{signatureFault}
 use Rattle.concept.specs.Bytes.{conceptOk}
-use Rattle.demands.specs.Inputs.{chosen, Accepted, textOk, AcceptedQuestion, conceptOf}
+use Rattle.demands.specs.Inputs.{chosen, Accepted, textOk, AcceptedQuestion, conceptIn}
 use Rattle.demands.specs.Examples.{Example, compared, asked, Holds, sameBytes, passes, examples}
 use Rattle.demands.proofs.Files.{comparison-bytes, question-answer}
 
@@ -46,7 +46,7 @@ passes-holds (asked s c d v) h =
       below = and-left (textOk s c) _ a;
       above = and-left (textOk s d) _ b;
     } in
-    let e = eqb-true (pick (isIncluded (namesOf s) (axiomsOf s) (conceptOf s c) (conceptOf s d)) 1 0) v (and-right (textOk s d) _ b) in
+    let e = eqb-true (pick (isIncluded (namesOf s) (axiomsOf s) (conceptIn s c) (conceptIn s d)) 1 0) v (and-right (textOk s d) _ b) in
     record { accepted = given; answer = rw e at (question-answer given) }
 
 all-pass : all passes examples ≡ true

@@ -4,7 +4,7 @@
 --   comparison-bytes     the bytes that crate el computes are the bytes of the comparison
 --   question-answer      and so with the answer of a question
 use mathlib.Core.Path.{_≡_, refl}
-use mathlib.Core.Bool.{Bool, true, false, _&&_, false≢true}
+use mathlib.Core.Bool.{Bool, true, false, false≢true}
 use mathlib.Core.List.{List}
 use Prim.Native.Nat.{ℕ}
 use native.Mathlib.Omega.{arith}
@@ -25,7 +25,7 @@ use Rattle.release.specs.Files.{widthOf, namesOf, rolesOf, axiomsOf}
 use Rattle.release.proofs.Linked.{formed, terminology}
 use Rattle.concept.specs.Bytes.{isWithin}
 use Rattle.concept.proofs.Texts.{accepted-is-text}
-use Rattle.demands.specs.Inputs.{chosen, Accepted, textOk, AcceptedQuestion, conceptOf, Demand3}
+use Rattle.demands.specs.Inputs.{chosen, Accepted, textOk, AcceptedQuestion, conceptIn, Demand3}
 
 pub comparable : {s t g : List ℕ} → Accepted s t g → Comparable (namesOf s) (chosen s g) (axiomsOf s) (axiomsOf t)
 comparable {s} {t} {g} given = record {
@@ -53,8 +53,8 @@ told : {al : List Axiom} {c d : Concept} (b : Bool) → Tells b (Derives al c d)
 told true t = record { small = omega arith; derivable = (λ e. t .sound refl, λ p. refl) }
 told false t = record { small = omega arith; derivable = (λ e. absurd (omega arith), λ p. absurd (false≢true (t .complete p))) }
 
-pub question-answer : {s c d : List ℕ} → AcceptedQuestion s c d → IsAnswer (axiomsOf s) (conceptOf s c) (conceptOf s d) (pick (isIncluded (namesOf s) (axiomsOf s) (conceptOf s c) (conceptOf s d)) 1 0)
-question-answer {s} {c} {d} given = told _ (tells-included (formed s (given .release)) (terminology s (given .release)) (conceptOf s c) (conceptOf s d) (scoped c (given .below)) (scoped d (given .above)))
+pub question-answer : {s c d : List ℕ} → AcceptedQuestion s c d → IsAnswer (axiomsOf s) (conceptIn s c) (conceptIn s d) (pick (isIncluded (namesOf s) (axiomsOf s) (conceptIn s c) (conceptIn s d)) 1 0)
+question-answer {s} {c} {d} given = told _ (tells-included (formed s (given .release)) (terminology s (given .release)) (conceptIn s c) (conceptIn s d) (scoped c (given .below)) (scoped d (given .above)))
   where
-    scoped : (c : List ℕ) → textOk s c ≡ true → Scoped (namesOf s) (conceptOf s c)
-    scoped c h = within-scoped (namesOf s) (rolesOf s) (conceptOf s c) (accepted-is-text (widthOf s) (namesOf s) (rolesOf s) c h .within)
+    scoped : (c : List ℕ) → textOk s c ≡ true → Scoped (namesOf s) (conceptIn s c)
+    scoped c h = within-scoped (namesOf s) (rolesOf s) (conceptIn s c) (accepted-is-text (widthOf s) (namesOf s) (rolesOf s) c h .within)

@@ -3,7 +3,6 @@
 --   Holds e        the input of the example e is accepted, and its outcome is the one written
 --   examples       the table
 --   passes e       the same tested, by the answers that crate el computes
-use mathlib.Core.Path.{_≡_}
 use mathlib.Core.Bool.{Bool, true, false, _&&_}
 use mathlib.Core.List.{List, [], _∷_}
 use Prim.Native.Nat.{ℕ}
@@ -14,7 +13,7 @@ use Rattle.el.specs.Comparison.{AreBytes}
 use Rattle.el.specs.Answers.{comparisonBytes, isIncluded}
 use Rattle.release.specs.Files.{fault, namesOf, rolesOf, axiomsOf}
 use Rattle.signature.specs.Bytes.{signatureFault}
-use Rattle.demands.specs.Inputs.{chosen, Accepted, textOk, AcceptedQuestion, conceptOf}
+use Rattle.demands.specs.Inputs.{chosen, Accepted, textOk, AcceptedQuestion, conceptIn}
 
 pub data Example : Type 0 where
   compared : (first second signature result : List ℕ) → Example
@@ -26,7 +25,7 @@ pub record Compared (s t g r : List ℕ) : Type 0 where
 
 pub record Asked (s c d : List ℕ) (v : ℕ) : Type 0 where
   pub accepted : AcceptedQuestion s c d
-  pub answer : IsAnswer (axiomsOf s) (conceptOf s c) (conceptOf s d) v
+  pub answer : IsAnswer (axiomsOf s) (conceptIn s c) (conceptIn s d) v
 
 abbrev pub Holds : Example → Type 0
 Holds (compared s t g r) = Compared s t g r
@@ -133,4 +132,4 @@ sameBytes (x ∷ xs) (y ∷ ys) = eqb x y && sameBytes xs ys
 
 abbrev pub passes : Example → Bool
 passes (compared s t g r) = eqb (fault s) 0 && (eqb (fault t) 0 && (eqb (namesOf s) (namesOf t) && (eqb (rolesOf s) (rolesOf t) && (eqb (signatureFault (namesOf s) (rolesOf s) g) 0 && sameBytes (comparisonBytes (namesOf s) (chosen s g) (axiomsOf s) (axiomsOf t)) r))))
-passes (asked s c d v) = eqb (fault s) 0 && (textOk s c && (textOk s d && eqb (pick (isIncluded (namesOf s) (axiomsOf s) (conceptOf s c) (conceptOf s d)) 1 0) v))
+passes (asked s c d v) = eqb (fault s) 0 && (textOk s c && (textOk s d && eqb (pick (isIncluded (namesOf s) (axiomsOf s) (conceptIn s c) (conceptIn s d)) 1 0) v))

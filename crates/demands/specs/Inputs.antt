@@ -1,7 +1,7 @@
 -- What a comparison and a question are given, as bytes.
 --   chosen s g             the signature whose bytes g are read for the release s
 --   Accepted s t g         two accepted releases with the same counts of names and roles, and an accepted signature
---   textOk s c             the text c is accepted as a concept asked of the release s
+--   textOk s c             the text c is accepted as a concept asked of the release s;  conceptIn s c: the concept of such a text
 --   AcceptedQuestion s c d   an accepted release, and two concepts accepted for it
 --   Demand3 s t g          demand 3 for two releases and a signature
 use mathlib.Core.Path.{_≡_}
@@ -33,8 +33,8 @@ pub record AcceptedQuestion (s c d : List ℕ) : Type 0 where
   pub below : textOk s c ≡ true
   pub above : textOk s d ≡ true
 
-abbrev pub conceptOf : List ℕ → List ℕ → Concept
-conceptOf s c = readConcept (widthOf s) (namesOf s) (rolesOf s) c .concept
+abbrev pub conceptIn : List ℕ → List ℕ → Concept
+conceptIn s c = readConcept (widthOf s) (namesOf s) (rolesOf s) c .concept
 
 abbrev pub Demand3 : List ℕ → List ℕ → List ℕ → Type 0
 Demand3 s t g = el.Demand3 (namesOf s) (chosen s g) (axiomsOf s) (axiomsOf t)

@@ -2,32 +2,29 @@
 --   root-below-sound, root-below-complete     a root lies below a node by its row exactly where it does
 --   atom-below-sound, atom-below-complete     and an atom below a plain name, by the row of its child
 --   above-none, above-more                    the rows before any atom, and after one more is raised
-use mathlib.Core.Path.{_≡_, refl, sym, ap, subst, _∙_}
-use mathlib.Core.Logic.{_⊎_, inl, inr}
-use mathlib.Core.Bool.{true, false}
+use mathlib.Core.Path.{_≡_, refl, sym, _∙_}
+use mathlib.Core.Logic.{inl, inr}
 use mathlib.Core.List.{List}
-use Prim.Native.Nat.{ℕ, zero, suc, _+_, _-_, _≤_, _<_}
+use Prim.Native.Nat.{ℕ, zero, suc, _≤_, _<_}
 use native.Mathlib.Omega.{arith}
 use native.Mathlib.Decide.{ℕ-discrete}
 use Rattle.el.specs.Lists.{In}
-use Rattle.el.specs.Concepts.{Concept, top, name, both, some, Node, named, conceptOf}
-use Rattle.el.specs.Axioms.{Axiom, isConjunction, roleOf, fillerOf}
+use Rattle.el.specs.Concepts.{Concept, name, both, some, named}
+use Rattle.el.specs.Axioms.{Axiom}
 use Rattle.el.specs.Derivability.{Derives, to-top, one, other}
 use Rattle.el.proofs.Derivations.{_▹_, Fills, to-part, from-parts, from-filler}
 use Rattle.el.proofs.PlainNodes.{FilledBy, top-below-plain, both-below-plain, some-below-plain}
-use Rattle.release.specs.Files.{axiomsOf, restricts}
-use Rattle.release.specs.Tables.{kindAt, roleAt, fillerAt, countAt, partAt}
+use Rattle.release.specs.Files.{axiomsOf}
+use Rattle.release.specs.Tables.{kindAt, roleAt, fillerAt, partAt}
 use Rattle.marks.specs.declared.Square.{Square}
-use Rattle.marks.specs.Squares.{Marked}
 use Rattle.marks.specs.Lines.{Empty}
-use Rattle.classification.specs.Inclusions.{nodeAt}
 use Rattle.classification.proofs.Nodes.{at-top, at-name}
 use Rattle.classification.proofs.AxiomRows as rows
 use Rattle.outline.specs.declared.Extent.{Extent}
 use Rattle.outline.specs.Atoms.{valueAt, ownerAt, childAt, Atom, atomsFrom, atomConcept, rootOf, Shape}
 use Rattle.outline.proofs.Atoms.{root-own, root-other, root-none}
-use Rattle.points.specs.Grids.{mostRoots, Grid, Set, Adds}
-use Rattle.points.specs.Above.{PartsSet, RootBelow, top-above, parts-above, name-above, AtomBelow, name-below, some-below, Risen}
+use Rattle.points.specs.Grids.{mostRoots}
+use Rattle.points.specs.Above.{RootBelow, top-above, parts-above, name-above, AtomBelow, name-below, some-below, Risen}
 use Rattle.points.proofs.Grids.{adds-row}
 use Rattle.points.proofs.Raising.{kind-2-joins, kind-4-restricts}
 use Rattle.question.specs.Evaluation.{World, RowAbove, Above, nodePoint}

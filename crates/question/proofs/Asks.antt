@@ -5,14 +5,14 @@
 use mathlib.Core.Path.{_≡_, refl, sym, ap, _∙_}
 use mathlib.Core.Bool.{Bool, true, false}
 use mathlib.Core.List.{List}
-use Prim.Native.Nat.{ℕ, zero, suc, _+_, _*_, _≤_, _<_}
+use Prim.Native.Nat.{ℕ, zero, suc, _*_, _≤_, _<_}
 use native.Mathlib.Omega.{arith}
-use borrow.Author.Tests.{lt-ltb, le-ltb, eq-eqb, ne-eqb}
+use borrow.Author.Tests.{lt-ltb, le-ltb, ne-eqb}
 use lib.ListN.{length, List·getD-eq-default}
 use Rattle.el.specs.Concepts.{Concept}
 use Rattle.release.specs.Files.{fault, widthOf, namesOf, rolesOf, countOf, axiomsOf}
 use Rattle.release.specs.Readings.{checked, checkedBy}
-use Rattle.release.specs.Tables.{Release, ReleaseRead}
+use Rattle.release.specs.Tables.{ReleaseRead}
 use Rattle.release.specs.declared.Checked.{Checked}
 use Rattle.release.specs.declared.Checked.the-variants as checks
 use Rattle.release.specs.declared.Counts.{Counts}
@@ -23,15 +23,16 @@ use Rattle.release.proofs.Linked as linked
 use Rattle.concept.specs.Bytes.{conceptOk, IsTextOf}
 use Rattle.concept.proofs.Texts.{accepted-is-text}
 use Rattle.marks.specs.declared.Square.{Square}
-use Rattle.marks.specs.Squares.{size, Room, Area, Zeroed, Frame}
+use Rattle.marks.specs.Squares.{size, Room, Area, Zeroed}
 use Rattle.marks.proofs.Squares.{span-size, size-small, size-is, zeroed-unmarked}
 use Rattle.points.specs.Grids.{mostNodes}
 use Rattle.classification.specs.Inclusions.{Unclassified, Classified}
 use Rattle.question.specs.declared.Asked.{Asked}
 use Rattle.question.specs.declared.Asked.the-variants.{Answer, Refused}
 use Rattle.el.specs.Derivability.{IsAnswer}
-use Rattle.question.specs.Evaluation.{World, ToDecide}
-use Rattle.question.specs.Asking.{conceptIn, textOk, refusalNumber, refusalSide, refusedBy, askedBy, ofRelease, AskedAs, ToAnswer, Answered}
+use Rattle.question.specs.Evaluation.{ToDecide}
+use Rattle.demands.specs.Inputs.{textOk, conceptIn}
+use Rattle.question.specs.Asking.{refusalNumber, refusalSide, refusedBy, ofRelease, AskedAs, ToAnswer, Answered}
 
 pub few-names : (s : List ℕ) → fault s ≡ 0 → namesOf s < mostNodes
 few-names s ok = omega (arith, header-sound s (linked.no-header-fault s ok) .names)

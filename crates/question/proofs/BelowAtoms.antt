@@ -2,35 +2,31 @@
 --   kept-none, kept-more              the rows before any atom, and after the points that do not lie below one more are lost
 --   node-below-sound, -complete       a node lies below an atom by the row of its child exactly where it does
 -- Not here: the roots of C below an atom (BelowRoots).
-use mathlib.Core.Path.{_≡_, refl, sym, ap, subst, _∙_}
-use mathlib.Core.Logic.{_⊎_, inl, inr}
-use mathlib.Core.Bool.{true, false}
+use mathlib.Core.Path.{_≡_, refl, sym, _∙_}
+use mathlib.Core.Logic.{inl, inr}
 use mathlib.Core.List.{List}
-use Prim.Native.Nat.{ℕ, zero, suc, _+_, _-_, _≤_, _<_}
+use Prim.Native.Nat.{ℕ, suc, _≤_, _<_}
 use native.Mathlib.Omega.{arith}
 use native.Mathlib.Decide.{ℕ-discrete}
-use Rattle.el.specs.Lists.{In}
-use Rattle.el.specs.Concepts.{Concept, top, name, both, some, Node, everything, named, conceptOf}
-use Rattle.el.specs.Axioms.{Axiom, isConjunction, roleOf, fillerOf}
-use Rattle.el.specs.Derivability.{Derives, same, to-top, one, other, meet, under}
-use Rattle.el.proofs.Derivations.{_▹_, Restricts, both-above, to-filler}
+use Rattle.el.specs.Concepts.{Concept, name, both, some, Node, everything, named, conceptOf}
+use Rattle.el.specs.Axioms.{Axiom, fillerOf}
+use Rattle.el.specs.Derivability.{Derives, to-top, one, other, meet, under}
+use Rattle.el.proofs.Derivations.{_▹_, Restricts, to-filler}
 use Rattle.el.proofs.CanonicalModel.{Within, Edge, written, implied, inversion}
 use Rattle.release.specs.Files.{axiomsOf, restricts}
-use Rattle.release.specs.Tables.{kindAt, roleAt, fillerAt}
+use Rattle.release.specs.Tables.{fillerAt}
 use Rattle.marks.specs.declared.Square.{Square}
-use Rattle.marks.specs.Squares.{Marked}
 use Rattle.marks.specs.Lines.{Empty}
 use Rattle.classification.specs.Inclusions.{nodeAt}
-use Rattle.classification.proofs.Nodes.{at-name}
 use Rattle.classification.proofs.AxiomRows as rows
 use Rattle.outline.specs.declared.Extent.{Extent}
 use Rattle.outline.specs.Atoms.{valueAt, ownerAt, childAt, Atom, atomsFrom, atomConcept, rootOf, Shape}
 use Rattle.outline.proofs.Atoms.{root-own, root-other, root-none}
-use Rattle.points.specs.Grids.{mostRoots, mostNodes, Grid, Set, Adds}
-use Rattle.points.specs.Nodes.{Leads, NodeReaches, NodeBelow, below-name, below-some}
+use Rattle.points.specs.Grids.{mostRoots, mostNodes, Adds}
+use Rattle.points.specs.Nodes.{NodeReaches, NodeBelow, below-name, below-some}
 use Rattle.points.proofs.Grids.{adds-row}
 use Rattle.question.specs.Evaluation.{World, KeptRow, Kept, nodePoint}
-use Rattle.question.proofs.Worlds.{terminology, axiom-at, row-of, marked-below, below-marked, filler-node, filler-small}
+use Rattle.question.proofs.Worlds.{row-of, marked-below, below-marked, filler-node, filler-small}
 use Rattle.question.proofs.AboveRoots.{some-atom}
 
 -- for any points

@@ -2,28 +2,26 @@
 --   below-own-atom       a root lies below each of its atoms
 --   atom-below-some      a root lies below ∃r.d only where one of its atoms does
 --   root-under-sound, root-under-complete     a root lies below an atom of D by the rows of its child exactly where it does
-use mathlib.Core.Path.{_≡_, refl, sym, ap, subst, _∙_}
-use mathlib.Core.Logic.{_⊎_, inl, inr}
+use mathlib.Core.Path.{_≡_, refl, sym, ap, _∙_}
+use mathlib.Core.Logic.{inl, inr}
 use mathlib.Core.List.{List}
 use Prim.Native.Nat.{ℕ, zero, suc, _+_, _-_, _≤_, _<_}
 use native.Mathlib.Omega.{arith}
 use native.Mathlib.Decide.{ℕ-discrete}
-use Rattle.el.specs.Concepts.{Concept, top, name, both, some, conceptOf}
+use Rattle.el.specs.Concepts.{Concept, some}
 use Rattle.el.specs.Axioms.{Axiom}
 use Rattle.el.specs.Derivability.{Derives, same, one, other, under}
 use Rattle.el.proofs.Derivations.{_▹_}
 use Rattle.el.proofs.Terminologies.{Terminology, top-below-some, both-below-some, some-below-some}
 use Rattle.release.specs.Files.{axiomsOf}
 use Rattle.marks.specs.declared.Square.{Square}
-use Rattle.classification.specs.Inclusions.{nodeAt}
 use Rattle.classification.proofs.Nodes.{at-name}
 use Rattle.outline.specs.declared.Extent.{Extent}
-use Rattle.outline.specs.Atoms.{valueAt, ownerAt, childAt, Atom, atomsFrom, atomConcept, rootOf, Shape}
+use Rattle.outline.specs.Atoms.{valueAt, ownerAt, childAt, atomsFrom, atomConcept, rootOf, Shape}
 use Rattle.outline.proofs.Atoms.{root-own, root-other, root-none}
 use Rattle.points.specs.Grids.{mostRoots}
-use Rattle.points.specs.Above.{RootBelow}
 use Rattle.points.specs.Roots.{AtomReaches, name-reaches, some-reaches, RootReaches, RootBelowAtom, root-below-name, root-below-some}
-use Rattle.question.specs.Evaluation.{World, RowAbove, Above, KeptRow, Kept, nodePoint, rootPoint}
+use Rattle.question.specs.Evaluation.{World, Above, KeptRow, nodePoint, rootPoint}
 use Rattle.question.proofs.Worlds.{terminology}
 use Rattle.question.proofs.AboveRoots.{some-atom, root-below-sound, root-below-complete}
 use Rattle.question.proofs.BelowAtoms.{reach-sound, reach-complete}

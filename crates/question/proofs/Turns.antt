@@ -1,17 +1,16 @@
 -- The turns of the two loops over atoms, from the last to the first.
 --   fill-..      the rows of the names above the roots of C
 --   lose-..      the rows of the points that the roots of D have lost
-use mathlib.Core.Path.{_≡_, refl, sym, ap, _∙_}
+use mathlib.Core.Path.{_≡_, refl}
 use mathlib.Core.List.{List}
-use Prim.Native.Nat.{ℕ, suc, _*_, _+_, _-_, _≤_, _<_}
+use Prim.Native.Nat.{ℕ, suc, _-_, _≤_, _<_}
 use native.Mathlib.Omega.{arith}
 use lib.ListN.{length}
 use Rattle.release.specs.Files.{axiomsOf}
 use Rattle.marks.specs.declared.Square.{Square}
-use Rattle.marks.specs.Lines.{Empty}
 use Rattle.classification.proofs.AxiomRows as rows
 use Rattle.outline.specs.declared.Extent.{Extent}
-use Rattle.outline.specs.Atoms.{valueAt, ownerAt, childAt, atomsFrom, Shape}
+use Rattle.outline.specs.Atoms.{childAt, atomsFrom, Shape}
 use Rattle.points.specs.Grids.{mostRoots, Grid}
 use Rattle.points.specs.Above.{Ranges, Risen}
 use Rattle.points.specs.Above as above

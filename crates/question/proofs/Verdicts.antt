@@ -1,13 +1,13 @@
 -- What a question's arrays show of the answer.
 --   zeros-grid                     enough zeros are a grid
 --   verdict-lost, verdict-kept     the answer, by whether row 0 of D has lost root 0 of C
-use mathlib.Core.Path.{_≡_, refl}
+use mathlib.Core.Path.{refl}
 use mathlib.Core.List.{List}
-use Prim.Native.Nat.{ℕ, _+_, _≤_, _<_}
+use Prim.Native.Nat.{ℕ, _≤_, _<_}
 use native.Mathlib.Omega.{arith}
 use lib.ListN.{replicate, length-replicate}
 use Rattle.el.specs.Concepts.{Concept}
-use Rattle.el.specs.Derivability.{Derives, IsAnswer}
+use Rattle.el.specs.Derivability.{IsAnswer}
 use Rattle.el.proofs.Derivations.{_▹_}
 use Rattle.release.specs.Files.{axiomsOf}
 use Rattle.outline.specs.declared.Extent.{Extent}

@@ -3,20 +3,19 @@
 --   part-not-defined       no conjunct of a defined conjunction is
 --   marked-below, below-marked     a mark of the square is an inclusion of a node in a name
 --   filler-node            the filler of a restriction, by its number
-use mathlib.Core.Path.{_≡_, refl, sym, ap, subst, _∙_}
+use mathlib.Core.Path.{_≡_, sym, ap, _∙_}
 use mathlib.Core.Bool.{true, false}
 use mathlib.Core.List.{List}
-use Prim.Native.Nat.{ℕ, suc, _≤_, _<_}
+use Prim.Native.Nat.{ℕ, _≤_, _<_}
 use native.Mathlib.Omega.{arith}
 use Rattle.el.specs.Lists.{In}
-use Rattle.el.specs.Concepts.{Concept, name, some, Node, everything, named, conceptOf}
-use Rattle.el.specs.Axioms.{Axiom, isConjunction, partsOf, roleOf, fillerOf}
+use Rattle.el.specs.Concepts.{name, named}
+use Rattle.el.specs.Axioms.{Axiom, isConjunction, fillerOf}
 use Rattle.el.specs.Derivability.{Derives}
-use Rattle.el.proofs.Derivations.{Joins}
 use Rattle.el.proofs.Terminologies.{Terminology}
 use Rattle.el.proofs.PlainNodes.{Plain, plain-name}
-use Rattle.release.specs.Files.{namesOf, axiomsOf, joins, restricts}
-use Rattle.release.specs.Tables.{kindAt, fillerAt, countAt, partAt, Release}
+use Rattle.release.specs.Files.{axiomsOf, joins, restricts}
+use Rattle.release.specs.Tables.{kindAt, fillerAt, countAt, partAt}
 use Rattle.release.proofs.Linked as linked
 use Rattle.marks.specs.declared.Square.{Square}
 use Rattle.marks.specs.Squares.{Marked}

@@ -4,29 +4,21 @@
 --   askedBy number side v      what is answered: the refusal, or v where the number is 0
 --   AskedAs s c d w v r        the answer r, and the memory w that became v
 use mathlib.Core.Path.{_≡_}
-use mathlib.Core.Bool.{Bool, true}
+use mathlib.Core.Bool.{true}
 use mathlib.Core.List.{List}
 use Prim.Native.Nat.{ℕ, zero, suc, _*_, _≤_}
 use lib.Dec.{eqb, ltb}
 use lib.ListN.{length}
 use Rattle.el.specs.Lists.{pick}
-use Rattle.el.specs.Concepts.{Concept}
 use Rattle.el.specs.Derivability.{IsAnswer}
-use Rattle.release.specs.Files.{fault, firstOf, widthOf, namesOf, rolesOf, axiomsOf}
+use Rattle.release.specs.Files.{fault, firstOf, widthOf, namesOf, axiomsOf}
 use Rattle.release.specs.Tables.{Release}
 use Rattle.release.specs.declared.Checked.{Checked}
 use Rattle.release.specs.declared.Checked.the-variants as checked
-use Rattle.concept.specs.Bytes.{readConcept, conceptOk}
+use Rattle.demands.specs.Inputs.{textOk, conceptIn}
 use Rattle.marks.specs.Squares.{size, Zeroed}
 use Rattle.question.specs.declared.Asked.{Asked}
 use Rattle.question.specs.declared.Asked.the-variants.{Answer, Refused}
-
--- the concept of an accepted text
-abbrev pub conceptIn : List ℕ → List ℕ → Concept
-conceptIn s c = readConcept (widthOf s) (namesOf s) (rolesOf s) c .concept
-
-abbrev pub textOk : List ℕ → List ℕ → Bool
-textOk s c = conceptOk (widthOf s) (namesOf s) (rolesOf s) c
 
 unfoldable pub refusalNumber : List ℕ → List ℕ → List ℕ → List ℕ → ℕ
 refusalNumber s c d w = firstOf (fault s) (pick (textOk s c) (pick (textOk s d) (pick (ltb (length w) (4 * size (namesOf s))) 32 0) 19) 19)

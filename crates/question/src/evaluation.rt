@@ -1,6 +1,5 @@
 // The evaluation of a concept D over points, the nodes of a release and the roots of a concept C, atom by atom from the last: an ∃ comes before the
 // atoms of its filler, so those are done when it is met.
-ghost use mathlib.Core.List.{List};
 ghost use Prim.Native.Nat.{ℕ};
 ghost use Rattle.el.specs.Concepts.{Concept};
 ghost use Rattle.concept.specs.Bytes.{IsTextOf};

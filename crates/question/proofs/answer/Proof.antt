@@ -1,5 +1,4 @@
 -- `answer` meets its contract: the memory after each call is what the next one asks.
-use native.Mathlib.Omega.{arith}
 use Rattle.question.proofs.Asks.{to-classify, to-decide, answered}
 use borrow.Author.Needs.{needs}
 use Rattle.question.proofs.answer.Statement.{statement}

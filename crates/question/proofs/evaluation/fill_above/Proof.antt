@@ -1,7 +1,7 @@
 -- `fill_above` meets its contract: the rows are those of the atoms from `left` on.
 use Prim.Native.Nat.{_≤_, _-_}
 use native.Mathlib.Omega.{arith}
-use mathlib.Core.Path.{_≡_, refl, _∙_, ap}
+use mathlib.Core.Path.{_≡_, refl, _∙_}
 use borrow.Author.Needs.{needs}
 use lib.ListN.{length}
 use Rattle.outline.specs.Atoms.{atomsFrom}

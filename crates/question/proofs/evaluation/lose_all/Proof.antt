@@ -1,7 +1,7 @@
 -- `lose_all` meets its contract: the rows have lost what the atoms from `left` on do not have below them.
-use Prim.Native.Nat.{_≤_, _-_}
+use Prim.Native.Nat.{_≤_}
 use native.Mathlib.Omega.{arith}
-use mathlib.Core.Path.{_≡_, refl, _∙_, ap}
+use mathlib.Core.Path.{_≡_, refl, _∙_}
 use borrow.Author.Needs.{needs}
 use lib.ListN.{length}
 use Rattle.question.proofs.Turns.{node-atom, root-atom, Losing, lose-start, lose-turn, lose-end, same-grid}
