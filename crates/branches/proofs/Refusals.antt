@@ -4,10 +4,11 @@ use mathlib.Core.Bool.{Bool, true, false}
 use mathlib.Core.List.{List}
 use Prim.Native.Nat.{ℕ, _+_, _*_, _≤_, _<_}
 use native.Mathlib.Omega.{arith}
-use borrow.Author.Tests.{eq-eqb, ne-eqb, le-leb, lt-leb, eqb-true, leb-true, ltb-true, ltb-false}
+use borrow.Author.Tests.{ne-eqb, le-leb, lt-leb, eqb-true, leb-true, ltb-true, ltb-false}
 use lib.Dec.{eqb, ltb, leb}
 use Rattle.el.specs.Lists.{pick}
 use Rattle.release.specs.Files.{mostNames, mostRoles}
+use Rattle.release.specs.Readings.{checked}
 use Rattle.release.specs.declared.Checked.{Checked}
 use Rattle.release.specs.declared.Refusal.{Refusal}
 use Rattle.signature.specs.Bytes.{signatureFault}
@@ -16,7 +17,8 @@ use Rattle.meanings.specs.declared.Comparison.{Comparison}
 use Rattle.meanings.specs.declared.Comparison.the-variants.{Accepted, Refused}
 use Rattle.meanings.specs.Comparing.{workLength, refused, agreed, andThen}
 use Rattle.meanings.proofs.Judging.{not-refused}
-use Rattle.branches.specs.Sheets.{mostBranches, lentSheet, judged}
+use Rattle.meanings.proofs.Promise.{Agree, agree}
+use Rattle.branches.specs.Sheets.{mostBranches, lentSheet, judged, sheet}
 
 -- no condition of a refusal holds
 pub record Enough (gs : List ℕ) (q rows w : ℕ) (c : Compared) : Type 0 where
@@ -36,13 +38,17 @@ enough gs q rows w d c h = by-tests (leb q mostBranches) (eqb (signatureFault (q
     by-tests true true true false e f i j k = not-refused k
     by-tests true true true true e f i j k = let same : d ≡ c = cc in (same, record { few = leb-true _ _ e; signatures = eqb-true _ _ f; rows-lent = leb-true _ _ i; work = leb-true _ _ j })
 
-pub accepted-known : (x y : Checked) (gs : List ℕ) (q rows w : ℕ) (c : Compared) → judged x y gs q rows w ≡ Accepted c → (agreed x y ≡ Accepted c) × Enough gs q rows w c
+accepted-known : (x y : Checked) (gs : List ℕ) (q rows w : ℕ) (c : Compared) → judged x y gs q rows w ≡ Accepted c → (agreed x y ≡ Accepted c) × Enough gs q rows w c
 unfolding judged
 accepted-known x y gs q rows w c h = by-agreed (agreed x y) refl h
   where
     by-agreed : (d : Comparison) → agreed x y ≡ d → andThen d (lentSheet gs q rows w) ≡ Accepted c → (agreed x y ≡ Accepted c) × Enough gs q rows w c
     by-agreed (Refused k) f z = not-refused z
     by-agreed (Accepted d) f z = let e = enough gs q rows w d c z in (f ∙ ap Accepted (e .0), subst (Enough gs q rows w) (e .0) (e .1))
+
+-- what is known of an accepted sheet
+pub known : {s t gs : List ℕ} {q rows w : ℕ} {c : Compared} → sheet s t gs q rows w ≡ Accepted c → Agree s t c × Enough gs q rows w c
+known {s} {t} {gs} {q} {rows} {w} {c} e = let z = accepted-known (checked s) (checked t) gs q rows w c e in (agree s t c (z .0), z .1)
 
 -- the length of a signature is small
 pub sum-small : {n m : ℕ} → n ≤ mostNames → m ≤ mostRoles → n + m ≤ mostNames + mostRoles

@@ -1,14 +1,14 @@
 -- One row: from what a comparison in prepared memory gives to the row of a sheet.
 --   few-names, names-lent, bytes-told     what finding a row asks; its bytes are those that are computed
 --   never-refused, given-part, row-is     a turn: the releases agree, its signature is a part of all of them, and its row is the sheet's
-use mathlib.Core.Path.{_≡_, refl, sym, ap, subst, _∙_}
+use mathlib.Core.Path.{_≡_, sym, ap, _∙_}
 use mathlib.Core.List.{List}
 use Prim.Native.Nat.{ℕ, _+_, _-_, _*_, _≤_, _<_}
 use native.Mathlib.Nat.{min-le-left, mul-le-mul}
 use native.Mathlib.Omega.{arith}
 use borrow.Author.Tests.{eq-eqb, ltb-true}
 use lib.Dec.{ltb}
-use lib.ListN.{length, getD, take, drop, length-take}
+use lib.ListN.{length, take, drop, length-take}
 use lib.Seq.{ext-getD, getD-take, length-take-le}
 use Rattle.el.specs.Answers.{comparisonBytes}
 use Rattle.el.proofs.Tests.{and-left}
@@ -20,8 +20,7 @@ use Rattle.release.specs.Readings.{checked}
 use Rattle.release.specs.Tables.{ReleaseRead}
 use Rattle.release.specs.declared.Checked.{Checked}
 use Rattle.release.specs.declared.Refusal.{Refusal}
-use Rattle.release.proofs.Checks.{Header, header-sound}
-use Rattle.release.proofs.Linked.{no-header-fault, formed, terminology}
+use Rattle.release.proofs.Linked.{formed, terminology}
 use Rattle.signature.specs.Bytes.{signatureFault, signatureOf}
 use Rattle.marks.specs.Squares.{size}
 use Rattle.comparison.specs.Compared.{Given, Ready, Reported}
@@ -31,11 +30,12 @@ use Rattle.meanings.specs.declared.Comparison.{Comparison}
 use Rattle.meanings.specs.declared.Comparison.the-variants.{Accepted, Refused}
 use Rattle.meanings.specs.Comparing.{sameCounts, agreed}
 use Rattle.meanings.proofs.Judging.{not-refused}
-use Rattle.meanings.proofs.Promise.{Agree, agree, release-read}
+use Rattle.meanings.proofs.Promise.{Agree, agree, few-counts, release-read}
 use Rattle.branches.specs.declared.row.Row.{Row}
 use Rattle.branches.specs.Rows.{rowOf}
 use Rattle.branches.specs.Sheets.{mostBranches, signatureAt}
 use Rattle.branches.specs.Steps.{Turn, rowAt}
+use Rattle.branches.proofs.Refusals.{sum-small}
 use Rattle.branches.proofs.Sheets.{part-room, one-signature}
 
 module _ {g s t a b : List ℕ} {n m : ℕ} {w : List ℕ} (given : Given g s t a b n m w) where
@@ -79,11 +79,8 @@ module _ {s t a b : List ℕ} {x y : Checked} (first : ReleaseRead s a x) (secon
     abbrev long : ℕ
     long = c .names + c .roles
 
-    header : Header s
-    header = header-sound s (no-header-fault s (turn .fits .first))
-
     pub long-small : long ≤ mostNames + mostRoles
-    long-small = omega (arith, agreement .first-names, agreement .first-roles, header .names, header .roles)
+    long-small = sum-small (few-counts agreement .0) (few-counts agreement .1)
 
     pub start-small : i * long ≤ mostBranches * (mostNames + mostRoles)
     start-small = let early : i ≤ mostBranches = omega (arith, turn .inside, turn .fits .few) in mul-le-mul early long-small

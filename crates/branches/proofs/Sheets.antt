@@ -5,7 +5,7 @@
 --   turn, endable             what the steps ask
 --   says                      what the call promises
 use mathlib.Core.Path.{_≡_, refl, sym, ap, subst, _∙_}
-use mathlib.Core.Bool.{Bool, true, false, false≢true}
+use mathlib.Core.Bool.{Bool, true, false}
 use mathlib.Core.List.{List, [], _∷_, _++_, append-assoc}
 use Prim.Native.Nat.{ℕ, zero, suc, _+_, _-_, _*_, _≤_, _<_}
 use native.Mathlib.Nat.{mul-le-mul-right, suc-mul}
@@ -13,17 +13,12 @@ use native.Mathlib.Omega.{arith}
 use native.Mathlib.Decide.{ℕ-discrete}
 use borrow.Author.Tests.{eqb-true, eq-eqb}
 use lib.Dec.{eqb}
-use lib.ListN.{length, getD, take, drop, set, replicate, length-append, length-take, length-drop, List·getD-append}
+use lib.ListN.{length, getD, drop, set, replicate, length-append, length-drop, List·getD-append}
 use lib.Seq.{drop-cons, set-at, getD-at, length-take-le}
 use Rattle.el.specs.Lists.{pick, all}
-use Rattle.el.specs.Comparison.{AreBytes}
-use Rattle.release.specs.Files.{fault, namesOf, rolesOf, mostNames}
-use Rattle.release.specs.Readings.{checked}
-use Rattle.release.specs.declared.Checked.{Checked}
-use Rattle.release.specs.declared.Checked.the-variants as Check
+use Rattle.el.proofs.Lists.{all-drop, all-take}
+use Rattle.release.specs.Files.{namesOf, rolesOf}
 use Rattle.release.specs.declared.Refusal.{Refusal}
-use Rattle.release.proofs.Checks.{header-sound}
-use Rattle.release.proofs.Linked.{no-header-fault}
 use Rattle.signature.specs.Bytes.{isBit, wrongByte, wrongLength, signatureFault}
 use Rattle.demands.specs.Inputs as Inputs
 use Rattle.demands.proofs.Files.{comparison-bytes}
@@ -33,12 +28,12 @@ use Rattle.meanings.specs.declared.Comparison.{Comparison}
 use Rattle.meanings.specs.declared.Comparison.the-variants.{Accepted, Refused}
 use Rattle.meanings.specs.Comparing.{workLength}
 use Rattle.meanings.proofs.Judging.{not-refused}
-use Rattle.meanings.proofs.Promise.{Agree, agree, cleared}
+use Rattle.meanings.proofs.Promise.{Agree, few-counts, cleared}
 use Rattle.branches.specs.declared.row.Row.{Row}
 use Rattle.branches.specs.Rows.{IsRow}
 use Rattle.branches.specs.Sheets.{signatureAt, noRow, Filled, Says}
 use Rattle.branches.specs.Steps.{Fits, Begun, turns, Turn, rowAt, Ended, Endable}
-use Rattle.branches.proofs.Refusals.{Enough, accepted-known}
+use Rattle.branches.proofs.Refusals.{Enough, known as sheet-known}
 
 abbrev pub rowsOf : List ℕ → List ℕ → List ℕ → ℕ → List Row
 rowsOf s t gs zero = []
@@ -74,20 +69,6 @@ module _ (s t gs : List ℕ) where
       by-place earlier (no e) = List·getD-append (rowsOf s t gs k) (rowAt s t gs k ∷ []) noRow i (let l : length (rowsOf s t gs k) ≡ k = rows-long k in omega arith) ∙ earlier (omega arith)
 
 -- one signature of many
-both-true : (a b : Bool) → pick a b false ≡ true → (a ≡ true) × (b ≡ true)
-both-true true b h = (refl, h)
-both-true false b h = absurd (false≢true h)
-
-all-drop : (p : ℕ → Bool) (k : ℕ) (xs : List ℕ) → all p xs ≡ true → all p (drop k xs) ≡ true
-all-drop p zero xs h = h
-all-drop p (suc k) [] h = h
-all-drop p (suc k) (x ∷ xs) h = all-drop p k xs (both-true (p x) (all p xs) h .1)
-
-all-take : (p : ℕ → Bool) (k : ℕ) (xs : List ℕ) → all p xs ≡ true → all p (take k xs) ≡ true
-all-take p zero xs h = refl
-all-take p (suc k) [] h = refl
-all-take p (suc k) (x ∷ xs) h = rw (both-true (p x) (all p xs) h .0) (all-take p k xs (both-true (p x) (all p xs) h .1))
-
 pub part-room : (n m q i : ℕ) → i < q → i * (n + m) + (n + m) ≤ q * (n + m)
 part-room n m q i l = omega (arith, mul-le-mul-right (n + m) l, suc-mul i (n + m))
 
@@ -107,12 +88,7 @@ one-signature n m q gs i l h = by-tests (eqb (length gs) (q * (n + m) + 0)) (all
 -- the steps
 module _ {s t gs : List ℕ} {q rows : ℕ} {w v : List ℕ} {r : Comparison} (begun : Begun s t gs q rows w v r) where
   known : {c : Compared} → r ≡ Accepted c → Agree s t c × Enough gs q rows (length w) c
-  known {c} e =
-      let z = accepted-known (checked s) (checked t) gs q rows (length w) c (sym (begun .answer) ∙ e) in
-      (agree s t c (z .0), z .1)
-
-  few-names : {c : Compared} → r ≡ Accepted c → c .names ≤ mostNames
-  few-names e = let a = known e .0 in omega (arith, a .first-names, header-sound s (no-header-fault s (a .first)) .names)
+  known e = sheet-known (sym (begun .answer) ∙ e)
 
   pub fits : {c : Compared} → r ≡ Accepted c → Fits s t gs q v
   fits e =
@@ -151,7 +127,7 @@ module _ {s t gs : List ℕ} {q rows : ℕ} {w v : List ℕ} {r : Comparison} (b
 
   pub endable : Endable r v
   unfolding size
-  endable = record { few = few-names; room = λ {c} e. rw (begun .prepared e .long) (known e .1 .work) }
+  endable = record { few = λ {c} e. few-counts (known e .0) .0; room = λ {c} e. rw (begun .prepared e .long) (known e .1 .work) }
 
   -- an accepted sheet
   module _ {c : Compared} (e : r ≡ Accepted c) where

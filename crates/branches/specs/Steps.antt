@@ -8,7 +8,7 @@
 use mathlib.Core.Path.{_≡_}
 use mathlib.Core.List.{List}
 use Prim.Native.Nat.{ℕ, _+_, _*_, _≤_, _<_}
-use lib.ListN.{length, getD, take}
+use lib.ListN.{length, take}
 use Rattle.el.specs.Answers.{comparisonBytes}
 use Rattle.release.specs.Files.{fault, namesOf, rolesOf, axiomsOf, mostNames}
 use Rattle.release.specs.declared.Refusal.{Refusal}

@@ -1,7 +1,6 @@
 // The steps of a sheet. Each deals with one signature at most, and none knows of the rows that the caller lends.
 ghost use mathlib.Core.Path.{_≡_};
-ghost use Prim.Native.Nat.{_≤_};
-ghost use lib.ListN.{length, take};
+ghost use lib.ListN.{take};
 ghost use Rattle.release.specs.Files.{axiomsOf};
 ghost use Rattle.signature.specs.Bytes.{signatureOf};
 ghost use Rattle.el.specs.Answers.{comparisonBytes};

@@ -3,22 +3,17 @@
 --   not-refused                  accepted releases with the same counts, an accepted signature and enough memory: not refused
 --   demand3                      compared in both orders, with any memory that is enough: neither is refused, each gives every
 --                                name its byte, and the releases are equal over the signature exactly when no byte is other than 0
-use mathlib.Core.Path.{_≡_, refl, sym, ap, subst, _∙_}
-use mathlib.Core.Bool.{Bool, true, _&&_}
+use mathlib.Core.Path.{_≡_, sym, subst, _∙_}
 use mathlib.Core.Logic.{_↔_}
 use mathlib.Core.List.{List}
 use Prim.Native.Nat.{ℕ, _≤_, _<_}
-use native.Mathlib.Omega.{arith}
 use borrow.Author.Tests.{eq-eqb, le-leb}
-use lib.Dec.{eqb, leb}
 use lib.ListN.{length, getD, take}
-use Rattle.el.specs.Lists.{pick}
 use Rattle.el.specs.Axioms.{Axiom}
 use Rattle.el.specs.Signatures.{Signature, EqualOver}
 use Rattle.el.specs.Comparison.{IsByte, AreBytes, ReportsNone}
 use Rattle.el.proofs.Demand3.{one-byte}
-use Rattle.release.specs.Files.{fault, namesOf, rolesOf, axiomsOf}
-use Rattle.signature.specs.Bytes.{signatureFault, signatureOf}
+use Rattle.release.specs.Files.{namesOf, rolesOf, axiomsOf}
 use Rattle.demands.specs.Inputs.{Accepted, chosen}
 use Rattle.demands.proofs.Files as Files
 use Rattle.meanings.specs.declared.Comparison.{Comparison}

@@ -1,9 +1,9 @@
 -- From the answer of a comparison and what comparing gives to what the call promises.
---   Agree, agree        what is known of two releases that agree
+--   Agree, agree, few-counts     what is known of two releases that agree
 --   limited, given      what the calls below ask
 --   refuses, compares   the promise, where it is refused and where it is not
 use mathlib.Core.Path.{_≡_, refl, sym, ap, ap₂, subst, _∙_}
-use mathlib.Core.Bool.{Bool, true, false, _&&_}
+use mathlib.Core.Bool.{Bool, true, false}
 use mathlib.Core.List.{List, [], _∷_, _++_}
 use Prim.Native.Nat.{ℕ, zero, suc, _+_, _≤_, _<_}
 use native.Mathlib.Omega.{arith}
@@ -12,21 +12,17 @@ use lib.Dec.{eqb, leb}
 use lib.ListN.{length, getD, take, drop, replicate, length-take, length-drop}
 use lib.Seq.{ext-getD, getD-take, getD-drop}
 use Rattle.el.specs.Lists.{pick}
-use Rattle.el.specs.Comparison.{AreBytes, IsByte}
+use Rattle.el.specs.Comparison.{AreBytes}
 use Rattle.release.specs.Files.{namesOf, rolesOf, axiomsOf, mostNames, mostRoles, fault}
 use Rattle.release.specs.Readings.{checked, checkedBy}
 use Rattle.release.specs.Tables.{Release, ReleaseRead}
-use Rattle.release.specs.declared.Counts.{Counts}
 use Rattle.release.specs.declared.Refusal.{Refusal}
 use Rattle.release.specs.declared.Checked.{Checked}
-use Rattle.release.specs.declared.Checked.the-variants as Check
-use Rattle.release.proofs.Checks.{Header, header-sound}
-use Rattle.release.proofs.Linked.{no-header-fault}
-use Rattle.release.proofs.Places.{read-release, read-counts}
+use Rattle.release.proofs.Limits as limits
+use Rattle.release.proofs.Limits.{limits}
 use Rattle.signature.specs.Bytes.{signatureFault, signatureOf}
 use Rattle.marks.specs.Squares.{size}
 use Rattle.comparison.specs.Compared as C
-use Rattle.demands.specs.Inputs.{chosen}
 use Rattle.meanings.specs.declared.Compared.{Compared}
 use Rattle.meanings.specs.declared.Comparison.{Comparison}
 use Rattle.meanings.specs.declared.Comparison.the-variants.{Accepted, Refused}
@@ -57,18 +53,8 @@ cleared (suc k) (x ∷ v) [] e h z p = absurd (omega arith)
 cleared (suc k) (x ∷ v) (y ∷ w) e h z p = ap₂ _∷_ (z 0 (omega arith)) (cleared k v w (omega arith) (omega arith) (λ i l. z (suc i) (omega arith)) (λ i l. p (suc i) (omega arith)))
 
 -- what checking a release says of its counts
-module _ (s t : List ℕ) (r : Checked) (read : ReleaseRead s t r) where
-  pub limited : Limited r
-  limited = record { names = λ {a} e. names a e; roles = λ {a} e. roles a e }
-    where
-      header : (a : Counts) → r ≡ Check.Accepted a → Header s
-      header a e = header-sound s (no-header-fault s (read-release s t r read a e .0 .accepted))
-
-      names : (a : Counts) → r ≡ Check.Accepted a → a .names ≤ mostNames
-      names a e = rw (← read-counts s t r read a e) (header a e .names)
-
-      roles : (a : Counts) → r ≡ Check.Accepted a → a .roles ≤ mostRoles
-      roles a e = rw (← read-counts s t r read a e) (header a e .roles)
+pub limited : (s t : List ℕ) (r : Checked) → ReleaseRead s t r → Limited r
+limited s t r read = record { names = λ {a} e. limits s a (sym (read .answer) ∙ e) .0; roles = λ {a} e. limits s a (sym (read .answer) ∙ e) .1 }
 
 -- the table of an accepted release
 pub release-read : {s a : List ℕ} {x : Checked} → ReleaseRead s a x → fault s ≡ 0 → Release s a
@@ -93,6 +79,10 @@ agree s t c h = by-faults (fault s) (fault t) refl refl h
     by-faults zero zero e f z =
         let v = same-counts _ _ c z in
         record { first = e; second = f; first-names = sym (v .counts-names); second-names = sym (v .counts-names) ∙ v .names; first-roles = sym (v .counts-roles); second-roles = sym (v .counts-roles) ∙ v .roles }
+
+-- they have few names and roles
+pub few-counts : {s t : List ℕ} {c : Compared} → Agree s t c → (c .names ≤ mostNames) × (c .roles ≤ mostRoles)
+few-counts {s} k = let h = limits.few-counts s (k .first) in (omega (arith, k .first-names, h .0), omega (arith, k .first-roles, h .1))
 
 -- an accepted comparison
 module _ {s t a b : List ℕ} {x y : Checked} (first : ReleaseRead s a x) (second : ReleaseRead t b y) (g o w : List ℕ) (answer : Comparison) (is : answer ≡ judged x y g (length o) (length w)) where

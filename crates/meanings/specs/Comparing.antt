@@ -5,7 +5,7 @@
 --   Result s t g o o2 w w2       after an accepted comparison: o2 has the names' bytes, w2 is cleared, the rest is as before
 --   Says s t g o o2 w w2 r       what the call promises of its answer r and of the memory at its end
 use mathlib.Core.Path.{_≡_}
-use mathlib.Core.Bool.{Bool, _&&_}
+use mathlib.Core.Bool.{_&&_}
 use mathlib.Core.List.{List, _++_}
 use Prim.Native.Nat.{ℕ, suc, _*_, _≤_}
 use lib.Dec.{eqb, leb}

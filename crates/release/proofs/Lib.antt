@@ -11,5 +11,6 @@ pub mod Decoding
 pub mod NormalForm
 pub mod Checks
 pub mod Linked
+pub mod Limits
 pub mod Places
 pub mod LongerFiles

@@ -1,6 +1,6 @@
 use Rattle.meanings.proofs.Judging.{first-refused, second-refused, names-differ, roles-differ, counts-same}
 use native.Mathlib.Omega.{arith}
-use mathlib.Core.Path.{_≡_, refl}
+use mathlib.Core.Path.{refl}
 use borrow.Author.Needs.{needs}
 use Rattle.meanings.proofs.agree.Statement.{statement}
 use Rattle.meanings.proofs.agree.Tie as tie

@@ -1,5 +1,3 @@
-use mathlib.Core.Path.{_≡_, refl}
-use native.Mathlib.Omega.{arith}
 use Rattle.release.proofs.Rows.{blank-table}
 use Rattle.meanings.proofs.Promise.{limited, refuses, room, given, compares}
 use borrow.Author.Needs.{needs}

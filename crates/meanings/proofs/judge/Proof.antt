@@ -1,5 +1,5 @@
 use Rattle.meanings.proofs.Judging.{not-agreed, signature-refused, result-short, work-short, accepted, agreed-limits}
-use mathlib.Core.Path.{_≡_, refl, sym, _∙_}
+use mathlib.Core.Path.{refl, sym, _∙_}
 use borrow.Author.Needs.{needs}
 use Rattle.meanings.proofs.judge.Statement.{statement}
 use Rattle.meanings.proofs.judge.Tie as tie

@@ -1,5 +1,3 @@
-use mathlib.Core.Path.{_≡_, sym, ap, _∙_}
-use lib.Dec.{ltb}
 use Rattle.meanings.proofs.Judging.{work-length}
 use borrow.Author.Needs.{needs}
 use Rattle.meanings.proofs.lacks_work.Statement.{statement}

@@ -1,7 +1,7 @@
 -- `count` is safe: an accepted release has few names and roles.
-use Rattle.sheet.proofs.Limits.{limits}
+use Rattle.release.proofs.Limits.{limits}
 use native.Mathlib.Omega.{arith}
-use mathlib.Core.Path.{_≡_, sym, _∙_}
+use mathlib.Core.Path.{sym, _∙_}
 use borrow.Author.Needs.{needs}
 use Rattle.sheet.proofs.count.Statement.{statement}
 use Rattle.sheet.proofs.count.Tie as tie

@@ -2,7 +2,7 @@ use Rattle.branches.proofs.Refusals.{sum-small, not-agreed, many-branch
 use Rattle.meanings.proofs.Judging.{agreed-limits}
 use native.Mathlib.Nat.{mul-le-mul}
 use native.Mathlib.Omega.{arith}
-use mathlib.Core.Path.{_≡_, refl, sym, _∙_}
+use mathlib.Core.Path.{refl, sym, _∙_}
 use borrow.Author.Needs.{needs}
 use Rattle.branches.proofs.judging.judge.Statement.{statement}
 use Rattle.branches.proofs.judging.judge.Tie as tie

@@ -4,7 +4,7 @@ use Rattle.el.specs.Lists.{count}
 use lib.ListN.{length, take}
 use native.Mathlib.Omega.{arith}
 use Prim.Native.Nat.{_-_, _≤_}
-use mathlib.Core.Path.{_≡_, refl, sym, ap, _∙_}
+use mathlib.Core.Path.{_≡_, refl}
 use Rattle.branches.proofs.row.count.Statement.{statement}
 use Rattle.branches.proofs.row.count.Tie as tie
 use Rattle.branches.proofs.row.count.Reads as reads

@@ -1,6 +1,4 @@
 use Rattle.branches.proofs.Counts.{share-none, share-some}
-use borrow.Author.Tests.{eq-eqb, ne-eqb}
-use mathlib.Core.Path.{_≡_, refl}
 use borrow.Author.Needs.{needs}
 use Rattle.branches.proofs.row.share.Statement.{statement}
 use Rattle.branches.proofs.row.share.Tie as tie

@@ -1,8 +1,6 @@
 use Rattle.branches.proofs.Beginning.{refuses, small-names, both-given, begins}
 use Rattle.meanings.proofs.Promise.{limited}
 use Rattle.release.proofs.Rows.{blank-table}
-use native.Mathlib.Omega.{arith}
-use mathlib.Core.Path.{_≡_, refl, sym, ap, _∙_}
 use borrow.Author.Needs.{needs}
 use Rattle.branches.proofs.steps.begin.Statement.{statement}
 use Rattle.branches.proofs.steps.begin.Tie as tie

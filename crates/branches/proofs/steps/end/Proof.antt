@@ -1,7 +1,6 @@
 use Rattle.branches.proofs.Sheets.{refused-end, accepted-end}
 use Rattle.marks.specs.Squares.{size}
 use native.Mathlib.Omega.{arith}
-use mathlib.Core.Path.{_≡_, refl, sym, ap, _∙_}
 use borrow.Author.Needs.{needs}
 use Rattle.branches.proofs.steps.end.Statement.{statement}
 use Rattle.branches.proofs.steps.end.Tie as tie

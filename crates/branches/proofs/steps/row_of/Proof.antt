@@ -1,9 +1,8 @@
 use Rattle.branches.proofs.Rows.{few-names, names-lent, take-few, bytes-told}
 use Rattle.branches.specs.Rows.{rowOf}
 use lib.Seq.{length-take-le}
-use lib.ListN.{length, take}
 use native.Mathlib.Omega.{arith}
-use mathlib.Core.Path.{_≡_, refl, sym, ap, _∙_}
+use mathlib.Core.Path.{sym, ap, _∙_}
 use borrow.Author.Needs.{needs}
 use Rattle.branches.proofs.steps.row_of.Statement.{statement}
 use Rattle.branches.proofs.steps.row_of.Tie as tie

@@ -1,2 +1,0 @@
--- What the program asks of a release.
-pub mod Limits
