@@ -17,8 +17,8 @@ use Rattle.meanings.specs.declared.Comparison.the-variants.{Accepted, Refused}
 use Rattle.release.specs.declared.Refusal.{Refusal}
 use Rattle.report.specs.declared.Written.{Written}
 use Rattle.report.specs.Numbers.{decimal}
-use Rattle.report.specs.Places.{Room, Put}
-use Rattle.report.specs.Sheets.{branch-word, chosen-word, row-left-word, share-word, mostLine}
+use Rattle.report.specs.Places.{Room, Put, mostLine}
+use Rattle.report.specs.Sheets.{branch-word, chosen-word, row-left-word, share-word}
 use Rattle.report.specs.Sheets.{worded, rowLine, rowLines, firstLines, branchesOf, sheetText, SheetWritten}
 use Rattle.report.specs.Texts.{newline, right-word, refusalLine}
 use Rattle.report.specs.Written.{WrittenAs, fitted}

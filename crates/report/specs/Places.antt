@@ -5,6 +5,7 @@
 --   LinesLength bs k       k is the length of the lines of the result bytes bs
 --   Counted side bs k      k counts the bytes bs that report on a side
 --   Numbers n m x y bs     the numbers and result bytes of a report are small
+--   mostNumber, mostWorded, mostLine     no number of a row of a sheet is greater, no word with a number and no line of a sheet is longer
 use mathlib.Core.Path.{_≡_}
 use mathlib.Core.List.{List}
 use Prim.Native.Nat.{ℕ, _+_, _*_, _≤_, _<_}
@@ -40,3 +41,15 @@ pub record Numbers (n m x y : ℕ) (bs : List ℕ) : Type 0 where
   pub left : x < 65536
   pub right : y < 65536
   pub bytes : length bs < 65536
+
+-- a number of 32 bits
+abbrev pub mostNumber : ℕ
+mostNumber = 4294967295
+
+-- a word of 8 bytes with such a number, by the bound that a number has no more digits than one more than itself
+abbrev pub mostWorded : ℕ
+mostWorded = 4294967304
+
+-- five of those and a newline
+abbrev pub mostLine : ℕ
+mostLine = 21474836521

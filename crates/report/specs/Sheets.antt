@@ -6,7 +6,6 @@
 --   branchesOf q           q, or 64 where q is above 64: an accepted sheet never has more branches
 --   sheetText a q rs       the text of a sheet of q branches with the answer a and the rows rs
 --   SheetWritten a q rs o p r      writing it answers r, and the output, o before, is p after it
---   mostNumber, mostWorded, mostLine     no number of a row is greater, no word with a number and no line is longer
 use mathlib.Core.List.{List, [], _∷_, _++_}
 use Prim.Native.Nat.{ℕ, suc}
 use lib.Dec.{ltb}
@@ -65,15 +64,3 @@ sheetText (Refused refusal) q rs = refusalLine (refusal .number) (refusal .side)
 
 abbrev pub SheetWritten : Comparison → ℕ → List Row → List ℕ → List ℕ → Written → Type 0
 SheetWritten a q rs o output answer = WrittenAs (fitted (sheetText a q rs) o) (sheetText a q rs) o output answer
-
--- a number of 32 bits
-abbrev pub mostNumber : ℕ
-mostNumber = 4294967295
-
--- a word of 8 bytes with such a number, by the bound that a number has no more digits than one more than itself
-abbrev pub mostWorded : ℕ
-mostWorded = 4294967304
-
--- five of those and a newline
-abbrev pub mostLine : ℕ
-mostLine = 21474836521

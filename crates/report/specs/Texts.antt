@@ -6,7 +6,7 @@
 --   refusalLine k s        the one line of a refusal with number k and side s
 use mathlib.Core.Bool.{Bool, _||_}
 use mathlib.Core.List.{List, [], _∷_, _++_}
-use Prim.Native.Nat.{ℕ, suc, _+_}
+use Prim.Native.Nat.{ℕ, suc}
 use lib.Dec.{eqb}
 use Rattle.el.specs.Comparison.{onLeft, onRight, isReported}
 use Rattle.el.specs.Lists.{pick, count}
