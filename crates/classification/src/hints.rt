@@ -1,6 +1,6 @@
 // Where to look, by hints behind the square of inclusions: for each node what lies below it, the restrictions with this filler, and the
 // defined conjunctions with this conjunct. Nothing is said of what they hold, so whoever reads a name from them tests what it asks of it.
-ghost use Prim.Native.Nat.{_≤_, _<_};
+ghost use Prim.Native.Nat.{_<_};
 ghost use mathlib.Core.Path.{_≡_};
 ghost use mathlib.Core.Bool.{true};
 ghost use Rattle.release.specs.Files.{joins, restricts};

@@ -11,9 +11,9 @@ use Prim.Native.Nat.{ℕ, zero, suc, _+_, _≤_, _<_}
 use native.Mathlib.Omega.{arith}
 use borrow.Author.Tests.{leb-true, le-leb, eqb-true}
 use lib.Dec.{ltb, leb, eqb}
-use lib.ListN.{length, drop, length-drop}
+use lib.ListN.{length, length-drop}
 use Rattle.el.specs.Lists.{pick}
-use Rattle.el.specs.Concepts.{Concept, top, name, both, some}
+use Rattle.el.specs.Concepts.{Concept}
 use Rattle.concept.specs.Bytes.{number, Spelled, is-top, is-name, is-both, is-some, isWithin, longest, IsTextOf}
 use Rattle.concept.specs.Bytes.{Parsed, parsed, notParsed, nameFrom, bothFrom, someFrom, conceptFrom, readConcept, conceptOk}
 

@@ -11,7 +11,7 @@ use Prim.Native.Nat.{ℕ, zero, suc, _+_, _-_, _*_, _/_, _%_, _^_, _≤_, _<_, m
 use native.Mathlib.Nat.{mod-lt, div-eq-of-lt, zero-lt-suc, one-mul, not-suc-le-zero, le-of-suc-le-suc}
 use native.Mathlib.Omega.{arith}
 use native.Mathlib.Decide.{ℕ-discrete, decLt}
-use lib.Bits.{bitOr, bitAnd, bitXor, differ, or-shr, or-step, xor-shr, xor-step, or-add-and, xor-add-and, and-le-l, and-le-r}
+use lib.Bits.{bitOr, bitXor, differ, or-shr, or-step, xor-shr, xor-step, or-add-and, xor-add-and, and-le-l, and-le-r}
 use lib.Pow.{pow-pos, pow-lt, pow-add, shl-shr, shl-exact, shr-shr}
 use lib.ListN.{length, getD, set}
 use lib.Seq.{getD-set-same, getD-set-other}

@@ -4,20 +4,18 @@
 --   covering-joined, covering-none     the line of what needs no look
 --   near-one, near-none, known-start, known-more, known-end     the rows above a row, looked at one after the other
 --   done-none, done-more, rest-none, rest-done, rest-more, rest-end     all rows, one after the other
-use mathlib.Core.Path.{_≡_, refl, sym, ap, _∙_}
-use mathlib.Core.Bool.{Bool, true, false}
+use mathlib.Core.Path.{_≡_}
+use mathlib.Core.Bool.{Bool}
 use mathlib.Core.List.{List}
-use mathlib.Core.Logic.{_⊎_, inl, inr}
-use Prim.Native.Nat.{ℕ, suc, _+_, _-_, _*_, _/_, _%_, _≤_, _<_}
+use mathlib.Core.Logic.{inl, inr}
+use Prim.Native.Nat.{ℕ, _+_, _-_, _*_, _%_, _≤_, _<_}
 use native.Mathlib.Omega.{arith}
 use native.Mathlib.Decide.{ℕ-discrete, decLt}
-use lib.ListN.{length, getD}
-use Rattle.el.proofs.Tests.{Tells}
 use Rattle.marks.specs.declared.Square.{Square}
-use Rattle.marks.specs.Squares.{bit, place, Marked, Extends, Within}
+use Rattle.marks.specs.Squares.{place, Marked, Extends, Within}
 use Rattle.marks.specs.Passes.{Grows, none, more, Pass, Below, FromRow}
 use Rattle.marks.specs.Lines.{Has, Empty, Added, Joined, NextOutside}
-use Rattle.marks.specs.Inclusions.{Taking, Giving, Every, Takes, Gives, Done, Given, Rest, Covering, Near, Others}
+use Rattle.marks.specs.Inclusions.{Taking, Giving, Every, Done, Given, Rest, Covering, Near, Others}
 use Rattle.marks.proofs.Squares.{column-bit}
 use Rattle.marks.proofs.Passes.{pass-by, below-none, below-more, below-end}
 

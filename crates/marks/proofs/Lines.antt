@@ -9,18 +9,17 @@ use mathlib.Core.Bool.{Bool, true, false}
 use mathlib.Core.List.{List}
 use mathlib.Core.Logic.{_⊎_, inl, inr}
 use Prim.Native.Nat.{ℕ, suc, _+_, _*_, _/_, _%_, _^_, _≤_, _<_, max, zero}
-use native.Mathlib.Nat.{mod-lt, zero-lt-suc}
 use native.Mathlib.Omega.{arith}
-use native.Mathlib.Decide.{ℕ-discrete, decLt}
-use lib.ListN.{length, getD, set, length-set, replicate}
+use native.Mathlib.Decide.{ℕ-discrete}
+use lib.ListN.{length, getD, length-set, replicate}
 use lib.Bits.{bitOr, bitXor}
 use Rattle.el.proofs.Tests.{Tells, always, never}
 use Rattle.marks.specs.declared.Square.{Square}
-use Rattle.marks.specs.Squares.{bit, place, Room, Place, Marked, Put, Extends}
+use Rattle.marks.specs.Squares.{bit, place, Room, Marked, Put}
 use Rattle.marks.specs.Passes.{Grows, none, more, Pass}
-use Rattle.marks.specs.Lines.{Has, Spans, Empty, Added, Joined, NextOutside, Missing, Full}
-use Rattle.marks.proofs.Bits.{bit-small, bit-same, bit-other, both-zero, no-high-bit, outside-bit, not-outside, not-bit, bit-of-not, bit-of-zero, bit-or, orAt, or-stays, or-has, or-only}
-use Rattle.marks.proofs.Squares.{not-true, not-false, place-column, column-bit, row-place, or-row}
+use Rattle.marks.specs.Lines.{Has, Empty, Added, Joined, NextOutside, Missing, Full}
+use Rattle.marks.proofs.Bits.{bit-small, bit-same, bit-other, both-zero, not-bit, bit-of-not, bit-of-zero, bit-or, orAt, or-stays, or-has, or-only}
+use Rattle.marks.proofs.Squares.{not-true, place-column, column-bit, or-row}
 use Rattle.marks.proofs.Passes.{room-stays, unset-falls, put-grows, grows-further}
 
 -- one column

@@ -1,9 +1,9 @@
 -- Laws of a square whose rows become columns, one after the other.
-use mathlib.Core.Path.{_≡_, refl, sym}
+use mathlib.Core.Path.{_≡_}
 use mathlib.Core.Bool.{Bool}
 use mathlib.Core.List.{List}
 use mathlib.Core.Logic.{inl, inr}
-use Prim.Native.Nat.{ℕ, suc, _+_, _≤_, _<_}
+use Prim.Native.Nat.{ℕ, _+_, _≤_, _<_}
 use native.Mathlib.Omega.{arith}
 use native.Mathlib.Decide.{ℕ-discrete, decLt}
 use Rattle.marks.specs.declared.Square.{Square}

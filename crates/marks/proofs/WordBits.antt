@@ -3,7 +3,6 @@
 --   first-bit                          what counting the zeros at the low end of a number gives
 --   rest-of-word, rest-of-byte         the bits of a row from a column on;  end-after, end-near: where they end
 use mathlib.Core.Path.{_≡_, refl, sym, ap, _∙_}
-use mathlib.Core.Bool.{Bool, true, false}
 use mathlib.Core.List.{List}
 use Prim.Native.Nat.{ℕ, zero, suc, _+_, _-_, _*_, _/_, _%_, _^_, _≤_, _<_}
 use native.Mathlib.Nat.{lt-of-lt-of-le, div-eq-of-lt, pow-suc, not-suc-le-zero, le-of-suc-le-suc}
@@ -11,7 +10,6 @@ use native.Mathlib.Omega.{arith}
 use native.Mathlib.Decide.{decLt, decLe}
 use borrow.Author.Tests.{le-leb, lt-leb}
 use lib.Count.{trailingZeros, under}
-use lib.Dec.{leb}
 use lib.ListN.{getD}
 use lib.Pow.{pow-add, pow-mono, shr-shr, shr-lt}
 use Rattle.marks.specs.Squares.{bit}

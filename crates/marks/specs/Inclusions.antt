@@ -13,7 +13,6 @@ use mathlib.Core.Path.{_≡_}
 use mathlib.Core.List.{List}
 use mathlib.Core.Logic.{_⊎_}
 use Prim.Native.Nat.{ℕ, suc, _≤_, _<_}
-use lib.ListN.{length}
 use Rattle.marks.specs.declared.Square.{Square}
 use Rattle.marks.specs.Squares.{Marked, Within}
 use Rattle.marks.specs.Passes.{Below}

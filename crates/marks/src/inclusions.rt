@@ -1,7 +1,6 @@
 // Marks handed along the inclusions of another square, or of the same one: a row takes the marks of the rows above it, or gives its own
 // to them. What lies above a row that is done needs no look of its own, once that row is looked at.
-ghost use mathlib.Core.Path.{_≡_};
-ghost use Prim.Native.Nat.{suc, _≤_, _<_};
+ghost use Prim.Native.Nat.{suc, _≤_};
 ghost use Rattle.marks.specs.Squares.{Room, Marked, Within};
 ghost use Rattle.marks.specs.Passes.{Pass, Below};
 ghost use Rattle.marks.specs.Lines.{Spans, Empty};

@@ -7,14 +7,14 @@
 -- Not here: what the atoms mean (Roots).
 use mathlib.Core.Path.{_≡_, refl, sym, ap, _∙_}
 use mathlib.Core.List.{List, [], _∷_, _++_}
-use Prim.Native.Nat.{ℕ, zero, suc, _+_, _*_, _-_, _≤_, _<_}
+use Prim.Native.Nat.{ℕ, zero, suc, _+_, _*_, _≤_, _<_}
 use native.Mathlib.Numerals.{add-one}
 use native.Mathlib.Omega.{arith}
 use native.Mathlib.Decide.{ℕ-discrete}
 use borrow.Author.Tests.{eq-eqb, ne-eqb}
 use lib.ListN.{length, getD, set, length-set}
 use lib.Seq.{getD-set-same, getD-set-other}
-use Rattle.el.specs.Concepts.{Concept, top, both}
+use Rattle.el.specs.Concepts.{top, both}
 use Rattle.outline.specs.Atoms.{valueAt, ownerAt, childAt, putAtom, Atom, atomAt, atomsFrom, atomConcept, rootOf}
 use Rattle.outline.proofs.Roots.{atom}
 

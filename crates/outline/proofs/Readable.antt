@@ -4,19 +4,18 @@
 --   Scan w n m s at p     s is the text of a concept exactly where p concepts stand from the place at on
 --   after-..              a kind byte leads on to the text after it, with a concept fewer or more to read; or there is no such text
 use mathlib.Core.Path.{_≡_, refl, sym, ap, _∙_}
-use mathlib.Core.Logic.{_↔_}
 use mathlib.Core.Bool.{Bool, true, false}
 use mathlib.Core.List.{List, [], _∷_}
-use Prim.Native.Nat.{ℕ, zero, suc, _+_, _*_, _-_, _≤_, _<_}
+use Prim.Native.Nat.{ℕ, suc, _+_, _*_, _-_, _≤_, _<_}
 use native.Mathlib.Numerals.{add-one}
 use native.Mathlib.Omega.{arith}
 use borrow.Author.Tests.{lt-ltb, ltb-true, lt-leb, eqb-true, eqb-false}
-use lib.Dec.{eqb, ltb, leb}
+use lib.Dec.{eqb, ltb}
 use lib.ListN.{length, getD, drop, drop-of-length-le, length-drop}
 use lib.Seq.{drop-cons, drop-drop}
-use Rattle.el.specs.Concepts.{Concept, top, name, both, some}
+use Rattle.el.specs.Concepts.{Concept}
 use Rattle.el.proofs.Tests.{and-left, and-right, and-both}
-use Rattle.concept.specs.Bytes.{number, Spelled, is-top, is-name, is-both, is-some, isWithin, longest, conceptOk, IsTextOf}
+use Rattle.concept.specs.Bytes.{number, Spelled, is-top, is-name, is-both, is-some, isWithin, longest, conceptOk}
 use Rattle.concept.proofs.Texts.{text-is-accepted, refused-exactly}
 
 pub data Readable (w n m : ℕ) : ℕ → List ℕ → Type 0 where

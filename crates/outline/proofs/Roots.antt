@@ -7,15 +7,15 @@
 use mathlib.Core.Path.{_≡_, refl}
 use mathlib.Core.Bool.{Bool, true, false}
 use mathlib.Core.List.{List, [], _∷_}
-use Prim.Native.Nat.{ℕ, zero, suc, _<_}
+use Prim.Native.Nat.{ℕ, suc, _<_}
 use native.Mathlib.Omega.{arith}
 use borrow.Author.Tests.{eq-eqb, ne-eqb}
 use lib.Dec.{eqb}
 use Rattle.el.specs.Lists.{pick}
 use Rattle.el.specs.Concepts.{Concept, top, name, both, some}
 use Rattle.el.specs.Axioms.{Axiom}
-use Rattle.el.specs.Derivability.{Derives, same, to-top, one, other, meet, under, chain}
-use Rattle.outline.specs.Atoms.{Atom, atomConcept, rootOf, Same}
+use Rattle.el.specs.Derivability.{same, to-top, one, other, meet, under, chain}
+use Rattle.outline.specs.Atoms.{Atom, rootOf, Same}
 
 pub data Pending : Type 0 where
   awaits : ℕ → Concept → Pending

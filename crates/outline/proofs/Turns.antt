@@ -12,14 +12,12 @@ use borrow.Author.Tests.{ltb-true}
 use lib.Dec.{ltb}
 use lib.ListN.{length, getD, set, drop, length-set, length-drop}
 use lib.Seq.{drop-cons, drop-drop, getD-set-same, getD-set-other}
-use Rattle.el.specs.Concepts.{Concept, top, name, both, some}
-use Rattle.el.specs.Axioms.{Axiom}
+use Rattle.el.specs.Concepts.{Concept, some}
 use Rattle.el.proofs.Tests.{and-left, and-right}
 use Rattle.release.specs.Tables.{IsWidth}
 use Rattle.concept.specs.Bytes.{number, Spelled, is-top, is-name, is-both, is-some, isWithin, IsTextOf}
-use Rattle.outline.specs.declared.Extent.{Extent}
-use Rattle.outline.specs.Atoms.{HasAtom, putAtom, Atom, atomsFrom, Shape, Same, Outlined, Outlinable}
-use Rattle.outline.proofs.Roots.{Pending, awaits, atom, Reads, done, read-top, read-name, read-both, read-some, OwnersBelow, owners-more, reads-mean, pendingOf, same-chain, same-without-top}
+use Rattle.outline.specs.Atoms.{putAtom, Atom, atomsFrom, Outlined, Outlinable}
+use Rattle.outline.proofs.Roots.{Pending, awaits, atom, Reads, done, read-top, read-name, read-both, read-some, OwnersBelow, owners-more, reads-mean, same-chain, same-without-top}
 use Rattle.outline.proofs.Readable.{byte-number}
 use Rattle.outline.proofs.Atoms.{put-length, Written, written-none, written-more, atoms-more}
 

@@ -1,7 +1,6 @@
 // A concept's outline: its conjuncts, and the conjuncts of each ∃'s filler, as one flat list of atoms. A root is the whole concept, numbered 0, or
 // the filler of an ∃, numbered in the order of reading.
 ghost use mathlib.Core.Path.{_≡_};
-ghost use mathlib.Core.List.{List};
 ghost use Prim.Native.Nat.{ℕ};
 ghost use lib.ListN.{drop};
 ghost use Rattle.el.specs.Concepts.{Concept};

@@ -2,14 +2,12 @@
 --   same-cell                              a place of a row is of no other row
 --   adds-none, adds-more, adds-skipped     the start of a row's loop, a turn that sets the place, and one that does not
 --   adds-row                               another row has what it had
-use mathlib.Core.Path.{_≡_, refl, sym, ap, _∙_}
+use mathlib.Core.Path.{_≡_, refl, _∙_}
 use mathlib.Core.Logic.{_⊎_, inl, inr}
-use mathlib.Core.Bool.{Bool, true, false}
 use mathlib.Core.List.{List}
-use Prim.Native.Nat.{ℕ, suc, _+_, _≤_, _<_}
+use Prim.Native.Nat.{ℕ, _+_, _<_}
 use native.Mathlib.Omega.{arith}
 use native.Mathlib.Decide.{ℕ-discrete}
-use lib.ListN.{length}
 use Rattle.marks.specs.Lines.{Added}
 use Rattle.points.specs.Grids.{mostNodes, cell, Grid, Set, Adds}
 

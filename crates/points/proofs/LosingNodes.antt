@@ -1,9 +1,9 @@
 -- What the tests show of the nodes below an atom: one law for each answer and each turn.
-use mathlib.Core.Path.{_≡_, refl, sym, ap, _∙_}
+use mathlib.Core.Path.{_≡_, sym, _∙_}
 use mathlib.Core.Bool.{Bool, true, false}
 use mathlib.Core.List.{List}
 use mathlib.Core.Logic.{inl, inr}
-use Prim.Native.Nat.{ℕ, suc, _*_, _+_, _≤_, _<_}
+use Prim.Native.Nat.{ℕ, _+_, _≤_, _<_}
 use native.Mathlib.Omega.{arith}
 use native.Mathlib.Decide.{ℕ-discrete, decLt}
 use Rattle.el.proofs.Tests.{Tells, tells-as, always, never, not-both}
@@ -14,8 +14,8 @@ use Rattle.marks.specs.Lines.{Has, Spans, Empty, Added, NextOutside}
 use Rattle.marks.specs.Squares.{Marked}
 use Rattle.marks.proofs.Squares.{refuted}
 use Rattle.outline.specs.Atoms.{valueAt, ownerAt, childAt}
-use Rattle.points.specs.Grids.{mostRoots, mostNodes, cell, Grid, Set, Adds}
-use Rattle.points.specs.Nodes.{Serves, Leads, Idle, Ranged, NodeReaches, NodeBelow, below-name, below-some, Inclusive, FromNode, OfAtom}
+use Rattle.points.specs.Grids.{mostNodes, cell, Set, Adds}
+use Rattle.points.specs.Nodes.{Serves, Leads, Idle, Ranged, NodeReaches, NodeBelow, below-name, below-some, Inclusive, OfAtom}
 use Rattle.points.proofs.Grids.{adds-more, adds-skipped, adds-row, adds-grid}
 
 -- one name

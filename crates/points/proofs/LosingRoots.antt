@@ -1,19 +1,18 @@
 -- What the tests show of the roots below an atom: one law for each answer and each turn.
-use mathlib.Core.Path.{_≡_, refl, sym, ap, _∙_}
+use mathlib.Core.Path.{_≡_, sym, _∙_}
 use mathlib.Core.Bool.{Bool, true, false}
 use mathlib.Core.List.{List}
-use Prim.Native.Nat.{ℕ, suc, _*_, _+_, _≤_, _<_}
+use Prim.Native.Nat.{ℕ, _+_, _≤_, _<_}
 use native.Mathlib.Omega.{arith}
 use native.Mathlib.Decide.{ℕ-discrete}
 use lib.Dec.{eqb}
-use lib.ListN.{length}
 use Rattle.el.proofs.Tests.{Tells, tells-as, tells-eq, always, never}
 use Rattle.marks.specs.declared.Square.{Square}
 use Rattle.marks.specs.Lines.{Added}
 use Rattle.marks.proofs.Squares.{refuted}
 use Rattle.outline.specs.declared.Extent.{Extent}
 use Rattle.outline.specs.Atoms.{valueAt, ownerAt, childAt}
-use Rattle.points.specs.Grids.{mostRoots, mostNodes, cell, Grid, Set, Adds}
+use Rattle.points.specs.Grids.{mostRoots, mostNodes, cell, Set, Adds}
 use Rattle.points.specs.Above.{RootBelow}
 use Rattle.points.specs.Nodes.{NodeReaches}
 use Rattle.points.specs.Roots.{AtomReaches, name-reaches, some-reaches, RootReaches, RootBelowAtom, root-below-name, root-below-some, FromRoot, FromRoots, OfAtom}

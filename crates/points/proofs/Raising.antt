@@ -1,20 +1,19 @@
 -- What the tests show of what lies above roots: one law for each answer and each turn.
-use mathlib.Core.Path.{_≡_, refl, sym, ap, _∙_}
+use mathlib.Core.Path.{_≡_}
 use mathlib.Core.Bool.{Bool, true, false}
 use mathlib.Core.List.{List}
-use Prim.Native.Nat.{ℕ, _*_, _+_, _≤_, _<_}
+use Prim.Native.Nat.{ℕ, _+_, _≤_, _<_}
 use native.Mathlib.Omega.{arith}
 use native.Mathlib.Decide.{ℕ-discrete}
-use lib.ListN.{length}
 use Rattle.el.proofs.Tests.{Tells, tells-as, always, never}
 use Rattle.release.specs.Files.{joins, restricts}
-use Rattle.release.specs.Tables.{kindAt, roleAt, fillerAt, countAt, partAt, Shaped, Conjunctive, HasRow}
+use Rattle.release.specs.Tables.{kindAt, roleAt, fillerAt, countAt, partAt, Conjunctive}
 use Rattle.marks.specs.declared.Square.{Square}
 use Rattle.marks.specs.Lines.{Added}
 use Rattle.marks.specs.Squares.{Marked}
 use Rattle.marks.proofs.Squares.{refuted}
-use Rattle.outline.specs.Atoms.{valueAt, ownerAt, childAt, HasAtom}
-use Rattle.points.specs.Grids.{mostRoots, mostNodes, cell, Grid, Set, Adds}
+use Rattle.outline.specs.Atoms.{valueAt, ownerAt, childAt}
+use Rattle.points.specs.Grids.{mostNodes, cell, Set, Adds}
 use Rattle.points.specs.Above.{Ranges, PartsSet, RootBelow, top-above, parts-above, name-above, AtomBelow, name-below, some-below, InRow, OfAtom}
 use Rattle.points.proofs.Grids.{adds-more, adds-skipped, adds-row, adds-grid}
 

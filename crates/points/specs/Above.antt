@@ -4,14 +4,13 @@
 --   AtomBelow s t q w o a i y      atom i of the outline o lies below the name y, which is not defined by a conjunction
 --   Risen .. i a b                 the row of atom i's owner gained the names that lie above the atom
 use mathlib.Core.Path.{_≡_}
-use mathlib.Core.Bool.{true}
 use mathlib.Core.List.{List}
 use Prim.Native.Nat.{ℕ, _*_, _+_, _≤_, _<_}
 use lib.ListN.{length}
 use Rattle.release.specs.Tables.{kindAt, roleAt, fillerAt, countAt, partAt, Shaped}
 use Rattle.marks.specs.declared.Square.{Square}
 use Rattle.marks.specs.Squares.{Room, Marked}
-use Rattle.outline.specs.Atoms.{valueAt, ownerAt, childAt, HasAtom}
+use Rattle.outline.specs.Atoms.{valueAt, ownerAt, childAt}
 use Rattle.points.specs.Grids.{mostRoots, mostNodes, Grid, Set, Adds}
 
 pub record Ranges (n : ℕ) (s t : List ℕ) : Type 0 where

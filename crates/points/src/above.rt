@@ -1,14 +1,12 @@
 // The names above each root of a concept, by its outline. A row has the names that are not defined by a conjunction; the others, and ⊤, follow from those.
 ghost use Prim.Native.Nat.{_≤_, _<_};
 ghost use Rattle.el.proofs.Tests.{Tells};
-ghost use Rattle.outline.specs.Atoms.{Shape};
 ghost use Rattle.points.specs.Grids.{mostRoots, Grid};
 ghost use Rattle.points.specs.Above.{Ranges, PartsSet, RootBelow, AtomBelow, InRow, OfAtom, Risen};
 use crate::is_set;
 use crate::set;
 use marks::Square;
 use marks::is_marked;
-use outline::Extent;
 use outline::child;
 use outline::owner;
 use outline::value;

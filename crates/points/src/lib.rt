@@ -1,6 +1,6 @@
 // Which roots and nodes lie below a concept D, by its outline: a row of marks for each root of D. The points are the nodes of the release and the roots
 // of another concept C.
-ghost use Prim.Native.Nat.{_+_, _≤_, _<_};
+ghost use Prim.Native.Nat.{_+_, _<_};
 ghost use Rattle.el.proofs.Tests.{Tells};
 ghost use Rattle.marks.specs.Lines.{Added};
 ghost use Rattle.points.specs.Grids.{mostRoots, mostNodes, cell, Grid, Set};

@@ -1,5 +1,5 @@
 // The roots of a concept C that do not lie below an atom of a concept D: its row loses them.
-ghost use Prim.Native.Nat.{_≤_, _<_};
+ghost use Prim.Native.Nat.{_<_};
 ghost use Rattle.el.proofs.Tests.{Tells};
 ghost use Rattle.outline.specs.Atoms.{valueAt, childAt};
 ghost use Rattle.points.specs.Nodes.{Idle};

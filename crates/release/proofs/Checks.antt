@@ -1,19 +1,19 @@
 -- The whole file: what is known after the header, and the answer in each case.
-use mathlib.Core.Path.{_≡_, refl, sym, ap, _∙_}
+use mathlib.Core.Path.{_≡_, refl, sym, _∙_}
 use mathlib.Core.Bool.{Bool, true, false, not, true≢false}
 use mathlib.Core.List.{List}
-use Prim.Native.Nat.{ℕ, zero, suc, _+_, _*_, _≤_, _<_}
+use Prim.Native.Nat.{ℕ, zero, suc, _≤_}
 use native.Mathlib.Omega.{arith}
 use borrow.Author.Tests.{ltb-false}
-use lib.Dec.{eqb, ltb}
-use lib.ListN.{length, getD}
+use lib.Dec.{ltb}
+use lib.ListN.{length}
 use Rattle.el.specs.Lists.{pick}
 use Rattle.el.proofs.Tests.{Tells}
 use Rattle.release.specs.declared.Checked.{Checked}
 use Rattle.release.specs.declared.Checked.the-variants.{Accepted, Refused}
-use Rattle.release.specs.Files.{mark, startsWith, isVersion, versionOf, widthOf, namesOf, rolesOf, countOf, headerLength, firstPlace, mostNames, mostNamesOf, mostRoles, headerFault, axiomsFault, axiomsOf, conjunctDefined, firstOf, fault}
-use Rattle.release.specs.Readings.{checkedBy, checked}
-use Rattle.release.specs.Tables.{kindAt, HasHeader, Ready, AxiomsRead, Decoded, Shaped, SomePartDefined, Blank, ReleaseRead}
+use Rattle.release.specs.Files.{mark, startsWith, isVersion, versionOf, widthOf, namesOf, rolesOf, countOf, headerLength, firstPlace, mostNames, mostNamesOf, mostRoles, headerFault, axiomsFault, axiomsOf, conjunctDefined, fault}
+use Rattle.release.specs.Readings.{checked}
+use Rattle.release.specs.Tables.{HasHeader, Ready, AxiomsRead, Shaped, SomePartDefined, Blank, ReleaseRead}
 use Rattle.release.proofs.Numbers.{limit-within}
 use Rattle.release.proofs.Sound.{passed}
 use Rattle.release.proofs.Decoding.{shaped}

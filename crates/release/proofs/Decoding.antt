@@ -2,26 +2,20 @@
 --   Holds n s t q       the row of the axiom at place q, by the file's bytes
 --   shaped              the table of axioms without fault has the ranges that loops rely on
 --   defined-parts       refusal 15 is met exactly where the table has a conjunct that is itself of kind 2
-use mathlib.Core.Path.{_≡_, refl, sym, ap, subst, _∙_}
-use mathlib.Core.Bool.{Bool, true, false, _&&_, _||_, true≢false, false≢true}
-use mathlib.Core.Logic.{_⊎_, inl, inr}
-use mathlib.Core.List.{List, [], _∷_}
+use mathlib.Core.Path.{_≡_, refl, sym, _∙_}
+use mathlib.Core.Bool.{Bool, true, false, true≢false, false≢true}
+use mathlib.Core.List.{List, []}
 use Prim.Native.Nat.{ℕ, zero, suc, _+_, _*_, _≤_, _<_}
-use native.Mathlib.Nat.{add-assoc}
 use native.Mathlib.Omega.{arith}
-use borrow.Author.Tests.{eqb-true, eq-eqb}
-use lib.Dec.{eqb, ltb}
 use lib.ListN.{length, getD}
-use Rattle.el.specs.Lists.{In, first, later, pick, any}
-use Rattle.el.specs.Axioms.{Axiom, Right, conjunction, restriction, isConjunction, partsOf}
-use Rattle.el.proofs.Lists.{Some}
-use Rattle.el.proofs.Tests.{Tells, tells-as, tells-true, tells-eq, tells-and, tells-any}
-use Rattle.release.specs.Files.{number, numbers, widthOf, firstPlace, joins, restricts, defines, axiomLength, axiomFault, axiomsFault, axiomAt, axiomsFrom, firstOf, fillerNode, definesConjunction, conjunctDefined}
+use Rattle.el.specs.Lists.{In, first, later}
+use Rattle.el.specs.Axioms.{Axiom, isConjunction, partsOf}
+use Rattle.release.specs.Files.{number, numbers, widthOf, firstPlace, joins, restricts, axiomLength, axiomsFault, axiomAt, axiomsFrom, firstOf, fillerNode}
 use Rattle.release.specs.Readings.{nodeNumber, entryOf}
-use Rattle.release.specs.Tables.{kindAt, roleAt, fillerAt, tailAt, countAt, partAt, Stands, here, there, Row, entryAt, Origin, blank, of-axiom, Decoded, Shaped, PartDefined, SomePartDefined}
+use Rattle.release.specs.Tables.{kindAt, roleAt, fillerAt, tailAt, countAt, partAt, Stands, here, there, Row, entryAt, blank, of-axiom, Decoded, Shaped}
 use Rattle.release.proofs.Sound.{Sound, axiom-sound, Tail, joined, restricted, Joined}
 use Rattle.release.proofs.Faults.{restricts-not-joins}
-use Rattle.release.proofs.Scan.{entry-left, filler-node}
+use Rattle.release.proofs.Scan.{filler-node}
 
 -- a row by the file's bytes
 pub record Holds (n : ℕ) (s t : List ℕ) (q : ℕ) : Type 0 where

@@ -1,10 +1,9 @@
 -- The search for a conjunct that is itself a left name of kind 2, through one name's conjuncts and through the names.
-use mathlib.Core.Path.{_≡_, sym, _∙_}
+use mathlib.Core.Path.{_≡_}
 use mathlib.Core.Bool.{true, false}
 use mathlib.Core.List.{List}
 use Prim.Native.Nat.{ℕ, _+_, _≤_, _<_}
 use native.Mathlib.Omega.{arith}
-use lib.ListN.{length}
 use borrow.Author.Count.{below-more}
 use Rattle.el.proofs.Tests.{Tells, never, always}
 use Rattle.release.specs.Files.{joins, widthOf}

@@ -1,7 +1,7 @@
 -- Laws of the refusals of one axiom: which number is met where, in the order in which the bytes are read.
 -- Each law's premises are what the code has tested when it answers; `x` is a byte of the file that it has read.
 -- Not here: the axioms one after the other (Axioms).
-use mathlib.Core.Path.{_≡_, refl, sym, ap, _∙_}
+use mathlib.Core.Path.{_≡_, refl, ap, _∙_}
 use mathlib.Core.Bool.{Bool, true, false, _||_, false≢true}
 use mathlib.Core.Logic.{_⊎_, inl, inr}
 use mathlib.Core.List.{List}
@@ -9,7 +9,7 @@ use Prim.Native.Nat.{ℕ, zero, suc, _+_, _-_, _≤_, _<_}
 use native.Mathlib.Numerals.{add-one}
 use native.Mathlib.Omega.{arith}
 use borrow.Author.Tests.{lt-ltb, le-ltb, le-leb, lt-leb, eq-eqb, ne-eqb}
-use lib.Dec.{eqb, ltb, leb}
+use lib.Dec.{ltb}
 use lib.ListN.{length, getD}
 use Rattle.release.specs.Files.{number, partsFault, conjunctionFault, restrictionFault, mostConjuncts, topNumber, isFiller, joins, restricts}
 

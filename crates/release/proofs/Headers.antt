@@ -1,15 +1,13 @@
 -- Laws of the header's refusals, 1 to 6, in their order.
 use mathlib.Core.Path.{_≡_, refl, ap₂, _∙_}
-use mathlib.Core.Bool.{Bool, true, false, _&&_, not}
-use mathlib.Core.List.{List, [], _∷_}
+use mathlib.Core.Bool.{true, false, _&&_, not}
+use mathlib.Core.List.{List}
 use Prim.Native.Nat.{ℕ, suc, _+_, _≤_, _<_}
 use native.Mathlib.Numerals.{add-one}
-use native.Mathlib.Omega.{arith}
-use borrow.Author.Tests.{lt-ltb, le-ltb, eq-eqb, ne-eqb, ltb-false, eqb-true}
-use lib.Dec.{eqb, ltb}
+use borrow.Author.Tests.{lt-ltb, le-ltb, eq-eqb, ne-eqb}
+use lib.Dec.{eqb}
 use lib.ListN.{length, getD, drop, drop-of-length-le}
 use lib.Seq.{drop-cons}
-use Rattle.el.specs.Lists.{pick}
 use Rattle.release.specs.Files.{mark, startsWith, isVersion, versionOf, widthOf, namesOf, rolesOf, countOf, headerLength, firstPlace, mostNamesOf, mostRoles, headerFault}
 
 -- the mark, byte by byte

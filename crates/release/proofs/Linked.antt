@@ -7,25 +7,23 @@
 use mathlib.Core.Path.{_≡_, refl, sym, ap, subst, _∙_}
 use mathlib.Core.Bool.{Bool, true, false, _||_, true≢false, false≢true}
 use mathlib.Core.Logic.{_⊎_, inl, inr}
-use mathlib.Core.List.{List, [], _∷_}
-use Prim.Native.Nat.{ℕ, zero, suc, _+_, _≤_, _<_}
+use mathlib.Core.List.{List, []}
+use Prim.Native.Nat.{ℕ, zero, suc, _+_, _<_}
 use native.Mathlib.Omega.{arith}
 use borrow.Author.Tests.{ltb-true}
 use lib.Dec.{eqb, ltb}
 use lib.ListN.{getD}
-use Rattle.el.specs.Lists.{In, first, later, pick}
-use Rattle.el.specs.Concepts.{Node, everything, named}
+use Rattle.el.specs.Lists.{In, pick}
+use Rattle.el.specs.Concepts.{everything}
 use Rattle.el.specs.Axioms.{Axiom, isConjunction, partsOf, roleOf, fillerOf}
-use Rattle.el.proofs.Tests.{Tells}
-use Rattle.el.proofs.Derivations.{Joins}
 use Rattle.el.proofs.Nodes.{IsNode, top-node, name-node, Formed}
 use Rattle.el.proofs.Terminologies.{Terminology}
-use Rattle.release.specs.Files.{number, widthOf, firstPlace, namesOf, rolesOf, countOf, joins, restricts, defines, isFiller, topNumber, fillerNode, headerFault, axiomFault, axiomsFault, axiomLength, axiomAt, axiomsFrom, axiomsOf, conjunctDefined, fault, firstOf}
+use Rattle.release.specs.Files.{number, widthOf, firstPlace, namesOf, rolesOf, countOf, joins, restricts, defines, isFiller, topNumber, fillerNode, headerFault, axiomFault, axiomsFault, axiomLength, axiomAt, axiomsOf, conjunctDefined, fault, firstOf}
 use Rattle.release.specs.Readings.{nodeNumber}
-use Rattle.release.specs.Tables.{kindAt, Stands, here, there, Origin, blank, of-axiom, Decoded, Shaped, Release, kindOf, AxiomRow, NameRow, no-axiom, has-axiom}
+use Rattle.release.specs.Tables.{kindAt, Stands, here, there, blank, of-axiom, Shaped, Release, kindOf, AxiomRow, NameRow, no-axiom, has-axiom}
 use Rattle.release.proofs.Sound.{Sound, Tail, joined, restricted}
-use Rattle.release.proofs.Faults.{restricts-not-joins, no-kind}
-use Rattle.release.proofs.Decoding.{Holds, holds, count-is, stands-sound, both-none, shaped, Place, in-stands, stands-in, axiom-joins, axiom-parts, axiom-no-parts}
+use Rattle.release.proofs.Faults.{no-kind}
+use Rattle.release.proofs.Decoding.{holds, count-is, stands-sound, both-none, shaped, in-stands, stands-in, axiom-joins, axiom-parts, axiom-no-parts}
 use Rattle.release.proofs.NormalForm.{tells-listed}
 use Rattle.release.proofs.Numbers.{numbers-at}
 use Rattle.release.proofs.Checks.{header-sound}

@@ -1,18 +1,18 @@
 -- Refusal 15 by the table and by the axioms: a conjunct that is itself a left name of kind 2.
-use mathlib.Core.Path.{_≡_, refl, sym, ap, subst, _∙_}
+use mathlib.Core.Path.{_≡_, refl, sym, ap, _∙_}
 use mathlib.Core.Bool.{Bool, true, false, true≢false, false≢true}
-use mathlib.Core.List.{List, [], _∷_}
+use mathlib.Core.List.{List, []}
 use Prim.Native.Nat.{ℕ, zero, suc, _+_, _≤_, _<_}
 use native.Mathlib.Omega.{arith}
 use lib.ListN.{length, getD}
 use Rattle.el.specs.Lists.{In}
 use Rattle.el.specs.Axioms.{Axiom, isConjunction, partsOf}
 use Rattle.el.proofs.Lists.{Some}
-use Rattle.el.proofs.Tests.{Tells, tells-as, tells-true, tells-eq, tells-and, tells-any}
+use Rattle.el.proofs.Tests.{Tells, tells-true, tells-eq, tells-and, tells-any}
 use Rattle.release.specs.Files.{number, widthOf, firstPlace, joins, defines, axiomsFault, axiomAt, axiomsFrom, conjunctDefined}
-use Rattle.release.specs.Tables.{kindAt, countAt, partAt, Stands, Origin, blank, of-axiom, Decoded, PartDefined, SomePartDefined}
+use Rattle.release.specs.Tables.{kindAt, countAt, partAt, Stands, blank, of-axiom, Decoded, PartDefined, SomePartDefined}
 use Rattle.release.proofs.Faults.{high-not-joins}
-use Rattle.release.proofs.Decoding.{holds, count-is, part-is, sound, conjuncts, shaped, Place, stands-in, in-stands, axiom-joins, axiom-parts, axiom-no-parts}
+use Rattle.release.proofs.Decoding.{holds, count-is, part-is, sound, shaped, stands-in, in-stands, axiom-joins, axiom-parts, axiom-no-parts}
 use Rattle.release.proofs.Numbers.{in-numbers, numbers-at}
 
 -- the two tests that say kind 2

@@ -3,15 +3,15 @@
 --   number-narrow, number-wide   the number of one byte, and of two
 --   in-numbers, numbers-at   the members of a run of numbers, by their places
 --   step-within              the bytes of one of k numbers lie among those of all
-use mathlib.Core.Path.{_≡_, refl, sym, _∙_}
+use mathlib.Core.Path.{_≡_, sym, _∙_}
 use mathlib.Core.Bool.{Bool, true, false}
-use mathlib.Core.List.{List, [], _∷_}
+use mathlib.Core.List.{List, []}
 use Prim.Native.Nat.{ℕ, zero, suc, _+_, _*_, _≤_, _<_}
 use native.Mathlib.Nat.{mul-le-mul, mul-le-mul-left}
 use native.Mathlib.Omega.{arith}
 use borrow.Author.Tests.{eq-eqb, ne-eqb}
 use lib.Dec.{eqb}
-use lib.ListN.{length, getD}
+use lib.ListN.{getD}
 use Rattle.el.specs.Lists.{In, first, later, pick}
 use Rattle.release.specs.Files.{number, numbers, versionOf, widthOf, mostNames, mostNamesOf, mostConjuncts}
 use Rattle.release.specs.Tables.{tailAt, IsWidth, HasNumber, HasHeader, HasPart}

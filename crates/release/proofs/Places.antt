@@ -1,6 +1,6 @@
 -- Where a name's axiom stands, by the table, and the part of a file that shows it.
-use mathlib.Core.Path.{_≡_, refl, sym, ap, subst, _∙_}
-use mathlib.Core.Bool.{Bool, true, false, false≢true, _&&_}
+use mathlib.Core.Path.{_≡_, refl, sym, ap, _∙_}
+use mathlib.Core.Bool.{Bool, true, false, false≢true}
 use mathlib.Core.Logic.{_⊎_, inl, inr}
 use mathlib.Core.List.{List}
 use Prim.Native.Nat.{ℕ, zero, suc, _+_, _*_, _-_, _≤_, _<_}
@@ -18,10 +18,10 @@ use Rattle.release.specs.declared.Refusal.{Refusal}
 use Rattle.release.specs.declared.show.Place.{Place}
 use Rattle.release.specs.Files.{number, widthOf, firstPlace, namesOf, rolesOf, countOf, joins, axiomLength, axiomFault, axiomsFault, restricts, fault, accepted}
 use Rattle.release.specs.Readings.{checked, checkedBy}
-use Rattle.release.specs.Tables.{kindAt, tailAt, countAt, Stands, here, there, Origin, blank, of-axiom, Decoded, Shaped, HasRow, HasCount, Conjunctive, Release, ReleaseRead}
+use Rattle.release.specs.Tables.{kindAt, tailAt, countAt, Stands, here, there, blank, of-axiom, HasRow, HasCount, Release, ReleaseRead}
 use Rattle.release.specs.Shown.{nowhere, placeFrom, placeIn, shownPlace, holder}
 use Rattle.release.proofs.Sound.{axiom-sound, tail-within}
-use Rattle.release.proofs.Decoding.{Holds, holds, count-is, both-none}
+use Rattle.release.proofs.Decoding.{holds, count-is, both-none}
 use Rattle.release.proofs.Linked.{no-axiom-fault, sound-at, tail-kind, ranges, rises}
 
 later-none : (s : List ℕ) (c least p : ℕ) → axiomsFault (widthOf s) (namesOf s) (rolesOf s) (suc c) least s p ≡ 0 → (axiomFault (widthOf s) (namesOf s) (rolesOf s) least s p ≡ 0) × (axiomsFault (widthOf s) (namesOf s) (rolesOf s) c (suc (number (widthOf s) s p)) s (p + axiomLength (widthOf s) s p) ≡ 0)

@@ -1,17 +1,14 @@
 -- Laws of what reading an axiom answers: a refusal's number, or the axiom's numbers with the next place.
-use mathlib.Core.Path.{_≡_, refl, sym, ap, ap₂, _∙_}
-use mathlib.Core.Bool.{Bool, true, false}
+use mathlib.Core.Path.{_≡_, refl, ap₂, _∙_}
+use mathlib.Core.Bool.{true, false}
 use mathlib.Core.List.{List}
-use Prim.Native.Nat.{ℕ, zero, suc, _+_, _*_, _-_, _≤_, _<_}
+use Prim.Native.Nat.{ℕ, zero, suc, _+_, _*_, _≤_, _<_}
 use native.Mathlib.Omega.{arith}
-use borrow.Author.Tests.{lt-ltb, le-ltb, le-leb, lt-leb, eq-eqb, ne-eqb}
-use lib.Dec.{eqb, ltb, leb}
+use borrow.Author.Tests.{lt-ltb, le-ltb, le-leb, lt-leb}
 use lib.ListN.{length, getD}
 use Rattle.release.specs.declared.axiom.Entry.{Entry}
-use Rattle.release.specs.declared.axiom.Cursor.{Cursor}
-use Rattle.release.specs.declared.axiom.Reading.{Reading}
 use Rattle.release.specs.declared.axiom.Reading.the-variants.{Axiom, Refused}
-use Rattle.release.specs.Files.{number, partsFault, conjunctionFault, restrictionFault, tailFault, tailLength, axiomFault, axiomLength, joins, restricts, fillerNode}
+use Rattle.release.specs.Files.{number, conjunctionFault, restrictionFault, tailFault, tailLength, axiomFault, axiomLength, joins, restricts, fillerNode}
 use Rattle.release.specs.Readings.{nodeNumber, entryOf, reading, tailReading, readingAt}
 use Rattle.release.proofs.Faults.{restricts-not-joins}
 

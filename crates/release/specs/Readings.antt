@@ -3,7 +3,6 @@
 --   checked s                   checking a release: accepted with n, m and a, or the refusal with side 1
 use mathlib.Core.List.{List}
 use Prim.Native.Nat.{ℕ, zero, suc, _+_}
-use lib.Dec.{eqb}
 use lib.ListN.{getD}
 use Rattle.el.specs.Lists.{pick}
 use Rattle.el.specs.Concepts.{Node, everything, named}

@@ -3,7 +3,7 @@
 --   shownPlace s t side x       which of the two files the part is in, where it starts and how long it is
 --   Shown first second side x p   p is that part: its bytes, and its place in memory
 use mathlib.Core.Path.{_≡_}
-use mathlib.Core.Bool.{Bool, true, false, _&&_}
+use mathlib.Core.Bool.{_&&_}
 use mathlib.Core.List.{List}
 use Prim.Native.Nat.{ℕ, zero, suc, _+_}
 use lib.Dec.{eqb}

@@ -1,5 +1,4 @@
 ghost use mathlib.Core.Path.{_≡_};
-ghost use lib.ListN.{length};
 ghost use Rattle.release.specs.Files.{number, topNumber};
 ghost use Rattle.release.specs.Tables.{HasNumber};
 use crate::Release;

@@ -9,7 +9,6 @@ use native.Mathlib.Omega.{arith}
 use borrow.Author.Tests.{lt-ltb, le-ltb, ltb-true, ltb-false}
 use lib.Dec.{ltb}
 use lib.ListN.{length, length-append}
-use Rattle.el.specs.Lists.{pick}
 use Rattle.report.specs.Numbers.{digit, digitsWithin, decimal, threeDigits}
 use Rattle.report.specs.Places.{Room, Put}
 use Rattle.report.proofs.Puts.{put-then, room-first, room-then}

@@ -1,7 +1,7 @@
 -- The lines and the report put together from their pieces: room for each piece where those before it stand, the whole once
 -- they all stand, and its length.
 -- Not here: laws of single pieces (Puts.antt).
-use mathlib.Core.Path.{_≡_, refl, sym, ap, subst, _∙_}
+use mathlib.Core.Path.{_≡_, sym, ap, subst, _∙_}
 use mathlib.Core.Bool.{true}
 use mathlib.Core.List.{List, [], _∷_, _++_}
 use Prim.Native.Nat.{ℕ, _+_, _≤_}

@@ -1,6 +1,6 @@
 // The lines of the reported names, their counts, and the report as a whole.
 ghost use mathlib.Core.Path.{_≡_};
-ghost use Prim.Native.Nat.{_≤_, _<_};
+ghost use Prim.Native.Nat.{_<_};
 ghost use lib.ListN.{length};
 ghost use Rattle.el.specs.Comparison.{isReported};
 ghost use Rattle.el.specs.Lists.{count};

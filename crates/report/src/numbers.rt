@@ -1,6 +1,5 @@
 // Numbers as text, and the lines of two words and two numbers.
 ghost use mathlib.Core.Path.{_≡_};
-ghost use mathlib.Core.List.{_∷_, []};
 ghost use Prim.Native.Nat.{_+_, _<_};
 ghost use lib.ListN.{length};
 ghost use Rattle.report.specs.Numbers.{digit, decimal, threeDigits};

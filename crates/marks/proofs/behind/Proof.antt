@@ -1,6 +1,5 @@
 use native.Mathlib.Omega.{arith}
 use Rattle.marks.proofs.Squares.{behind-small, behind-is}
-use borrow.Author.Needs.{needs}
 use Rattle.marks.proofs.behind.Statement.{statement}
 use Rattle.marks.proofs.behind.Tie as tie
 use Rattle.marks.proofs.behind.Reads as reads

@@ -1,6 +1,6 @@
 use native.Mathlib.Omega.{arith}
 use mathlib.Core.Path.{_≡_}
-use Prim.Native.Nat.{_+_, _*_, _≤_, _-_}
+use Prim.Native.Nat.{_≤_, _-_}
 use Rattle.marks.specs.Squares.{span as rows}
 use Rattle.marks.proofs.Squares.{RowsZero, rows-none, rows-more, rows-unmarked, span-is, behind-small}
 use Rattle.marks.proofs.clear_rows.Statement.{statement}

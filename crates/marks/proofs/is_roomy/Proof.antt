@@ -1,7 +1,6 @@
 use native.Mathlib.Omega.{arith}
 use borrow.Author.Tests.{leb-true}
 use Rattle.marks.proofs.Squares.{roomy}
-use borrow.Author.Needs.{needs}
 use Rattle.marks.proofs.is_roomy.Statement.{statement}
 use Rattle.marks.proofs.is_roomy.Tie as tie
 use Rattle.marks.proofs.is_roomy.Reads as reads

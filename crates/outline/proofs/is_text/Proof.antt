@@ -1,7 +1,6 @@
 -- `is_text` meets its contract. The loop keeps that the bytes are a concept's exactly where `pending` concepts stand from `at` on.
 use Prim.Native.Nat.{_≤_, _-_, _+_}
 use native.Mathlib.Omega.{arith}
-use mathlib.Core.Path.{_∙_, sym}
 use borrow.Author.Needs.{needs}
 use lib.ListN.{length}
 use Rattle.outline.proofs.Readable.{Scan, scan-start, too-long, ends-early, ends-no-kind, after-top, after-both, cut-name, cut-role, large-name, after-name, large-role, after-role, by-the-end}

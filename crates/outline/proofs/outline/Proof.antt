@@ -1,10 +1,10 @@
 -- `outline` meets its contract. The loop keeps what is read, pending and written for every concept whose text the bytes are; it ends since
 -- each turn reads a byte.
-use Prim.Native.Nat.{_-_, _<_, _≤_}
-use mathlib.Core.Path.{_≡_, refl, sym, _∙_}
+use Prim.Native.Nat.{_-_}
+use mathlib.Core.Path.{_≡_, refl, _∙_}
 use native.Mathlib.Omega.{arith}
 use borrow.Author.Needs.{needs}
-use lib.ListN.{length, getD, length-set}
+use lib.ListN.{length, length-set}
 use Rattle.outline.proofs.Turns.{Numbers, States, byte-there, name-there, role-there, turn-top, turn-both, name-turn, some-turn, starts, ends}
 use Rattle.outline.proofs.outline.Statement.{statement}
 use Rattle.outline.proofs.outline.Tie as tie

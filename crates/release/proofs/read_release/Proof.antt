@@ -1,4 +1,4 @@
-use mathlib.Core.Path.{_≡_, refl, sym, _∙_}
+use mathlib.Core.Path.{sym, _∙_}
 use native.Mathlib.Omega.{arith}
 use Rattle.release.proofs.Checks.{header-sound, has-header, ready, refuses-header, refuses-axioms, read-shaped, refuses-15, accepts}
 use borrow.Author.Needs.{needs}

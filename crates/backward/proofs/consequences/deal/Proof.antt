@@ -1,7 +1,6 @@
 use native.Mathlib.Omega.{arith}
 use Rattle.marks.proofs.Passes.{grows-further, kept-grows}
 use Rattle.backward.proofs.Tested.{setting-stays, setting-kept, squares, below-grows}
-use borrow.Author.Needs.{needs}
 use Rattle.backward.proofs.consequences.deal.Statement.{statement}
 use Rattle.backward.proofs.consequences.deal.Tie as tie
 use Rattle.backward.proofs.consequences.deal.Reads as reads

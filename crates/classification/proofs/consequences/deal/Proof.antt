@@ -1,9 +1,7 @@
-use native.Mathlib.Omega.{arith}
 use borrow.Author.Needs.{needs}
 use Rattle.marks.proofs.Squares.{frame-area}
 use Rattle.marks.proofs.Passes.{kept-grows, grows-further}
 use Rattle.classification.proofs.Marking.{setting-stays, taking-grows}
-use borrow.Author.Needs.{needs}
 use Rattle.classification.proofs.consequences.deal.Statement.{statement}
 use Rattle.classification.proofs.consequences.deal.Tie as tie
 use Rattle.classification.proofs.consequences.deal.Reads as reads

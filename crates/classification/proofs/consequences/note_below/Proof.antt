@@ -1,6 +1,5 @@
 use native.Mathlib.Omega.{arith}
-use borrow.Author.Needs.{needs}
-use Prim.Native.Nat.{suc, _≤_, _-_}
+use Prim.Native.Nat.{suc, _-_}
 use Rattle.marks.specs.Squares.{Kept}
 use Rattle.marks.proofs.Squares.{kept-same, kept-further, frame-area}
 use Rattle.classification.proofs.consequences.note_below.Statement.{statement}

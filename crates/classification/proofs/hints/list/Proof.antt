@@ -1,7 +1,6 @@
 use native.Mathlib.Omega.{arith}
-use borrow.Author.Needs.{needs}
-use mathlib.Core.Path.{refl, sym, _∙_}
-use Prim.Native.Nat.{_≤_, _-_}
+use mathlib.Core.Path.{sym, _∙_}
+use Prim.Native.Nat.{_-_}
 use Rattle.marks.specs.Squares.{Kept}
 use Rattle.marks.proofs.Squares.{kept-same, kept-further, frame-area}
 use Rattle.classification.proofs.Marking.{shaped-row, joined}

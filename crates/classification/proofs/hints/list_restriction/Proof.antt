@@ -1,7 +1,6 @@
 use native.Mathlib.Omega.{arith}
 use borrow.Author.Needs.{needs}
 use Rattle.classification.proofs.Marking.{shaped-row}
-use borrow.Author.Needs.{needs}
 use Rattle.classification.proofs.hints.list_restriction.Statement.{statement}
 use Rattle.classification.proofs.hints.list_restriction.Tie as tie
 use Rattle.classification.proofs.hints.list_restriction.Reads as reads

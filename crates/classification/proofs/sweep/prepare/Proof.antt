@@ -1,7 +1,5 @@
-use native.Mathlib.Omega.{arith}
 use borrow.Author.Needs.{needs}
 use Rattle.marks.proofs.Squares.{frame-area, kept-further}
-use borrow.Author.Needs.{needs}
 use Rattle.classification.proofs.sweep.prepare.Statement.{statement}
 use Rattle.classification.proofs.sweep.prepare.Tie as tie
 use Rattle.classification.proofs.sweep.prepare.Reads as reads

@@ -1,7 +1,6 @@
 -- `sheets::single_row` is safe: the part of a signature ends where a machine number can tell.
 use native.Mathlib.Omega.{arith}
 use native.Mathlib.Nat.{mul-le-mul, le-of-lt}
-use Prim.Native.Nat.{_≤_}
 use borrow.Author.Needs.{needs}
 use Rattle.examples.proofs.sheets.single_row.Statement.{statement}
 use Rattle.examples.proofs.sheets.single_row.Tie as tie

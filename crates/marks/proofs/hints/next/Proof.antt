@@ -1,7 +1,5 @@
 use native.Mathlib.Omega.{arith}
-use borrow.Author.Needs.{needs}
-use Rattle.marks.proofs.Squares.{hint-room, hint-kept, hint-names, kept-same}
-use borrow.Author.Needs.{needs}
+use Rattle.marks.proofs.Squares.{hint-room, hint-names}
 use Rattle.marks.proofs.hints.next.Statement.{statement}
 use Rattle.marks.proofs.hints.next.Tie as tie
 use Rattle.marks.proofs.hints.next.Reads as reads

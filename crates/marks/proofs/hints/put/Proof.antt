@@ -1,7 +1,6 @@
 use native.Mathlib.Omega.{arith}
 use borrow.Author.Needs.{needs}
 use Rattle.marks.proofs.Squares.{hint-room, hint-kept, hint-names, kept-same}
-use borrow.Author.Needs.{needs}
 use Rattle.marks.proofs.hints.put.Statement.{statement}
 use Rattle.marks.proofs.hints.put.Tie as tie
 use Rattle.marks.proofs.hints.put.Reads as reads

@@ -1,6 +1,5 @@
 use native.Mathlib.Omega.{arith}
 use borrow.Author.Needs.{needs}
-use mathlib.Core.Path.{_≡_, refl}
 use Prim.Native.Nat.{suc, _≤_, _-_, _/_}
 use Rattle.marks.specs.Squares.{Hints}
 use Rattle.marks.proofs.Squares.{row-inside, hints-none, hints-more}

@@ -1,6 +1,5 @@
 use native.Mathlib.Omega.{arith}
-use borrow.Author.Needs.{needs}
-use Rattle.marks.proofs.Squares.{hint-room, hint-kept, hint-names, kept-same}
+use Rattle.marks.proofs.Squares.{kept-same}
 use Prim.Native.Nat.{suc, _≤_, _-_}
 use Rattle.marks.specs.Squares.{Kept}
 use Rattle.marks.proofs.Squares.{kept-further, frame-area}

@@ -1,7 +1,6 @@
 use native.Mathlib.Omega.{arith}
 use borrow.Author.Needs.{needs}
-use Rattle.marks.proofs.Squares.{hint-room, hint-kept, hint-names, kept-same}
-use borrow.Author.Needs.{needs}
+use Rattle.marks.proofs.Squares.{hint-room, hint-names}
 use Rattle.marks.proofs.hints.wait_for_new.Statement.{statement}
 use Rattle.marks.proofs.hints.wait_for_new.Tie as tie
 use Rattle.marks.proofs.hints.wait_for_new.Reads as reads

@@ -1,4 +1,3 @@
-use native.Mathlib.Omega.{arith}
 use Rattle.marks.proofs.Passes.{pass-both, grows-frame}
 use Rattle.marks.proofs.Squares.{frame-room}
 use Rattle.marks.proofs.Lines.{empty-zeros}

@@ -1,7 +1,6 @@
 use native.Mathlib.Omega.{arith}
 use borrow.Author.Needs.{needs}
 use Prim.Native.Nat.{suc, _≤_, _-_, _/_}
-use mathlib.Core.Path.{_≡_, refl}
 use Rattle.marks.proofs.Squares.{row-inside}
 use Rattle.marks.proofs.Lines.{JoinedTo, join-none, join-more, join-end}
 use Rattle.marks.proofs.line.join.Statement.{statement}

@@ -5,7 +5,7 @@ use borrow.Author.Needs.{needs}
 use lib.ListN.{length, length-set}
 use Rattle.marks.specs.Passes.{Grows, none, FromRow}
 use Rattle.marks.proofs.Squares.{row-inside}
-use Rattle.marks.proofs.Passes.{room-stays, hand-further}
+use Rattle.marks.proofs.Passes.{hand-further}
 use Rattle.marks.proofs.rows.hand_on.Statement.{statement}
 use Rattle.marks.proofs.rows.hand_on.Tie as tie
 use Rattle.marks.proofs.rows.hand_on.Reads as reads

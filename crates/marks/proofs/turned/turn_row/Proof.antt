@@ -1,6 +1,4 @@
 use native.Mathlib.Omega.{arith}
-use borrow.Author.Needs.{needs}
-use mathlib.Core.Path.{_≡_, refl, _∙_}
 use Prim.Native.Nat.{suc, _≤_, _-_}
 use Rattle.marks.specs.Squares.{Marked, Touches}
 use Rattle.marks.proofs.Squares.{touches-same, touches-further, touches-room}

@@ -1,5 +1,3 @@
-use native.Mathlib.Omega.{arith}
-use Prim.Native.Nat.{_<_}
 use borrow.Author.Tests.{le-leb, lt-leb}
 use borrow.Author.Needs.{needs}
 use Rattle.marks.proofs.words.or_none.Statement.{statement}

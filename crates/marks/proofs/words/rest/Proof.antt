@@ -1,4 +1,3 @@
-use native.Mathlib.Omega.{arith}
 use Rattle.marks.proofs.WordBits.{rest-of-word, rest-of-byte}
 use borrow.Author.Needs.{needs}
 use Rattle.marks.proofs.words.rest.Statement.{statement}

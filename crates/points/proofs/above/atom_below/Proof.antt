@@ -1,7 +1,6 @@
 use native.Mathlib.Omega.{arith}
 use mathlib.Core.Path.{sym, _∙_}
 use Rattle.points.proofs.Raising.{defined-not-asked, below-as-name, not-filled, other-role, below-as-some, kind-4-restricts}
-use borrow.Author.Needs.{needs}
 use Rattle.points.proofs.above.atom_below.Statement.{statement}
 use Rattle.points.proofs.above.atom_below.Tie as tie
 use Rattle.points.proofs.above.atom_below.Reads as reads

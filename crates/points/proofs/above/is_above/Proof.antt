@@ -1,7 +1,6 @@
 use native.Mathlib.Omega.{arith}
 use mathlib.Core.Path.{sym, _∙_}
 use Rattle.points.proofs.Raising.{below-top, below-parts, below-set}
-use borrow.Author.Needs.{needs}
 use Rattle.points.proofs.above.is_above.Statement.{statement}
 use Rattle.points.proofs.above.is_above.Tie as tie
 use Rattle.points.proofs.above.is_above.Reads as reads

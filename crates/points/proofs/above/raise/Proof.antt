@@ -1,7 +1,7 @@
 -- `raise` meets its contract: of the names before `next`, the owner's row gained those above the atom.
 use Prim.Native.Nat.{_≤_, _-_}
 use native.Mathlib.Omega.{arith}
-use mathlib.Core.Path.{_≡_, refl, sym, _∙_}
+use mathlib.Core.Path.{_≡_, refl, _∙_}
 use borrow.Author.Needs.{needs}
 use lib.ListN.{length}
 use Rattle.outline.specs.Atoms.{ownerAt}

@@ -1,7 +1,6 @@
 use native.Mathlib.Omega.{arith}
-use borrow.Author.Needs.{needs}
 use mathlib.Core.Path.{_≡_, refl, _∙_}
-use Prim.Native.Nat.{_≤_, _-_}
+use Prim.Native.Nat.{_-_}
 use lib.ListN.{length}
 use Rattle.points.proofs.LosingNodes.{IdleBefore, idle-none, idle-more, idle-end}
 use Rattle.points.proofs.nodes.find_idle.Statement.{statement}

@@ -1,6 +1,5 @@
 use native.Mathlib.Omega.{arith}
 use Rattle.points.proofs.LosingNodes.{not-above, leads-as}
-use borrow.Author.Needs.{needs}
 use Rattle.points.proofs.nodes.leads.Statement.{statement}
 use Rattle.points.proofs.nodes.leads.Tie as tie
 use Rattle.points.proofs.nodes.leads.Reads as reads

@@ -1,7 +1,6 @@
 use native.Mathlib.Omega.{arith}
 use mathlib.Core.Path.{sym, _∙_}
 use Rattle.points.proofs.LosingNodes.{node-below-name, node-below-some, idle-at}
-use borrow.Author.Needs.{needs}
 use Rattle.points.proofs.nodes.node_below.Statement.{statement}
 use Rattle.points.proofs.nodes.node_below.Tie as tie
 use Rattle.points.proofs.nodes.node_below.Reads as reads

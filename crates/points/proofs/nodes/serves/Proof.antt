@@ -1,7 +1,6 @@
 use native.Mathlib.Omega.{arith}
 use mathlib.Core.Path.{sym, _∙_}
 use Rattle.points.proofs.LosingNodes.{no-restriction, no-such-role, filler-lost, it-serves}
-use borrow.Author.Needs.{needs}
 use Rattle.points.proofs.nodes.serves.Statement.{statement}
 use Rattle.points.proofs.nodes.serves.Tie as tie
 use Rattle.points.proofs.nodes.serves.Reads as reads

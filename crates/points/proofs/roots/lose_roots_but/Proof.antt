@@ -1,7 +1,7 @@
 -- `lose_roots_but` meets its contract: of the roots before `next`, the owner's row gained those that do not lie below the atom.
 use Prim.Native.Nat.{_≤_, _-_}
 use native.Mathlib.Omega.{arith}
-use mathlib.Core.Path.{_≡_, refl, sym, _∙_}
+use mathlib.Core.Path.{_≡_, refl, _∙_}
 use borrow.Author.Needs.{needs}
 use lib.ListN.{length}
 use Rattle.outline.specs.Atoms.{ownerAt}

@@ -2,7 +2,6 @@ use native.Mathlib.Omega.{arith}
 use mathlib.Core.Path.{sym, _∙_}
 use Rattle.points.proofs.LosingNodes.{idle-at}
 use Rattle.points.proofs.LosingRoots.{from-roots, root-under-name, root-under-some}
-use borrow.Author.Needs.{needs}
 use Rattle.points.proofs.roots.root_below.Statement.{statement}
 use Rattle.points.proofs.roots.root_below.Tie as tie
 use Rattle.points.proofs.roots.root_below.Reads as reads

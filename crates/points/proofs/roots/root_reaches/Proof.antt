@@ -1,7 +1,6 @@
 -- `root_reaches` meets its contract: no atom of the root before `next` does.
 use Prim.Native.Nat.{_≤_, _-_}
 use native.Mathlib.Omega.{arith}
-use borrow.Author.Needs.{needs}
 use Rattle.points.proofs.LosingRoots.{from-root, NoneBefore, none-start, none-other, none-own, none-end, one-found}
 use Rattle.points.proofs.roots.root_reaches.Statement.{statement}
 use Rattle.points.proofs.roots.root_reaches.Tie as tie

@@ -1,4 +1,4 @@
-use mathlib.Core.Path.{_∙_, sym}
+use mathlib.Core.Path.{_∙_}
 use mathlib.Core.Logic.{inl, inr}
 use native.Mathlib.Omega.{arith}
 use Rattle.release.proofs.Faults.{kind-joins, kind-restricts, no-kind}

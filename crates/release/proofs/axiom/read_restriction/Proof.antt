@@ -1,6 +1,5 @@
-use Prim.Native.Nat.{_+_}
 use mathlib.Core.Path.{_∙_, sym}
-use mathlib.Core.Logic.{_⊎_, inl, inr, ⊎-elim}
+use mathlib.Core.Logic.{inl, inr, ⊎-elim}
 use native.Mathlib.Omega.{arith}
 use Rattle.release.proofs.Faults.{restriction-7, restriction-11, restriction-short, restriction-9, restriction-none, is-filler, no-filler}
 use Rattle.release.proofs.Readings.{restricted-refused, restricted-axiom}

@@ -1,8 +1,7 @@
 use Prim.Native.Nat.{_-_}
-use mathlib.Core.Path.{_≡_, sym, _∙_, ap}
+use mathlib.Core.Path.{sym, _∙_}
 use native.Mathlib.Omega.{arith}
 use borrow.Author.Needs.{needs}
-use Rattle.release.specs.Tables.{kindAt}
 use Rattle.release.proofs.DefinedParts.{has-count, has-part, part-row, NoneDefined, none-start, none-next, none-end, part-found}
 use Rattle.release.proofs.conjuncts.part_defined.Statement.{statement}
 use Rattle.release.proofs.conjuncts.part_defined.Tie as tie

@@ -1,5 +1,5 @@
 use Prim.Native.Nat.{_-_}
-use mathlib.Core.Path.{_≡_, sym, _∙_}
+use mathlib.Core.Path.{sym, _∙_}
 use mathlib.Core.Bool.{true≢false}
 use borrow.Author.Needs.{needs}
 use Rattle.release.proofs.DefinedParts.{has-row, NoName, name-start, name-next, name-end, name-found}

@@ -1,4 +1,4 @@
-use mathlib.Core.Path.{_≡_, sym, _∙_}
+use mathlib.Core.Path.{sym, _∙_}
 use native.Mathlib.Omega.{arith}
 use Rattle.release.proofs.Numbers.{is-width}
 use Rattle.release.proofs.Headers.{header-1, header-2, header-3, header-short, header-4, header-5, header-6, header-none}

@@ -1,8 +1,6 @@
 use Prim.Native.Nat.{_≤_, _-_}
-use mathlib.Core.Path.{_≡_}
 use borrow.Author.Needs.{needs}
 use native.Mathlib.Omega.{arith}
-use lib.ListN.{length}
 use Rattle.release.specs.Files.{mark}
 use Rattle.release.proofs.Headers.{Marked, mark-start, mark-end, mark-differs, mark-next}
 use Rattle.release.proofs.header.lacks_mark.Statement.{statement}

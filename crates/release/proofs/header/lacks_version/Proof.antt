@@ -1,4 +1,3 @@
-use mathlib.Core.Path.{_∙_, sym}
 use Rattle.release.proofs.Headers.{version-1, version-known}
 use borrow.Author.Needs.{needs}
 use Rattle.release.proofs.header.lacks_version.Statement.{statement}

@@ -1,4 +1,4 @@
-use mathlib.Core.Path.{_∙_, sym, ap}
+use mathlib.Core.Path.{_∙_}
 use native.Mathlib.Omega.{arith}
 use Rattle.release.specs.Files.{namesOf}
 use Rattle.release.proofs.Numbers.{header-number}

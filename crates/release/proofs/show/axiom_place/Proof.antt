@@ -1,4 +1,4 @@
-use mathlib.Core.Path.{_≡_, sym, _∙_}
+use mathlib.Core.Path.{_∙_}
 use Rattle.release.proofs.Rows.{blank-table}
 use Rattle.release.proofs.Places.{read-release, read-refused, shown-not-first, shown-not-second, shown-1, shown-2, shown-no-side}
 use borrow.Author.Needs.{needs}

@@ -1,4 +1,4 @@
-use mathlib.Core.Path.{_≡_, sym, _∙_}
+use mathlib.Core.Path.{sym, _∙_}
 use native.Mathlib.Omega.{arith}
 use Rattle.release.proofs.Numbers.{is-width}
 use Rattle.release.proofs.Places.{place-outside, place-row, place-blank, tail-far, place-count, count-within, place-joined, place-restricted, version-within}

@@ -1,4 +1,3 @@
-use mathlib.Core.Path.{_≡_, refl}
 use mathlib.Core.Logic.{⊎-elim}
 use native.Mathlib.Omega.{arith}
 use Rattle.release.proofs.Places.{either-holds, second-holds, first-holds, part-bytes, part-block, part-place, holder-second, holder-first}

@@ -1,8 +1,5 @@
 -- `put_entry` meets its contract: room for each piece of the line where those before it stand, and then the whole line.
-use mathlib.Core.Path.{refl, sym, subst, _∙_}
-use mathlib.Core.List.{List}
-use Prim.Native.Nat.{ℕ}
-use Rattle.report.specs.Places.{Put}
+use mathlib.Core.Path.{refl, sym, _∙_}
 use Rattle.report.proofs.Puts.{put-none}
 use Rattle.report.proofs.Entries.{entry-nothing}
 use Rattle.report.proofs.Pieces.{name-room, space-room, letter-room, line-end-room, line-put}

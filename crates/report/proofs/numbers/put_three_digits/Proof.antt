@@ -1,7 +1,5 @@
 -- `put_three_digits` meets its contract: two zeros, one or none are written, and then the number.
-use mathlib.Core.Path.{subst, sym}
-use mathlib.Core.List.{List, [], _∷_}
-use Prim.Native.Nat.{ℕ}
+use mathlib.Core.List.{[], _∷_}
 use Rattle.report.proofs.Decimals.{three-of-one, three-of-two, three-of-more, zeros-room, after-zeros-room, after-zeros-put}
 use borrow.Author.Needs.{needs}
 use Rattle.report.proofs.numbers.put_three_digits.Statement.{statement}

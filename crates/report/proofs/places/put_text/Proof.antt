@@ -1,6 +1,5 @@
 -- `put_text` meets its contract. The invariant: after i bytes the rest of the text is still to be written.
 use Prim.Native.Nat.{_≤_, _-_}
-use native.Mathlib.Omega.{arith}
 use borrow.Author.Needs.{needs}
 use lib.ListN.{length, drop}
 use Rattle.report.proofs.Puts.{Rest, rest-whole, copy-room, copy-one, copy-whole}
