@@ -28,7 +28,8 @@ use Rattle.forward.specs.Rules.{Step, by-itself, by-above, Row}
 use Rattle.forward.specs.Forward.{Forwarded}
 use Rattle.forward.proofs.Bridge.{own-forward, rows-closed}
 
-module _ {names edges g s t a b : List ℕ} {l : Layout} {w v : List ℕ} (handed : Handed g a (l .names) (l .roles) names edges) (c : Comparing s t a b l w) (closed : Closed (Step names edges a b l) (markSquare l) (Below (Row names edges a b l) (suc (l .names))) w v) where
+module _ {names edges g s t a b : List ℕ} {l : Layout} {w v : List ℕ} (handed : Handed g a (l .names) (l .roles) names edges) (c : Comparing s t a b l w)
+    (closed : Closed (Step names edges a b l) (markSquare l) (Below (Row names edges a b l) (suc (l .names))) w v) where
   abbrev n : ℕ
   n = l .names
 
@@ -46,13 +47,15 @@ module _ {names edges g s t a b : List ℕ} {l : Layout} {w v : List ℕ} (hande
     good-said p q i j h = rw (at-number n p i, at-number n q j) at (good .good (nodeNumber n p) (nodeNumber n q) (number-small n p i) (number-small n q j) (marked p q refl refl h))
 
     step-sound : Step names edges a b l u x y → Means x y
-    step-sound (by-itself o) = forward-sound (comparable c g) (first-table-by c frame) (second-table-by c frame) (says (markSquare l) u) good-said (nodeAt n x) (nodeAt n y) (at-node n x x-in) (at-node n y y-in) (own-forward handed c u x-in y-in (inclusions .complete x x x-in x-in same) o)
+    step-sound (by-itself o) = forward-sound (comparable c g) (first-table-by c frame) (second-table-by c frame) (says (markSquare l) u) good-said (nodeAt n x) (nodeAt n y)
+        (at-node n x x-in) (at-node n y y-in) (own-forward handed c u x-in y-in (inclusions .complete x x x-in x-in same) o)
     step-sound (by-above f) =
         let lost = good .good (f .it) y (f .inside) y-in (f .lost) in
         record { it = lost .it; over = lost .over; by-first = inclusions .sound x (f .it) x-in (f .inside) (f .first (inl (c .first-apart))) ▹ lost .by-first; not-second = lost .not-second }
 
   unsaid : (x y : ℕ) → x ≤ n → y ≤ n → (Marked (markSquare l) v x y → ⊥) → says (markSquare l) v (nodeAt n x) (nodeAt n y) ≡ false
-  unsaid x y x-in y-in k = elim (which (says (markSquare l) v (nodeAt n x) (nodeAt n y))) [ inl z ↦ absurd (k (marked (nodeAt n x) (nodeAt n y) (number-at n x x-in) (number-at n y y-in) z)) | inr z ↦ z ]
+  unsaid x y x-in y-in k = elim (which (says (markSquare l) v (nodeAt n x) (nodeAt n y)))
+      [ inl z ↦ absurd (k (marked (nodeAt n x) (nodeAt n y) (number-at n x x-in) (number-at n y y-in) z)) | inr z ↦ z ]
 
   pub forwarded : Forwarded g s t l w v
   forwarded =
@@ -61,6 +64,8 @@ module _ {names edges g s t a b : List ℕ} {l : Layout} {w v : List ℕ} (hande
         frame = frame;
         marked = record {
           sound = grows-good step-sound (unmarked-good (c .unmarked)) (closed .grows) .good;
-          kept = λ x y x-in y-in k d over p. above-kept (comparable c g) (first-table-by c frame) (second-table-by c frame) (says (markSquare l) v) (λ o q i j rule. rows-closed handed c v (closed .done) o q i j rule) d over (nodeAt n x) (nodeAt n y) (at-node n x x-in) (at-node n y y-in) (unsaid x y x-in y-in k) p;
+          kept = λ x y x-in y-in k d over p. above-kept (comparable c g) (first-table-by c frame) (second-table-by c frame) (says (markSquare l) v)
+              (λ o q i j rule. rows-closed handed c v (closed .done) o q i j rule) d over (nodeAt n x) (nodeAt n y) (at-node n x x-in) (at-node n y y-in) (unsaid x y x-in y-in k)
+              p;
         };
       }

@@ -22,7 +22,8 @@ use Rattle.layout.specs.Comparing.{Comparing}
 
 pub record ForwardMarked (g s t : List ℕ) (l : Layout) (v : List ℕ) : Type 0 where
   pub sound : (x y : ℕ) → x ≤ l .names → y ≤ l .names → Marked (markSquare l) v x y → LostAbove (chosen l g) (axiomsOf s) (axiomsOf t) (nodeAt (l .names) x) (nodeAt (l .names) y)
-  pub kept : (x y : ℕ) → x ≤ l .names → y ≤ l .names → (Marked (markSquare l) v x y → ⊥) → (d : Concept) → isOver (chosen l g) d ≡ true → Derives (axiomsOf s) (conceptOf (nodeAt (l .names) x)) d → Derives (axiomsOf t) (conceptOf (nodeAt (l .names) y)) d
+  pub kept : (x y : ℕ) → x ≤ l .names → y ≤ l .names → (Marked (markSquare l) v x y → ⊥) → (d : Concept) → isOver (chosen l g) d ≡ true
+      → Derives (axiomsOf s) (conceptOf (nodeAt (l .names) x)) d → Derives (axiomsOf t) (conceptOf (nodeAt (l .names) y)) d
 
 pub record Forwarded (g s t : List ℕ) (l : Layout) (w v : List ℕ) : Type 0 where
   pub frame : Frame (markSquare l) w v

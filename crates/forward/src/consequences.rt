@@ -1,21 +1,20 @@
 // What new marks of a row give: in the rows below it, and in those of the edges that end there. Where to look is read from hints, those
 // that classification left behind the inclusions of the two releases; each edge is tested at its pair, or for all nodes at once.
 ghost use Prim.Native.Nat.{_≤_, _<_};
-ghost use Rattle.marks.specs.Passes.{Grows};
+ghost use Rattle.release.specs.Files.{mostNames};
+ghost use Rattle.marks.specs.Passes.{Grows, Pass, Anything};
 ghost use Rattle.marks.specs.Squares.{Room, Area};
 ghost use Rattle.marks.specs.Lines.{Spans};
 ghost use Rattle.layout.specs.Layouts.{Rowed, firstSquare, secondSquare, markSquare};
-ghost use Rattle.forward.specs.Rules.{Beneath, Setting, Edge, FromAbove, Follows};
+ghost use Rattle.forward.specs.Rules.{fewNodes, Beneath, Setting, Edge, FromAbove, Follows, RowLost};
 use crate::kept::join_below;
 use crate::kept::keep_partners;
-use crate::partner::Partners;
-use crate::partner::has_partner;
+use crate::partner::look_at_pair;
 use classification::hints::Hints;
 use layout::Layout;
 use layout::edges::has_edge;
 use layout::first_includes;
 use layout::is_marked;
-use layout::mark;
 use marks::Square;
 use marks::hints;
 use marks::line;
@@ -37,7 +36,7 @@ impl Few {
     pub const NODES: usize = 4;
 }
 
-// Marks the pairs of x that its edge loses, for all nodes at once. Whether there can be new ones.
+// Marks the pairs of x that its edge loses, for all nodes at once. Whether marks can be new: where not, none is, and none was left to put.
 pub fn lose_row(
     edges: &[u8],
     first: &[u16],
@@ -48,7 +47,7 @@ pub fn lose_row(
 ) -> bool
     requires { ⌜ Setting (now edges) (now first) (now second) layout (now work) ⌝ }
     requires { ⌜ Edge (now edges) layout x ⌝ }
-    ensures { λ _. ⌜ Grows (Follows (now (edges .entry)) (now (first .entry)) (now (second .entry)) layout) (markSquare layout) (now (work .entry)) (now (work .exit)) ⌝ }
+    ensures { λ r. ⌜ RowLost (now (edges .entry)) (now (first .entry)) (now (second .entry)) layout x (now (work .entry)) (now (work .exit)) r ⌝ }
 {
     let mut kept = [0u8; Line::LENGTH];
     let marks = Square {
@@ -60,33 +59,6 @@ pub fn lose_row(
     }
     line::mark_missing(work, marks, x, &kept);
     true
-}
-
-// Marks the pair x, y if the edge of x is lost there.
-fn lose(
-    edges: &[u8],
-    first: &[u16],
-    second: &[u16],
-    work: &mut [u8],
-    partners: &mut [u16; Partners::NODES],
-    waiting: &mut [u16; Waiting::LENGTH],
-    layout: Layout,
-    x: usize,
-    y: usize,
-)
-    requires { ⌜ Setting (now edges) (now first) (now second) layout (now work) ⌝ }
-    requires { ⌜ Edge (now edges) layout x ⌝ }
-    requires { ⌜ y ≤ layout .names ⌝ }
-    ensures { λ _. ⌜ Grows (Follows (now (edges .entry)) (now (first .entry)) (now (second .entry)) layout) (markSquare layout) (now (work .entry)) (now (work .exit)) ⌝ }
-{
-    if is_marked(work, layout, x, y) {
-        return;
-    }
-    if has_partner(first, second, work, partners, layout, x, y) {
-        return;
-    }
-    mark(work, layout, x, y);
-    wait(waiting, x);
 }
 
 // Adds to the line what lies below the restrictions of the second release with this role and this filler.
@@ -118,8 +90,8 @@ fn touch_by(
     }
 }
 
-// Does so for each filler among the new columns. A node that is not in the line has no partner with such a filler, so the new marks take
-// none from it.
+// Adds what lies below such restrictions for each filler among the new columns. A node that is not in the line has no partner with such a
+// filler, so the new marks take none from it.
 fn touch(
     second: &[u16],
     work: &[u8],
@@ -131,7 +103,7 @@ fn touch(
     requires { ⌜ Rowed (layout .names) (now second) ⌝ }
     requires { ⌜ Area (secondSquare layout) (now work) × Beneath layout (now work) ⌝ }
     requires { ⌜ Spans (layout .names) (now touched) ⌝ }
-    requires { ⌜ layout .names ≤ 1023 ⌝ }
+    requires { ⌜ layout .names ≤ mostNames ⌝ }
 {
     let mut next = waiting::next(new, layout.names, 0);
     while next <= layout.names {
@@ -141,10 +113,16 @@ fn touch(
     }
 }
 
-// How many nodes of the line x is not marked with. Where that is more than a few, the rest is not counted.
-fn count_left(work: &[u8], layout: Layout, touched: &[u8; Line::LENGTH], x: usize) -> usize
+// Notes the nodes of the line that x is not marked with, and answers how many. Where that is more than a few, the rest is not looked for.
+fn find_left(
+    work: &[u8],
+    layout: Layout,
+    touched: &[u8; Line::LENGTH],
+    left: &mut [usize; Few::NODES],
+    x: usize,
+) -> usize
     requires { ⌜ Room (markSquare layout) (now work) ⌝ }
-    requires { ⌜ (x ≤ layout .names) × (layout .names ≤ 1023) ⌝ }
+    requires { ⌜ (x ≤ layout .names) × (layout .names ≤ mostNames) ⌝ }
 {
     let mut count = 0;
     let mut next = waiting::next(touched, layout.names, 0);
@@ -154,46 +132,53 @@ fn count_left(work: &[u8], layout: Layout, touched: &[u8; Line::LENGTH], x: usiz
         if is_marked(work, layout, x, y) {
             continue;
         }
-        count += 1;
-        if Few::NODES < count {
-            return count;
+        if Few::NODES <= count {
+            return Few::NODES + 1;
         }
+        left[count] = y;
+        count += 1;
     }
     count
 }
 
-// The edge of x, for each node of the line.
+// The edge of x, for each of the nodes noted. Whether a mark is new.
 fn lose_each(
     edges: &[u8],
     first: &[u16],
     second: &[u16],
     work: &mut [u8],
-    partners: &mut [u16; Partners::NODES],
-    waiting: &mut [u16; Waiting::LENGTH],
     layout: Layout,
-    touched: &[u8; Line::LENGTH],
+    left: &[usize; Few::NODES],
+    count: usize,
     x: usize,
-)
+) -> bool
     requires { ⌜ Setting (now edges) (now first) (now second) layout (now work) ⌝ }
     requires { ⌜ Edge (now edges) layout x ⌝ }
-    ensures { λ _. ⌜ Grows (Follows (now (edges .entry)) (now (first .entry)) (now (second .entry)) layout) (markSquare layout) (now (work .entry)) (now (work .exit)) ⌝ }
+    requires { ⌜ count ≤ fewNodes ⌝ }
+    ensures { λ r. ⌜ Pass
+        (Follows (now (edges .entry)) (now (first .entry)) (now (second .entry)) layout)
+        (markSquare layout) Anything (now (work .entry)) (now (work .exit)) r ⌝ }
 {
-    let mut next = waiting::next(touched, layout.names, 0);
-    while next <= layout.names {
-        let y = next;
-        next = waiting::next(touched, layout.names, y + 1);
-        lose(edges, first, second, work, partners, waiting, layout, x, y);
+    let mut changed = false;
+    let mut i = 0;
+    while i < count {
+        let y = left[i];
+        i += 1;
+        if y <= layout.names {
+            let new = look_at_pair(edges, first, second, work, layout, x, y);
+            changed = changed | new;
+        }
     }
+    changed
 }
 
-// The edge of x, which only nodes of the line can lose: where a few are left that x is not marked with, for each node of the line;
-// where more are left, for all nodes at once.
+// The edge of x, which only nodes of the line can lose: where a few are left that x is not marked with, for each of these; where more are
+// left, for all nodes at once.
 fn lose_touched(
     edges: &[u8],
     first: &[u16],
     second: &[u16],
     work: &mut [u8],
-    partners: &mut [u16; Partners::NODES],
     waiting: &mut [u16; Waiting::LENGTH],
     layout: Layout,
     touched: &[u8; Line::LENGTH],
@@ -203,27 +188,17 @@ fn lose_touched(
     requires { ⌜ Edge (now edges) layout x ⌝ }
     ensures { λ _. ⌜ Grows (Follows (now (edges .entry)) (now (first .entry)) (now (second .entry)) layout) (markSquare layout) (now (work .entry)) (now (work .exit)) ⌝ }
 {
-    let count = count_left(work, layout, touched, x);
-    if count == 0 {
-        return;
-    }
+    let mut left = [0usize; Few::NODES];
+    let count = find_left(work, layout, touched, &mut left, x);
     if Few::NODES < count {
         if lose_row(edges, first, second, work, layout, x) {
             wait(waiting, x);
         }
         return;
     }
-    lose_each(
-        edges,
-        first,
-        second,
-        work,
-        partners,
-        waiting,
-        layout,
-        touched,
-        x,
-    );
+    if lose_each(edges, first, second, work, layout, &left, count, x) {
+        wait(waiting, x);
+    }
 }
 
 // The edge of x, whose end has new marks in the columns of a line: for the nodes that can lose it by these.
@@ -232,7 +207,6 @@ fn lose_by_new(
     first: &[u16],
     second: &[u16],
     work: &mut [u8],
-    partners: &mut [u16; Partners::NODES],
     waiting: &mut [u16; Waiting::LENGTH],
     layout: Layout,
     new: &[u8; Line::LENGTH],
@@ -245,26 +219,15 @@ fn lose_by_new(
     let mut touched = [0u8; Line::LENGTH];
     let role = table::role(first, x);
     touch(second, work, new, &mut touched, layout, role);
-    lose_touched(
-        edges,
-        first,
-        second,
-        work,
-        partners,
-        waiting,
-        layout,
-        &touched,
-        x,
-    );
+    lose_touched(edges, first, second, work, waiting, layout, &touched, x);
 }
 
-// The same, given in how many bytes something is new: where these are more than a few, for all nodes at once.
+// The edge of x for these nodes, or where something is new in more bytes than a few, for all nodes at once.
 fn lose_edge(
     edges: &[u8],
     first: &[u16],
     second: &[u16],
     work: &mut [u8],
-    partners: &mut [u16; Partners::NODES],
     waiting: &mut [u16; Waiting::LENGTH],
     layout: Layout,
     new: &[u8; Line::LENGTH],
@@ -281,17 +244,7 @@ fn lose_edge(
         }
         return;
     }
-    lose_by_new(
-        edges,
-        first,
-        second,
-        work,
-        partners,
-        waiting,
-        layout,
-        new,
-        x,
-    );
+    lose_by_new(edges, first, second, work, waiting, layout, new, x);
 }
 
 // The edges that end at the node, which has new marks in the columns of a line.
@@ -300,7 +253,6 @@ fn lose_edges(
     first: &[u16],
     second: &[u16],
     work: &mut [u8],
-    partners: &mut [u16; Partners::NODES],
     waiting: &mut [u16; Waiting::LENGTH],
     layout: Layout,
     new: &[u8; Line::LENGTH],
@@ -320,18 +272,7 @@ fn lose_edges(
         let x = next;
         next = hints::next(work, inclusions, Hints::FILLERS, end, x + 1);
         if has_edge(edges, x) {
-            lose_edge(
-                edges,
-                first,
-                second,
-                work,
-                partners,
-                waiting,
-                layout,
-                new,
-                fresh,
-                x,
-            );
+            lose_edge(edges, first, second, work, waiting, layout, new, fresh, x);
         }
     }
 }
@@ -370,7 +311,6 @@ pub fn deal(
     first: &[u16],
     second: &[u16],
     work: &mut [u8],
-    partners: &mut [u16; Partners::NODES],
     waiting: &mut [u16; Waiting::LENGTH],
     layout: Layout,
     x: usize,
@@ -386,16 +326,5 @@ pub fn deal(
     let mut new = [0u8; Line::LENGTH];
     let fresh = hints::see(work, marks, x, &mut new);
     hand_down(work, waiting, layout, x);
-    lose_edges(
-        edges,
-        first,
-        second,
-        work,
-        partners,
-        waiting,
-        layout,
-        &new,
-        fresh,
-        x,
-    );
+    lose_edges(edges, first, second, work, waiting, layout, &new, fresh, x);
 }

@@ -1,31 +1,26 @@
-// The nodes that keep a partner of an edge, as a line.
+// The nodes that keep a partner of an edge, as a line, and the next node that it leaves open.
 ghost use mathlib.Core.Path.{_≡_};
 ghost use mathlib.Core.Bool.{true};
-ghost use Prim.Native.Nat.{_≤_, _<_};
+ghost use Prim.Native.Nat.{suc, _≤_, _<_};
 ghost use Rattle.el.proofs.Tests.{Tells};
+ghost use Rattle.release.specs.Files.{mostNames};
 ghost use Rattle.release.specs.Tables.{roleAt, fillerAt};
 ghost use Rattle.marks.specs.Squares.{Room};
 ghost use Rattle.marks.specs.Lines.{Spans, Empty, Full};
 ghost use Rattle.layout.specs.Layouts.{Rowed, markSquare};
-ghost use Rattle.forward.specs.Rules.{Beneath, JoinedBelow, Serves, KeptBy, Kept};
+ghost use Rattle.forward.specs.Rules.{Beneath, JoinedBelow, Serves, KeptBy, Kept, NextMissing};
 use layout::Layout;
 use layout::is_marked;
 use marks::Square;
 use marks::behind;
 use marks::hints::Hint;
 use marks::line;
+use marks::rows::next_unmarked;
 use release::table;
 
 // Whether the name is a restriction of the second release with the role, to a node that `end` is not marked with. The role is
 // looked at first, since most names have another.
-pub fn serves(
-    second: &[u16],
-    work: &[u8],
-    layout: Layout,
-    end: usize,
-    role: usize,
-    name: usize,
-) -> bool
+fn serves(second: &[u16], work: &[u8], layout: Layout, end: usize, role: usize, name: usize) -> bool
     requires { ⌜ Rowed (layout .names) (now second) ⌝ }
     requires { ⌜ Room (markSquare layout) (now work) ⌝ }
     requires { ⌜ (end ≤ layout .names) × (name < layout .names) ⌝ }
@@ -87,7 +82,7 @@ fn keep(second: &[u16], work: &[u8], kept: &mut [u8], layout: Layout, end: usize
     requires { ⌜ Rowed (layout .names) (now second) ⌝ }
     requires { ⌜ Room (markSquare layout) (now work) × Beneath layout (now work) ⌝ }
     requires { ⌜ Spans (layout .names) (now kept) × Empty (now kept) ⌝ }
-    requires { ⌜ (end ≤ layout .names) × (layout .names ≤ 1023) ⌝ }
+    requires { ⌜ (end ≤ layout .names) × (layout .names ≤ mostNames) ⌝ }
     ensures { λ _. ⌜ Kept (now (second .entry)) layout (now (work .entry)) end role (now (kept .exit)) ⌝ }
 {
     let mut next = 0;
@@ -98,8 +93,7 @@ fn keep(second: &[u16], work: &[u8], kept: &mut [u8], layout: Layout, end: usize
     }
 }
 
-// The line of the edge of x: all nodes that have a partner of it. Whether row x is marked with all others; where it says no, nothing is
-// said.
+// The line of the edge of x: all nodes that have a partner of it. Where it answers yes, row x is marked with all others; a no says nothing.
 pub fn keep_partners(
     first: &[u16],
     second: &[u16],
@@ -111,8 +105,10 @@ pub fn keep_partners(
     requires { ⌜ Rowed (layout .names) (now first) × Rowed (layout .names) (now second) ⌝ }
     requires { ⌜ Room (markSquare layout) (now work) × Beneath layout (now work) ⌝ }
     requires { ⌜ Spans (layout .names) (now kept) × Empty (now kept) ⌝ }
-    requires { ⌜ (x < layout .names) × (fillerAt (now first) x ≤ layout .names) × (layout .names ≤ 1023) ⌝ }
-    ensures { λ r. ⌜ Kept (now (second .entry)) layout (now (work .entry)) (fillerAt (now (first .entry)) x) (roleAt (now (first .entry)) x) (now (kept .exit)) × (r ≡ true → Full (markSquare layout) (now (kept .exit)) x (now (work .entry))) ⌝ }
+    requires { ⌜ (x < layout .names) × (fillerAt (now first) x ≤ layout .names) × (layout .names ≤ mostNames) ⌝ }
+    ensures { λ r. ⌜ Kept
+        (now (second .entry)) layout (now (work .entry)) (fillerAt (now (first .entry)) x) (roleAt (now (first .entry)) x) (now (kept .exit))
+        × (r ≡ true → Full (markSquare layout) (now (kept .exit)) x (now (work .entry))) ⌝ }
 {
     let role = table::role(first, x);
     let end = table::filler(first, x);
@@ -122,4 +118,22 @@ pub fn keep_partners(
         names: layout.names,
     };
     line::seems_full(work, marks, x, kept)
+}
+
+// The first node from `from` on that x is not marked with and that is not in the line, or the number after the last node.
+pub fn next_missing(work: &[u8], marks: Square, x: usize, kept: &[u8], from: usize) -> usize
+    requires { ⌜ Room marks (now work) ⌝ }
+    requires { ⌜ (x ≤ marks .names) × (from ≤ suc (marks .names)) ⌝ }
+    requires { ⌜ Spans (marks .names) (now kept) ⌝ }
+    ensures { λ r. ⌜ NextMissing marks (now (work .entry)) x (now (kept .entry)) from r ⌝ }
+{
+    let mut y = next_unmarked(work, marks, x, from);
+    while y <= marks.names {
+        if line::has(kept, y) {
+            y = next_unmarked(work, marks, x, y + 1);
+        } else {
+            return y;
+        }
+    }
+    y
 }

@@ -33,9 +33,16 @@ pub fn mark_lost_above(
 {
     let mut order = [Order::NONE; Order::NODES];
     let mut waiting = [0u16; Waiting::LENGTH];
-    propagation::sort(first, work, layout, &mut order);
-    propagation::mark_names(chosen_names, work, layout);
-    propagation::begin(edges, first, second, work, &mut waiting, &order, layout);
+    propagation::begin(
+        chosen_names,
+        edges,
+        first,
+        second,
+        work,
+        &mut waiting,
+        &mut order,
+        layout,
+    );
     sweep::close(
         chosen_names,
         edges,

@@ -1,115 +1,98 @@
-// The search for a partner of an edge, for one node.
-ghost use mathlib.Core.Path.{_≡_};
-ghost use Prim.Native.Nat.{_≤_, _<_};
+// The search for a partner of an edge, for one node, and the mark that it decides on.
+ghost use Prim.Native.Nat.{suc, _≤_, _<_};
 ghost use Rattle.el.proofs.Tests.{Tells};
-ghost use Rattle.release.specs.Tables.{roleAt, fillerAt};
 ghost use Rattle.marks.specs.Squares.{Room};
+ghost use Rattle.marks.specs.Passes.{Pass};
 ghost use Rattle.layout.specs.Searches.{SomeBelow};
 ghost use Rattle.layout.specs.Layouts.{Rowed, secondSquare, markSquare};
-ghost use Rattle.forward.specs.Rules.{Partner};
-use crate::kept::serves;
+ghost use Rattle.forward.specs.Rules.{Partner, NextSuccessor, Setting, Edge, Follows, EdgeCell};
 use layout::Layout;
+use layout::is_marked;
+use layout::mark;
 use marks::Square;
 use marks::rows::next_marked;
 use release::table;
 
-// The partner found last for each node, of whatever edge it was one: that it often is one of the next edge too is only a hint,
-// so the search begins with it, and then looks at all.
-pub struct Partners {}
-
-impl Partners {
-    pub const NODES: usize = 1024;
-}
-
-fn wide(x: u16) -> usize
-    ensures { λ r. ⌜ r ≡ x ⌝ }
+// The first successor of the name by the role, from the node `from` on, or the number after the last node. A name has one axiom, so one
+// successor at most. The role is looked at first, since most names have another.
+fn next_successor(second: &[u16], layout: Layout, role: usize, name: usize, from: usize) -> usize
+    requires { ⌜ Rowed (layout .names) (now second) ⌝ }
+    requires { ⌜ (name < layout .names) × (from ≤ suc (layout .names)) ⌝ }
+    ensures { λ r. ⌜ NextSuccessor (now (second .entry)) (layout .names) role name from r ⌝ }
 {
-    x as usize
-}
-
-fn narrow(x: usize) -> u16
-    requires { ⌜ x ≤ 65535 ⌝ }
-    ensures { λ r. ⌜ r ≡ x ⌝ }
-{
-    x as u16
-}
-
-// The partner noted last, or a number out of range.
-fn noted(partners: &[u16; Partners::NODES], y: usize) -> usize {
-    if y < Partners::NODES {
-        return wide(partners[y]);
+    let own = table::role(second, name);
+    if own != role {
+        return layout.names + 1;
     }
-    Partners::NODES
-}
-
-// Notes a partner. Out of range nothing happens.
-fn note(partners: &mut [u16; Partners::NODES], y: usize, name: usize) {
-    if y < Partners::NODES {
-        if name < Partners::NODES {
-            partners[y] = narrow(name);
-        }
+    let filler = table::filler(second, name);
+    if filler < from {
+        return layout.names + 1;
     }
-}
-
-// Where the search begins.
-fn begin(partners: &[u16; Partners::NODES], names: usize, y: usize) -> usize
-    ensures { λ r. ⌜ r ≤ names ⌝ }
-{
-    let name = noted(partners, y);
-    if name <= names {
-        return name;
+    if table::is_restriction(second, name) {
+        return filler;
     }
-    0
+    layout.names + 1
 }
 
-// The turn that the search begins with. One from the first name on is the turn through all.
-fn first_turn(from: usize) -> usize
-    ensures { λ r. ⌜ (r ≤ 1) × (1 ≤ r → from ≡ 0) ⌝ }
-{
-    if from == 0 {
-        return 1;
-    }
-    0
-}
-
-// Whether y has an edge by the second release that is a partner of the edge of x. The names above y are looked through twice, first
-// from the one noted last on, if there is one; the first one found ends both loops, and is noted.
-pub fn has_partner(
-    first: &[u16],
+// Whether y has an edge with the role by the second release, to a node that `end` is not marked with. The candidates are the names above
+// y by the second release; of each, its successors by the role are looked at. The first partner ends both loops.
+fn has_partner(
     second: &[u16],
     work: &[u8],
-    partners: &mut [u16; Partners::NODES],
     layout: Layout,
-    x: usize,
+    end: usize,
+    role: usize,
     y: usize,
 ) -> bool
-    requires { ⌜ Rowed (layout .names) (now first) × Rowed (layout .names) (now second) ⌝ }
+    requires { ⌜ Rowed (layout .names) (now second) ⌝ }
     requires { ⌜ Room (secondSquare layout) (now work) × Room (markSquare layout) (now work) ⌝ }
-    requires { ⌜ (x < layout .names) × (y ≤ layout .names) ⌝ }
-    requires { ⌜ fillerAt (now first) x ≤ layout .names ⌝ }
-    ensures { λ r. ⌜ Tells r (SomeBelow (Partner (now (second .entry)) layout (now (work .entry)) (fillerAt (now (first .entry)) x) y (roleAt (now (first .entry)) x)) (layout .names)) ⌝ }
+    requires { ⌜ (end ≤ layout .names) × (y ≤ layout .names) ⌝ }
+    ensures { λ r. ⌜ Tells r (SomeBelow (Partner (now (second .entry)) layout (now (work .entry)) end y role) (layout .names)) ⌝ }
 {
-    let role = table::role(first, x);
-    let end = table::filler(first, x);
     let above = Square {
         base: layout.second,
         names: layout.names,
     };
     let mut found = false;
-    let mut from = begin(partners, layout.names, y);
-    let mut turn = first_turn(from);
-    'search: while turn < 2 {
-        let mut name = next_marked(work, above, y, from);
-        while name < layout.names {
-            if serves(second, work, layout, end, role, name) {
-                note(partners, y, name);
+    let mut candidate = next_marked(work, above, y, 0);
+    'search: while candidate < layout.names {
+        let mut successor = next_successor(second, layout, role, candidate, 0);
+        while successor <= layout.names {
+            if is_marked(work, layout, end, successor) {
+                successor = next_successor(second, layout, role, candidate, successor + 1);
+            } else {
                 found = true;
                 break 'search;
             }
-            name = next_marked(work, above, y, name + 1);
         }
-        from = 0;
-        turn += 1;
+        candidate = next_marked(work, above, y, candidate + 1);
     }
     found
+}
+
+// Marks the pair x, y if the search finds no partner of the edge of x there. Whether the mark is new.
+pub fn look_at_pair(
+    edges: &[u8],
+    first: &[u16],
+    second: &[u16],
+    work: &mut [u8],
+    layout: Layout,
+    x: usize,
+    y: usize,
+) -> bool
+    requires { ⌜ Setting (now edges) (now first) (now second) layout (now work) ⌝ }
+    requires { ⌜ Edge (now edges) layout x ⌝ }
+    requires { ⌜ y ≤ layout .names ⌝ }
+    ensures { λ r. ⌜ Pass
+        (Follows (now (edges .entry)) (now (first .entry)) (now (second .entry)) layout)
+        (markSquare layout)
+        (EdgeCell (now (edges .entry)) (now (first .entry)) (now (second .entry)) layout x y)
+        (now (work .entry)) (now (work .exit)) r ⌝ }
+{
+    let end = table::filler(first, x);
+    let role = table::role(first, x);
+    if has_partner(second, work, layout, end, role, y) {
+        return false;
+    }
+    mark(work, layout, x, y)
 }

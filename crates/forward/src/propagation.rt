@@ -2,15 +2,15 @@
 // find what it missed. They find nothing, as a rule.
 ghost use Prim.Native.Nat.{_*_, _+_, _≤_, _<_};
 ghost use lib.ListN.{length};
+ghost use Rattle.release.specs.Files.{mostNames};
 ghost use Rattle.marks.specs.Squares.{Room};
 ghost use Rattle.marks.specs.Lines.{Spans};
 ghost use Rattle.marks.specs.Passes.{Grows};
 ghost use Rattle.layout.specs.Layouts.{firstSquare, markSquare};
-ghost use Rattle.forward.specs.Rules.{Setting, Named, NameLost, Follows};
+ghost use Rattle.forward.specs.Rules.{Setting, Named, NameLost, Follows, Step};
 use crate::consequences::deal;
 use crate::consequences::lose_row;
 use crate::kept::join_below;
-use crate::partner::Partners;
 use layout::Layout;
 use layout::edges::has_edge;
 use layout::has_name;
@@ -25,11 +25,11 @@ use marks::waiting::Waiting;
 use marks::waiting::wait;
 use release::table;
 
-// Writes an order in which ends come before their edges, and what lies above before what lies below, as far as that can be had.
-pub fn sort(first: &[u16], work: &[u8], layout: Layout, order: &mut [u16; Order::NODES])
+// Writes an order in which ends come before their edges, and what lies above before what lies below, as far as that can be had: a hint.
+fn sort(first: &[u16], work: &[u8], layout: Layout, order: &mut [u16; Order::NODES])
     requires { ⌜ 4 * layout .names ≤ length (now first) ⌝ }
     requires { ⌜ Room (firstSquare layout) (now work) ⌝ }
-    requires { ⌜ layout .names ≤ 1023 ⌝ }
+    requires { ⌜ layout .names ≤ mostNames ⌝ }
 {
     let mut ends = [Order::NONE; Order::NODES];
     let mut next = 0;
@@ -72,8 +72,8 @@ fn mark_name(chosen_names: &[u8], work: &mut [u8], layout: Layout, x: usize)
     }
 }
 
-// Does so for all names.
-pub fn mark_names(chosen_names: &[u8], work: &mut [u8], layout: Layout)
+// Marks each signature name so.
+fn mark_names(chosen_names: &[u8], work: &mut [u8], layout: Layout)
     requires { ⌜ Named (now «chosen_names») layout (now work) ⌝ }
     ensures { λ _. ⌜ Grows (NameLost (now («chosen_names» .entry)) layout) (markSquare layout) (now (work .entry)) (now (work .exit)) ⌝ }
 {
@@ -95,7 +95,7 @@ fn wait_for_above(
 )
     requires { ⌜ Room (firstSquare layout) (now work) ⌝ }
     requires { ⌜ Spans (layout .names) (now done) ⌝ }
-    requires { ⌜ (x ≤ layout .names) × (layout .names ≤ 1023) ⌝ }
+    requires { ⌜ (x ≤ layout .names) × (layout .names ≤ mostNames) ⌝ }
 {
     let inclusions = Square {
         base: layout.first,
@@ -213,7 +213,6 @@ fn deal_with_all(
     requires { ⌜ Setting (now edges) (now first) (now second) layout (now work) ⌝ }
     ensures { λ _. ⌜ Grows (Follows (now (edges .entry)) (now (first .entry)) (now (second .entry)) layout) (markSquare layout) (now (work .entry)) (now (work .exit)) ⌝ }
 {
-    let mut partners = [0u16; Partners::NODES];
     let mut left = Waiting::TURNS;
     while 0 < left {
         left -= 1;
@@ -221,32 +220,30 @@ fn deal_with_all(
         if layout.names < x {
             return;
         }
-        deal(
-            edges,
-            first,
-            second,
-            work,
-            &mut partners,
-            waiting,
-            layout,
-            x,
-        );
+        deal(edges, first, second, work, waiting, layout, x);
     }
 }
 
-// What follows from the marks that names give, as far as the hints lead.
+// The marks that names give, and what follows from them as far as the hints lead. Writes the order of the rows, which the passes ask for
+// too.
 pub fn begin(
+    chosen_names: &[u8],
     edges: &[u8],
     first: &[u16],
     second: &[u16],
     work: &mut [u8],
     waiting: &mut [u16; Waiting::LENGTH],
-    order: &[u16; Order::NODES],
+    order: &mut [u16; Order::NODES],
     layout: Layout,
 )
+    requires { ⌜ layout .names ≤ length (now «chosen_names») ⌝ }
     requires { ⌜ Setting (now edges) (now first) (now second) layout (now work) ⌝ }
-    ensures { λ _. ⌜ Grows (Follows (now (edges .entry)) (now (first .entry)) (now (second .entry)) layout) (markSquare layout) (now (work .entry)) (now (work .exit)) ⌝ }
+    ensures { λ _. ⌜ Grows
+        (Step (now («chosen_names» .entry)) (now (edges .entry)) (now (first .entry)) (now (second .entry)) layout)
+        (markSquare layout) (now (work .entry)) (now (work .exit)) ⌝ }
 {
+    sort(first, work, layout, order);
+    mark_names(chosen_names, work, layout);
     let mut done = [0u8; Line::LENGTH];
     first_rows(
         edges,

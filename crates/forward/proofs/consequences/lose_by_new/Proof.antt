@@ -1,12 +1,8 @@
+-- The nodes touched are a hint: the marks put are those of the function called with them.
 use native.Mathlib.Omega.{arith}
 use borrow.Author.Needs.{needs}
 use Rattle.forward.proofs.consequences.lose_by_new.Statement.{statement}
 use Rattle.forward.proofs.consequences.lose_by_new.Tie as tie
-use Rattle.forward.proofs.consequences.lose_by_new.Reads as reads
-use Rattle.forward.proofs.consequences.lose_by_new.Lts as lts
-use Rattle.forward.proofs.consequences.lose_touched.Reads as lose-touched-reads
-use Rattle.forward.proofs.consequences.touch.Reads as touch-reads
-use Rattle.release.proofs.table.role.Reads as role-reads
 
 role-requires : tie.Need-role-requires
 role-requires c κs = search needs
@@ -15,7 +11,14 @@ slice-aggregate-touch : tie.Need-slice-aggregate-touch
 slice-aggregate-touch c = search needs
 
 touch-requires : tie.Need-touch-requires
-touch-requires c κs = (c .before .before .before .before .before .before .before .pre .0 .places .second-table, ((c .before .before .before .before .before .before .before .pre .0 .places .areas .second, c .before .before .before .before .before .before .before .pre .0 .below (omega (arith, c .before .before .before .before .before .before .before .pre .1 .is-name))), (record { inside = omega (arith, c .before .before .before .before .before .before .before .pre .0 .few) }, c .before .before .before .before .before .before .before .pre .0 .few)))
+touch-requires c κs =
+    let start = c .before .before .before .before .before .before .before in (
+      start .pre .0 .places .second-table,
+      (
+        (start .pre .0 .places .areas .second, start .pre .0 .below (omega (arith, start .pre .1 .is-name))),
+        (record { inside = omega (arith, start .pre .0 .few) }, start .pre .0 .few),
+      ),
+    )
 
 lose-touched-requires : tie.Need-lose-touched-requires
 lose-touched-requires c κs = search needs

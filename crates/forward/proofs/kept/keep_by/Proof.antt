@@ -1,12 +1,9 @@
+-- A name that serves keeps what lies below it; one that does not keeps nothing.
 use borrow.Author.Needs.{needs}
 use Rattle.marks.proofs.Squares.{refuted}
 use Rattle.forward.proofs.Tested.{kept-by, kept-not}
 use Rattle.forward.proofs.kept.keep_by.Statement.{statement}
 use Rattle.forward.proofs.kept.keep_by.Tie as tie
-use Rattle.forward.proofs.kept.keep_by.Reads as reads
-use Rattle.forward.proofs.kept.keep_by.Lts as lts
-use Rattle.forward.proofs.kept.join_below.Reads as join-below-reads
-use Rattle.forward.proofs.kept.serves.Reads as serves-reads
 
 serves-requires : tie.Need-serves-requires
 serves-requires c κs = search needs
@@ -18,7 +15,11 @@ same-length : tie.Need-same-length
 same-length c = search needs
 
 returns : tie.Need-returns
-returns c = kept-by (c .before .before .before .before .before .serves .ensures .sound (c .before .before .before .before .if1 .taken)) (c .before .before .join-below .ensures)
+returns c =
+    let at-join-below = c .before .before in
+    let at-if1 = at-join-below .before .before in
+    let at-serves = at-if1 .before in
+    kept-by (at-serves .serves .ensures .sound (at-if1 .if1 .taken)) (at-join-below .join-below .ensures)
 
 returns-2 : tie.Need-returns-2
 returns-2 c = kept-not (refuted (c .before .serves .ensures) (c .if1 .left))

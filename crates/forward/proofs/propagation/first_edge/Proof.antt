@@ -1,34 +1,49 @@
+-- The edge of x: the marks put are those of its row; whether its end waits is a hint.
 use native.Mathlib.Omega.{arith}
 use Rattle.marks.specs.Passes.{none}
 use Rattle.forward.proofs.Tested.{rowed-row, edge-by, end-small}
 use borrow.Author.Needs.{needs}
 use Rattle.forward.proofs.propagation.first_edge.Statement.{statement}
 use Rattle.forward.proofs.propagation.first_edge.Tie as tie
-use Rattle.forward.proofs.propagation.first_edge.Reads as reads
-use Rattle.forward.proofs.propagation.first_edge.Lts as lts
-use Rattle.forward.proofs.consequences.lose_row.Reads as lose-row-reads
-use Rattle.layout.proofs.edges.has_edge.Reads as has-edge-reads
-use Rattle.marks.proofs.line.has.Reads as has-reads
-use Rattle.marks.proofs.waiting.wait.Reads as wait-reads
-use Rattle.release.proofs.table.filler.Reads as filler-reads
 
 has-edge-requires : tie.Need-has-edge-requires
-has-edge-requires c κs = omega (arith, c .before .before .before .before .before .pre .1 .1, c .before .before .before .before .before .pre .0 .places .edge-bytes .bytes)
+has-edge-requires c κs =
+    let start = c .before .before .before .before .before in
+    omega (arith, start .pre .1 .1, start .pre .0 .places .edge-bytes .bytes)
 
 filler-requires : tie.Need-filler-requires
-filler-requires c κs = rowed-row (c .before .before .before .before .before .before .before .pre .0 .places .first-table) (c .before .before .before .before .before .before .before .pre .1 .1)
+filler-requires c κs =
+    let start = c .before .before .before .before .before .before .before in
+    rowed-row (start .pre .0 .places .first-table) (start .pre .1 .1)
 
 lose-row-requires : tie.Need-lose-row-requires
-lose-row-requires c κs = (c .before .before .before .before .before .before .before .before .before .pre .0, (edge-by (c .before .before .before .before .before .before .before .before .before .pre .1 .1) (c .before .before .before .has-edge .ensures) (c .before .before .if1 .taken)))
+lose-row-requires c κs =
+    let at-if1 = c .before .before in
+    let at-has-edge = at-if1 .before in
+    let start = at-has-edge .before .before .before .before .before .before in
+    (start .pre .0, (edge-by (start .pre .1 .1) (at-has-edge .has-edge .ensures) (at-if1 .if1 .taken)))
 
 has-requires : tie.Need-has-requires
-has-requires c κs = record { inside = omega (arith, end-small (c .before .before .before .before .before .before .before .before .before .before .before .before .pre .0) (edge-by (c .before .before .before .before .before .before .before .before .before .before .before .before .pre .1 .1) (c .before .before .before .before .before .before .has-edge .ensures) (c .before .before .before .before .before .if1 .taken)) (c .before .before .before .before .filler .ensures), c .before .before .before .before .before .before .before .before .before .before .before .before .pre .1 .0 .inside) }
+has-requires c κs =
+    let at-filler = c .before .before .before .before in
+    let at-if1 = at-filler .before in
+    let at-has-edge = at-if1 .before in
+    let start = at-has-edge .before .before .before .before .before .before in
+    record {
+      inside = omega (
+        arith,
+        end-small (start .pre .0) (edge-by (start .pre .1 .1) (at-has-edge .has-edge .ensures) (at-if1 .if1 .taken)) (at-filler .filler .ensures),
+        start .pre .1 .0 .inside,
+      );
+    }
 
 same-length : tie.Need-same-length
 same-length c = search needs
 
 returns : tie.Need-returns
-returns c = c .before .before .before .before .lose-row .ensures
+returns c =
+    let at-lose-row = c .before .before .before .before in
+    at-lose-row .lose-row .ensures .grows
 
 wait-requires : tie.Need-wait-requires
 wait-requires c κs = search needs
@@ -37,7 +52,9 @@ same-length-2 : tie.Need-same-length-2
 same-length-2 c = search needs
 
 returns-2 : tie.Need-returns-2
-returns-2 c = c .before .before .before .before .before .before .lose-row .ensures
+returns-2 c =
+    let at-lose-row = c .before .before .before .before .before .before in
+    at-lose-row .lose-row .ensures .grows
 
 returns-3 : tie.Need-returns-3
 returns-3 c = none

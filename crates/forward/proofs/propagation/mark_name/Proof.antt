@@ -1,3 +1,4 @@
+-- One name: where it is chosen, what the line of those below it lacks is lost.
 use native.Mathlib.Omega.{arith}
 use borrow.Author.Needs.{needs}
 use mathlib.Core.Path.{sym, _∙_}
@@ -6,11 +7,6 @@ use Rattle.marks.proofs.Lines.{empty-zeros}
 use Rattle.forward.proofs.Tested.{names-lost}
 use Rattle.forward.proofs.propagation.mark_name.Statement.{statement}
 use Rattle.forward.proofs.propagation.mark_name.Tie as tie
-use Rattle.forward.proofs.propagation.mark_name.Reads as reads
-use Rattle.forward.proofs.propagation.mark_name.Lts as lts
-use Rattle.forward.proofs.kept.join_below.Reads as join-below-reads
-use Rattle.layout.proofs.has_name.Reads as has-name-reads
-use Rattle.marks.proofs.line.mark_missing.Reads as mark-missing-reads
 
 has-name-requires : tie.Need-has-name-requires
 has-name-requires c κs = search needs
@@ -19,7 +15,9 @@ slice-aggregate-join-below : tie.Need-slice-aggregate-join-below
 slice-aggregate-join-below c = search needs
 
 join-below-requires : tie.Need-join-below-requires
-join-below-requires c κs = (c .before .before .before .before .before .before .pre .0 .below (omega (arith, c .before .before .before .before .before .before .pre .1)), (record { inside = search (needs, c .before .before .before .before .before .before .pre .0 .few) }, c .before .before .before .before .before .before .pre .1))
+join-below-requires c κs =
+    let start = c .before .before .before .before .before .before in
+    (start .pre .0 .below (omega (arith, start .pre .1)), (record { inside = search (needs, start .pre .0 .few) }, start .pre .1))
 
 slice-aggregate-mark-missing : tie.Need-slice-aggregate-mark-missing
 slice-aggregate-mark-missing c = search needs
@@ -31,7 +29,14 @@ same-length : tie.Need-same-length
 same-length c = search needs
 
 returns : tie.Need-returns
-returns c = names-lost (c .before .before .before .before .before .before .before .before .before .before .before .before .before .pre .0) (c .before .before .before .before .before .before .before .before .before .before .before .before .before .pre .1) (sym (c .before .before .before .before .before .before .before .before .before .before .has-name .ensures) ∙ c .before .before .before .before .before .before .before .before .before .if1 .taken) (empty-zeros 128) (c .before .before .before .before .before .before .join-below .ensures) (c .before .before .mark-missing .ensures)
+returns c =
+    let at-mark-missing = c .before .before in
+    let at-join-below = at-mark-missing .before .before .before .before in
+    let at-if1 = at-join-below .before .before .before in
+    let at-has-name = at-if1 .before in
+    let start = at-has-name .before .before .before in
+    names-lost (start .pre .0) (start .pre .1) (sym (at-has-name .has-name .ensures) ∙ at-if1 .if1 .taken) (empty-zeros 128) (at-join-below .join-below .ensures)
+    (at-mark-missing .mark-missing .ensures)
 
 returns-2 : tie.Need-returns-2
 returns-2 c = none

@@ -1,12 +1,9 @@
+-- Which rows wait is a hint, so only places in the row are at stake. Invariant: the next one is at most the number after the last.
 use native.Mathlib.Omega.{arith}
 use borrow.Author.Needs.{needs}
 use Prim.Native.Nat.{suc, _≤_, _-_}
 use Rattle.forward.proofs.propagation.wait_for_above.Statement.{statement}
 use Rattle.forward.proofs.propagation.wait_for_above.Tie as tie
-use Rattle.forward.proofs.propagation.wait_for_above.Reads as reads
-use Rattle.forward.proofs.propagation.wait_for_above.Lts as lts
-use Rattle.marks.proofs.line.next_outside.Reads as next-outside-reads
-use Rattle.marks.proofs.waiting.wait.Reads as wait-reads
 
 abbrev Inv-loop : tie.InvT-loop
 Inv-loop work waiting₀ done layout x inclusions later₀ waiting later = later ≤ suc (layout .names)
@@ -24,10 +21,16 @@ wait-requires : tie.Need-wait-requires Inv-loop μ-loop
 wait-requires c κs = search needs
 
 add-next-outside : tie.Need-add-next-outside Inv-loop μ-loop
-add-next-outside c = omega (arith, c .before .if1 .taken, c .before .before .before .before .before .before .before .pre .1 .1 .1)
+add-next-outside c =
+    let at-if1 = c .before in
+    let start = at-if1 .before .before .before .before .before .before in
+    omega (arith, at-if1 .if1 .taken, start .pre .1 .1 .1)
 
 next-outside-requires-2 : tie.Need-next-outside-requires-2 Inv-loop μ-loop
-next-outside-requires-2 c κs = (c .before .before .before .before .before .before .before .pre .0, ((c .before .before .before .before .before .before .before .pre .1 .1 .0, omega (arith, c .before .if1 .taken)), c .before .before .before .before .before .before .before .pre .1 .0))
+next-outside-requires-2 c κs =
+    let at-if1 = c .before in
+    let start = at-if1 .before .before .before .before .before .before in
+    (start .pre .0, ((start .pre .1 .1 .0, omega (arith, at-if1 .if1 .taken)), start .pre .1 .0))
 
 loop-less : tie.Need-loop-less Inv-loop μ-loop
 loop-less c = omega (arith, c .before .before .if1 .taken, c .next-outside2 .ensures .after)

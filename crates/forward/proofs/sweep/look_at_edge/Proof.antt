@@ -1,3 +1,4 @@
+-- The edge of x: a row that is full by the line of kept nodes has nothing left to mark; else the nodes that are left are looked at.
 use native.Mathlib.Omega.{arith}
 use mathlib.Core.Path.{sym, _∙_}
 use borrow.Author.Needs.{needs}
@@ -6,49 +7,55 @@ use Rattle.marks.proofs.Lines.{empty-zeros}
 use Rattle.forward.proofs.Tested.{edge-by, edge-end, by-edge-pass, by-edge-none}
 use Rattle.forward.proofs.sweep.look_at_edge.Statement.{statement}
 use Rattle.forward.proofs.sweep.look_at_edge.Tie as tie
-use Rattle.forward.proofs.sweep.look_at_edge.Reads as reads
-use Rattle.forward.proofs.sweep.look_at_edge.Lts as lts
-use Rattle.forward.proofs.kept.keep_partners.Reads as keep-partners-reads
-use Rattle.layout.proofs.edges.has_edge.Reads as has-edge-reads
-use Rattle.marks.proofs.line.absorb_missing.Reads as absorb-missing-reads
 
--- src/sweep.rt:55:8
 has-edge-requires : tie.Need-has-edge-requires
 has-edge-requires c κs = omega (arith, c .before .before .before .before .pre .1, c .before .before .before .before .pre .0 .places .edge-bytes .bytes)
 
--- src/sweep.rt:57:47
 slice-aggregate-keep-partners : tie.Need-slice-aggregate-keep-partners
 slice-aggregate-keep-partners c = search needs
 
--- src/sweep.rt:57:12
 keep-partners-requires : tie.Need-keep-partners-requires
-keep-partners-requires c κs = ((c .before .before .before .before .before .before .before .before .pre .0 .places .first-table, c .before .before .before .before .before .before .before .before .pre .0 .places .second-table), ((c .before .before .before .before .before .before .before .before .pre .0 .places .marks, c .before .before .before .before .before .before .before .before .pre .0 .below (omega (arith, c .before .before .before .before .before .before .before .before .pre .1))), ((record { inside = omega (arith, c .before .before .before .before .before .before .before .before .pre .0 .few) }, empty-zeros 128), (c .before .before .before .before .before .before .before .before .pre .1, edge-end (c .before .before .before .before .before .before .before .before .pre .0) (edge-by (c .before .before .before .before .before .before .before .before .pre .1) (c .before .before .before .has-edge .ensures) (c .before .before .if1 .taken)), c .before .before .before .before .before .before .before .before .pre .0 .few))))
+keep-partners-requires c κs =
+    let setting = c .before .before .before .before .before .before .before .before .pre .0 in
+    let inside = c .before .before .before .before .before .before .before .before .pre .1 in
+    let edge = edge-by inside (c .before .before .before .has-edge .ensures) (c .before .before .if1 .taken) in
+    let places = setting .places in (
+      (places .first-table, places .second-table),
+      (
+        (places .marks, setting .below (omega arith)),
+        (
+          (record { inside = omega (arith, setting .few) }, empty-zeros 128),
+          (inside, edge-end setting edge, setting .few),
+        ),
+      ),
+    )
 
--- src/sweep.rt:58:13
 same-length : tie.Need-same-length
 same-length c = search needs
 
--- src/sweep.rt:58:13
 returns : tie.Need-returns
-returns c = by-edge-pass (c .before .before .before .before .before .before .before .before .before .before .before .pre .0) (edge-by (c .before .before .before .before .before .before .before .before .before .before .before .pre .1) (c .before .before .before .before .before .before .has-edge .ensures) (c .before .before .before .before .before .if1 .taken)) (c .before .before .keep-partners .ensures .0) (pass-none (c .before .before .keep-partners .ensures .1 (c .if2 .taken)))
+returns c =
+    let edge = edge-by (c .before .before .before .before .before .before .before .before .before .before .before .pre .1)
+    (c .before .before .before .before .before .before .has-edge .ensures) (c .before .before .before .before .before .if1 .taken) in
+    by-edge-pass (c .before .before .before .before .before .before .before .before .before .before .before .pre .0) edge (c .before .before .keep-partners .ensures .0)
+    (pass-none (c .before .before .keep-partners .ensures .1 (c .if2 .taken)))
 
--- src/sweep.rt:67:13
-slice-aggregate-absorb-missing : tie.Need-slice-aggregate-absorb-missing
-slice-aggregate-absorb-missing c = search needs
+slice-aggregate-look-at-missing : tie.Need-slice-aggregate-look-at-missing
+slice-aggregate-look-at-missing c = search needs
 
--- src/sweep.rt:60:9
-absorb-missing-requires : tie.Need-absorb-missing-requires
-absorb-missing-requires c κs = (c .before .before .before .before .before .before .before .before .before .before .before .before .before .pre .0 .places .marks, (omega (arith, c .before .before .before .before .before .before .before .before .before .before .before .before .before .pre .1), record { inside = search (needs, c .before .before .before .before .before .before .before .before .before .before .before .before .before .pre .0 .few) }))
+look-at-missing-requires : tie.Need-look-at-missing-requires
+look-at-missing-requires c κs =
+    let setting = c .before .before .before .before .before .before .before .before .before .before .before .before .before .pre .0 in
+    let edge = edge-by (c .before .before .before .before .before .before .before .before .before .before .before .before .before .pre .1)
+    (c .before .before .before .before .before .before .before .before .has-edge .ensures) (c .before .before .before .before .before .before .before .if1 .taken) in
+    (setting, (edge, (record { inside = search (needs, setting .few) }, c .before .before .before .before .keep-partners .ensures .0)))
 
--- src/sweep.rt:60:9
 same-length-2 : tie.Need-same-length-2
 same-length-2 c = search needs
 
--- src/sweep.rt:60:9
 returns-2 : tie.Need-returns-2
-returns-2 c = by-edge-pass (c .before .before .before .before .before .before .before .before .before .before .before .before .before .before .before .before .pre .0) (edge-by (c .before .before .before .before .before .before .before .before .before .before .before .before .before .before .before .before .pre .1) (c .before .before .before .before .before .before .before .before .before .before .before .has-edge .ensures) (c .before .before .before .before .before .before .before .before .before .before .if1 .taken)) (c .before .before .before .before .before .before .before .keep-partners .ensures .0) (c .before .before .absorb-missing .ensures)
+returns-2 c = c .before .before .look-at-missing .ensures
 
--- src/sweep.rt:43:1
 returns-3 : tie.Need-returns-3
 returns-3 c = pass-none (by-edge-none (sym (c .before .has-edge .ensures) ∙ c .if1 .left))
 
@@ -61,8 +68,8 @@ look-at-edge-spec =
     keep-partners-requires
     same-length
     returns
-    slice-aggregate-absorb-missing
-    absorb-missing-requires
+    slice-aggregate-look-at-missing
+    look-at-missing-requires
     same-length-2
     returns-2
     returns-3)
