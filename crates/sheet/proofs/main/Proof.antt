@@ -1,7 +1,8 @@
--- `main` is safe: each part that is lent has the length that was asked for, by `length-take`.
+-- `main` is safe: each part that is lent has the length that was asked for, by `length-take`; the text is within its buffer.
 use native.Mathlib.Omega.{arith}
 use lib.ListN.{length-take}
 use borrow.Author.Needs.{needs}
+use Rattle.programs.proofs.Printed.{prints-within}
 use Rattle.sheet.proofs.main.Statement.{statement}
 use Rattle.sheet.proofs.main.Tie as tie
 
@@ -32,23 +33,26 @@ slice-aggregate-read-file-6 c = search needs
 read-file-requires-3 : tie.Need-read-file-requires-3
 read-file-requires-3 c κs = search needs
 
+large-buffer-requires : tie.Need-large-buffer-requires
+large-buffer-requires c κs = search needs
+
 buffer-requires : tie.Need-buffer-requires
 buffer-requires c κs = search needs
 
 array-share-prefix-first : tie.Need-array-share-prefix-first
-array-share-prefix-first c = omega arith
+array-share-prefix-first c = omega (arith, c .before .before .before .before .before .before .before .before .before .before .before .read-file .ensures)
 
 slice-aggregate-sheet : tie.Need-slice-aggregate-sheet
 slice-aggregate-sheet c = simp length-take (omega arith)
 
 array-share-prefix-second : tie.Need-array-share-prefix-second
-array-share-prefix-second c = omega arith
+array-share-prefix-second c = omega (arith, c .before .before .before .before .before .before .before .before .read-file2 .ensures)
 
 slice-aggregate-sheet-2 : tie.Need-slice-aggregate-sheet-2
 slice-aggregate-sheet-2 c = simp length-take (omega arith)
 
 array-share-prefix-chosen : tie.Need-array-share-prefix-chosen
-array-share-prefix-chosen c = omega arith
+array-share-prefix-chosen c = omega (arith, c .before .before .before .before .before .read-file3 .ensures)
 
 slice-aggregate-sheet-3 : tie.Need-slice-aggregate-sheet-3
 slice-aggregate-sheet-3 c = simp length-take (omega arith)
@@ -56,14 +60,17 @@ slice-aggregate-sheet-3 c = simp length-take (omega arith)
 slice-aggregate-sheet-4 : tie.Need-slice-aggregate-sheet-4
 slice-aggregate-sheet-4 c = search needs
 
+slice-aggregate-sheet-5 : tie.Need-slice-aggregate-sheet-5
+slice-aggregate-sheet-5 c = search needs
+
 sheet-requires : tie.Need-sheet-requires
 sheet-requires c κs = search needs
 
 array-share-prefix-text : tie.Need-array-share-prefix-text
-array-share-prefix-text c = omega arith
+array-share-prefix-text c = omega (arith, prints-within (c .before .before .sheet .ensures .prints))
 
 slice-aggregate-write-all : tie.Need-slice-aggregate-write-all
-slice-aggregate-write-all c = simp length-take (omega arith)
+slice-aggregate-write-all c = simp length-take (omega (arith, prints-within (c .before .before .before .sheet .ensures .prints)))
 
 write-all-requires : tie.Need-write-all-requires
 write-all-requires c κs = search needs
@@ -84,6 +91,7 @@ main-spec =
     slice-aggregate-read-file-5
     slice-aggregate-read-file-6
     read-file-requires-3
+    large-buffer-requires
     buffer-requires
     array-share-prefix-first
     slice-aggregate-sheet
@@ -92,6 +100,7 @@ main-spec =
     array-share-prefix-chosen
     slice-aggregate-sheet-3
     slice-aggregate-sheet-4
+    slice-aggregate-sheet-5
     sheet-requires
     array-share-prefix-text
     slice-aggregate-write-all

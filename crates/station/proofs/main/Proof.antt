@@ -1,7 +1,8 @@
--- `main` is safe: each part that is lent has the length that was asked for, by `length-take`.
+-- `main` is safe: each part that is lent has the length that was asked for, by `length-take`; the text is within its buffer.
 use native.Mathlib.Omega.{arith}
 use lib.ListN.{length-take}
 use borrow.Author.Needs.{needs}
+use Rattle.programs.proofs.Printed.{prints-within}
 use Rattle.station.proofs.main.Statement.{statement}
 use Rattle.station.proofs.main.Tie as tie
 
@@ -32,6 +33,9 @@ slice-aggregate-read-file-6 c = search needs
 read-file-requires-3 : tie.Need-read-file-requires-3
 read-file-requires-3 c κs = search needs
 
+large-buffer-requires : tie.Need-large-buffer-requires
+large-buffer-requires c κs = search needs
+
 buffer-requires : tie.Need-buffer-requires
 buffer-requires c κs = search needs
 
@@ -56,14 +60,17 @@ slice-aggregate-station-3 c = simp length-take (omega arith)
 slice-aggregate-station-4 : tie.Need-slice-aggregate-station-4
 slice-aggregate-station-4 c = search needs
 
+slice-aggregate-station-5 : tie.Need-slice-aggregate-station-5
+slice-aggregate-station-5 c = search needs
+
 station-requires : tie.Need-station-requires
 station-requires c κs = search needs
 
 array-share-prefix-text : tie.Need-array-share-prefix-text
-array-share-prefix-text c = search needs
+array-share-prefix-text c = omega (arith, prints-within (c .before .before .station .ensures .prints))
 
 slice-aggregate-write-all : tie.Need-slice-aggregate-write-all
-slice-aggregate-write-all c = simp length-take (omega arith)
+slice-aggregate-write-all c = simp length-take (omega (arith, prints-within (c .before .before .before .station .ensures .prints)))
 
 write-all-requires : tie.Need-write-all-requires
 write-all-requires c κs = search needs
@@ -84,6 +91,7 @@ main-spec =
     slice-aggregate-read-file-5
     slice-aggregate-read-file-6
     read-file-requires-3
+    large-buffer-requires
     buffer-requires
     array-share-prefix-first
     slice-aggregate-station
@@ -92,6 +100,7 @@ main-spec =
     array-share-prefix-chosen
     slice-aggregate-station-3
     slice-aggregate-station-4
+    slice-aggregate-station-5
     station-requires
     array-share-prefix-text
     slice-aggregate-write-all
