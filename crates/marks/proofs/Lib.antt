@@ -7,3 +7,5 @@ pub mod Lines
 pub mod Scans
 pub mod Turning
 pub mod Handing
+pub mod Orders
+pub mod Waits

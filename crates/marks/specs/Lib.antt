@@ -4,3 +4,5 @@ pub mod Passes
 pub mod Words
 pub mod Lines
 pub mod Inclusions
+pub mod Orders
+pub mod Waits

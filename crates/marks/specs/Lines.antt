@@ -1,6 +1,6 @@
 -- Lines: rows of bits in memory of their own, and what they do with the rows of a square.
 --   Has k y                      the line k has the column y;  Spans n k: it has a byte for each column up to n
---   Empty k                      it has none
+--   Empty k                      it has none;  lineBytes: the bytes of a line
 --   Added y k l                  the line l is k with the column y
 --   Joined q w x k l             the line l is k with the columns that are marked in row x
 --   NextOutside q w x k from r   r is the first column of row x from `from` on that is marked and not in k, or the number after the last
@@ -13,6 +13,9 @@ use Prim.Native.Nat.{ℕ, suc, _/_, _%_, _≤_, _<_}
 use lib.ListN.{length, getD}
 use Rattle.marks.specs.declared.Square.{Square}
 use Rattle.marks.specs.Squares.{bit, Marked}
+
+abbrev pub lineBytes : ℕ
+lineBytes = 128
 
 pub record Has (k : List ℕ) (y : ℕ) : Type 0 where
   pub is : bit (getD k (y / 8) 0) (y % 8) ≡ 1

@@ -3,6 +3,8 @@
 ghost use mathlib.Core.Path.{_≡_};
 ghost use Prim.Native.Nat.{suc, _≤_, _<_};
 ghost use Rattle.marks.specs.Squares.{Room, Area, Hints, Kept};
+ghost use Rattle.marks.specs.Lines.{lineBytes};
+ghost use Rattle.marks.specs.Waits.{StillWaiting};
 use crate::Square;
 use crate::behind;
 use crate::is_roomy;
@@ -84,7 +86,7 @@ fn see_behind(
 ) -> usize
     requires { ⌜ Room square (now work) × Room seen (now work) ⌝ }
     requires { ⌜ (seen .names ≡ square .names) × (x ≤ square .names) × (square .names ≤ 1023) ⌝ }
-    ensures { λ _. ⌜ Hints seen (now (work .entry)) (now (work .exit)) ⌝ }
+    ensures { λ r. ⌜ Hints seen (now (work .entry)) (now (work .exit)) × (r ≤ lineBytes) ⌝ }
 {
     let source = place(square, x, 0);
     let target = place(seen, x, 0);
@@ -157,6 +159,7 @@ fn is_new(work: &[u8], square: Square, seen: Square, x: usize) -> bool
 fn wait_behind(work: &[u8], square: Square, seen: Square, waiting: &mut [u16; Waiting::LENGTH])
     requires { ⌜ Room square (now work) × Room seen (now work) ⌝ }
     requires { ⌜ seen .names ≡ square .names ⌝ }
+    ensures { λ _. ⌜ StillWaiting (now (waiting .entry)) (now (waiting .exit)) ⌝ }
 {
     let mut next = 0;
     while next <= square.names {
@@ -172,7 +175,7 @@ fn wait_behind(work: &[u8], square: Square, seen: Square, waiting: &mut [u16; Wa
 pub fn see(work: &mut [u8], square: Square, x: usize, line: &mut [u8; Line::LENGTH]) -> usize
     requires { ⌜ Area square (now work) ⌝ }
     requires { ⌜ (x ≤ square .names) × (square .names ≤ 1023) ⌝ }
-    ensures { λ _. ⌜ Kept square (now (work .entry)) (now (work .exit)) ⌝ }
+    ensures { λ r. ⌜ Kept square (now (work .entry)) (now (work .exit)) × (r ≤ lineBytes) ⌝ }
 {
     if is_roomy(square.names) {
         let seen = behind(square, Hint::SEEN);
@@ -196,6 +199,7 @@ pub fn see_all(work: &mut [u8], square: Square)
 // Lets each row wait that is not as it was seen. Where it is not known, none waits.
 pub fn wait_for_new(work: &[u8], square: Square, waiting: &mut [u16; Waiting::LENGTH])
     requires { ⌜ Area square (now work) ⌝ }
+    ensures { λ _. ⌜ StillWaiting (now (waiting .entry)) (now (waiting .exit)) ⌝ }
 {
     if is_roomy(square.names) {
         let seen = behind(square, Hint::SEEN);

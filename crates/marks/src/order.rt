@@ -1,8 +1,9 @@
 // An order of the nodes in which each one comes after those that are marked in its row, as far as that can be had. It is only a
-// hint: nothing is said of it, so whoever goes by it looks whether a node is left.
+// hint: no more is promised than that nodes stand in it, so whoever goes by it looks whether a node is left.
 ghost use mathlib.Core.Path.{_≡_};
 ghost use Prim.Native.Nat.{_≤_};
 ghost use Rattle.marks.specs.Squares.{Room};
+ghost use Rattle.marks.specs.Orders.{nodeAt, placed, NodesPlaced};
 use crate::Square;
 use crate::line;
 use crate::line::Line;
@@ -32,7 +33,9 @@ fn narrow(x: usize) -> u16
 }
 
 // The node at a place, or a number that is none.
-pub fn at(order: &[u16; Order::NODES], place: usize) -> usize {
+pub fn at(order: &[u16; Order::NODES], place: usize) -> usize
+    ensures { λ r. ⌜ r ≡ nodeAt (now (order .entry)) place ⌝ }
+{
     if place < Order::NODES {
         return wide(order[place]);
     }
@@ -40,7 +43,9 @@ pub fn at(order: &[u16; Order::NODES], place: usize) -> usize {
 }
 
 // Puts a node at a place. Out of range nothing happens.
-pub fn put(order: &mut [u16; Order::NODES], place: usize, node: usize) {
+pub fn put(order: &mut [u16; Order::NODES], place: usize, node: usize)
+    ensures { λ _. ⌜ now (order .exit) ≡ placed (now (order .entry)) place node ⌝ }
+{
     if place < Order::NODES {
         if node < Order::NODES {
             order[place] = narrow(node);
@@ -97,6 +102,7 @@ pub fn sort(
 )
     requires { ⌜ Room square (now work) ⌝ }
     requires { ⌜ square .names ≤ 1023 ⌝ }
+    ensures { λ _. ⌜ NodesPlaced (square .names) (now (order .entry)) (now (order .exit)) ⌝ }
 {
     let mut met = [0u8; Line::LENGTH];
     let mut stack = [0u16; Order::NODES];

@@ -1,7 +1,8 @@
-// Rows with new marks, which wait to be dealt with. All of this is only a hint: nothing is said of what waits, so whoever takes a row or
-// a column from it looks at its marks.
+// Rows with new marks, which wait to be dealt with. All of this is only a hint: nothing is said of the marks of a row that waits, so whoever
+// takes a row or a column from it looks at its marks.
 ghost use mathlib.Core.Path.{_≡_};
 ghost use Prim.Native.Nat.{suc, _≤_, _<_};
+ghost use Rattle.marks.specs.Waits.{StillWaiting, Taken};
 use crate::line::Line;
 use crate::words::block_end;
 use crate::words::first_bit;
@@ -39,7 +40,9 @@ fn narrow(x: usize) -> u16
 }
 
 // Lets a row wait, if it does not. Out of range nothing happens.
-pub fn wait(waiting: &mut [u16; Waiting::LENGTH], x: usize) {
+pub fn wait(waiting: &mut [u16; Waiting::LENGTH], x: usize)
+    ensures { λ _. ⌜ StillWaiting (now (waiting .entry)) (now (waiting .exit)) ⌝ }
+{
     if Waiting::ROWS <= x {
         return;
     }
@@ -57,6 +60,7 @@ pub fn wait(waiting: &mut [u16; Waiting::LENGTH], x: usize) {
 // Lets all rows wait.
 pub fn wait_all(waiting: &mut [u16; Waiting::LENGTH], names: usize)
     requires { ⌜ names ≤ 1023 ⌝ }
+    ensures { λ _. ⌜ StillWaiting (now (waiting .entry)) (now (waiting .exit)) ⌝ }
 {
     let mut x = 0;
     while x <= names {
@@ -66,7 +70,9 @@ pub fn wait_all(waiting: &mut [u16; Waiting::LENGTH], names: usize)
 }
 
 // Takes the row that waits longest. Where there is none, a number that is out of range.
-pub fn take(waiting: &mut [u16; Waiting::LENGTH]) -> usize {
+pub fn take(waiting: &mut [u16; Waiting::LENGTH]) -> usize
+    ensures { λ r. ⌜ Taken (now (waiting .entry)) (now (waiting .exit)) r ⌝ }
+{
     let count = wide(waiting[Waiting::COUNT]);
     if count == 0 {
         return Waiting::ROWS;

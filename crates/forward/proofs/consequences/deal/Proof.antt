@@ -14,14 +14,14 @@ hand-down-requires : tie.Need-hand-down-requires
 hand-down-requires c κs =
     let at-see = c .before .before .before .before in
     let start = at-see .before .before .before .before .before .before .before in
-    (let s = seen-stays (at-see .see .ensures) (start .pre .0) in (s .places .areas .first, s .places .marks), start .pre .1)
+    (let s = seen-stays (at-see .see .ensures .0) (start .pre .0) in (s .places .areas .first, s .places .marks), start .pre .1)
 
 lose-edges-requires : tie.Need-lose-edges-requires
 lose-edges-requires c κs =
     let at-hand-down = c .before .before .before .before .before in
     let at-see = at-hand-down .before .before .before .before .before in
     let start = at-see .before .before .before .before .before .before .before in
-    (setting-stays (at-hand-down .hand-down .ensures) (seen-stays (at-see .see .ensures) (start .pre .0)), start .pre .1)
+    (setting-stays (at-hand-down .hand-down .ensures) (seen-stays (at-see .see .ensures .0) (start .pre .0)), start .pre .1)
 
 same-length : tie.Need-same-length
 same-length c = search needs
@@ -31,7 +31,7 @@ returns c =
     let at-lose-edges = c .before .before in
     let at-hand-down = at-lose-edges .before .before .before .before .before .before in
     let at-see = at-hand-down .before .before .before .before .before in
-    grows-further (kept-grows (at-see .see .ensures)) (grows-further (above-grows (at-hand-down .hand-down .ensures)) (at-lose-edges .lose-edges .ensures))
+    grows-further (kept-grows (at-see .see .ensures .0)) (grows-further (above-grows (at-hand-down .hand-down .ensures)) (at-lose-edges .lose-edges .ensures))
 
 pub deal-spec : {M : Type 1} → statement M
 deal-spec =

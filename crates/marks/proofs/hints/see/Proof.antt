@@ -1,3 +1,4 @@
+-- Where there is room behind the square it is what `see_behind` promises of the memory there; else the row is joined to the line.
 use native.Mathlib.Omega.{arith}
 use borrow.Author.Needs.{needs}
 use Rattle.marks.proofs.Squares.{hint-room, hint-kept, hint-names, kept-same}
@@ -10,37 +11,48 @@ use Rattle.marks.proofs.hints.see_behind.Reads as see-behind-reads
 use Rattle.marks.proofs.is_roomy.Reads as is-roomy-reads
 use Rattle.marks.proofs.line.join.Reads as join-reads
 
--- src/hints.rt:176:8
 is-roomy-requires : tie.Need-is-roomy-requires
 is-roomy-requires c κs = c .before .pre .0 .room .small .few
 
--- src/hints.rt:177:13
 behind-requires : tie.Need-behind-requires
 behind-requires c κs = (c .before .before .before .pre .0 .room .small, omega arith)
 
--- src/hints.rt:178:9
 see-behind-requires : tie.Need-see-behind-requires
-see-behind-requires c κs = ((c .before .before .before .before .before .before .pre .0 .room, hint-room (c .before .before .before .before .before .before .pre .0) (c .before .before .before .before .is-roomy .ensures (c .before .before .before .if1 .taken)) (omega arith) (c .before .before .behind .ensures)), (hint-names _ _ (c .before .before .behind .ensures), c .before .before .before .before .before .before .pre .1 .0, c .before .before .before .before .before .before .pre .1 .1))
+see-behind-requires c κs = (
+  (
+    c .before .before .before .before .before .before .pre .0 .room,
+    hint-room (c .before .before .before .before .before .before .pre .0)
+        (c .before .before .before .before .is-roomy .ensures (c .before .before .before .if1 .taken)) (omega arith) (c .before .before .behind .ensures),
+  ),
+  (
+    hint-names _ _ (c .before .before .behind .ensures),
+    c .before .before .before .before .before .before .pre .1 .0,
+    c .before .before .before .before .before .before .pre .1 .1,
+  ),
+)
 
--- src/hints.rt:178:9
 same-length : tie.Need-same-length
 same-length c = search needs
 
--- src/hints.rt:178:9
 returns : tie.Need-returns
-returns c = hint-kept (c .before .before .before .before .before .before .before .before .before .pre .0) (c .before .before .before .before .before .before .before .is-roomy .ensures (c .before .before .before .before .before .before .if1 .taken)) (omega arith) (c .before .before .before .before .before .behind .ensures) (omega arith) (c .before .before .see-behind .ensures)
+returns c = (
+  hint-kept (c .before .before .before .before .before .before .before .before .before .pre .0)
+      (c .before .before .before .before .before .before .before .is-roomy .ensures (c .before .before .before .before .before .before .if1 .taken)) (omega arith)
+      (c .before .before .before .before .before .behind .ensures) (omega arith) (c .before .before .see-behind .ensures .0),
+  c .before .before .see-behind .ensures .1,
+)
 
--- src/hints.rt:180:5
 join-requires : tie.Need-join-requires
-join-requires c κs = (c .before .before .before .before .before .pre .0 .room, (c .before .before .before .before .before .pre .1 .0, record { inside = omega (arith, c .before .before .before .before .before .pre .1 .1) }))
+join-requires c κs = (
+  c .before .before .before .before .before .pre .0 .room,
+  (c .before .before .before .before .before .pre .1 .0, record { inside = omega (arith, c .before .before .before .before .before .pre .1 .1) }),
+)
 
--- src/hints.rt:171:1
 same-length-2 : tie.Need-same-length-2
 same-length-2 c = search needs
 
--- src/hints.rt:171:1
 returns-2 : tie.Need-returns-2
-returns-2 c = kept-same
+returns-2 c = (kept-same, omega arith)
 
 pub see-spec : {M : Type 1} → statement M
 see-spec =

@@ -1,7 +1,11 @@
+-- The loop's invariant: no counter outgrows the turns, and what stands in the order stood there or is a node. The measure is the turns left.
+use native.Mathlib.Omega.{arith}
 use borrow.Author.Needs.{needs}
 use Prim.Native.Nat.{_+_, _≤_}
 use mathlib.Core.Path.{_≡_}
 use lib.ListN.{length}
+use Rattle.marks.specs.Orders.{NodesPlaced}
+use Rattle.marks.proofs.Orders.{nodes-none, nodes-more}
 use Rattle.marks.proofs.order.sort.Statement.{statement}
 use Rattle.marks.proofs.order.sort.Tie as tie
 use Rattle.marks.proofs.order.sort.Reads as reads
@@ -13,19 +17,20 @@ use Rattle.marks.proofs.order.next.Reads as next-reads
 use Rattle.marks.proofs.order.put.Reads as put-reads
 
 abbrev Inv-loop : tie.InvT-loop
-Inv-loop work square before order₀ met₀ stack₀ columns₀ depth₀ count₀ root₀ left₀ order met stack columns depth count root left = (left + depth ≤ 8192) × (left + count ≤ 8192) × (left + root ≤ 8192) × (length met ≡ 128)
+Inv-loop work square before order₀ met₀ stack₀ columns₀ depth₀ count₀ root₀ left₀ order met stack columns depth count root left = (left + depth ≤ 8192) × (left + count ≤ 8192)
+    × (left + root ≤ 8192) × (length met ≡ 128) × NodesPlaced (square .names) order₀ order
 
 abbrev μ-loop : tie.MeasureT-loop
 μ-loop work square before order₀ met₀ stack₀ columns₀ depth₀ count₀ root₀ left₀ order met stack columns depth count root left = left
 
 loop-holds : tie.Need-loop-holds Inv-loop μ-loop
-loop-holds c = search needs
+loop-holds c = (search needs, search needs, search needs, search needs, nodes-none)
 
 sub-left : tie.Need-sub-left Inv-loop μ-loop
 sub-left c = search needs
 
 returns : tie.Need-returns Inv-loop μ-loop
-returns c = search needs
+returns c = c .before .before .before .before .loop .inv .4
 
 slice-aggregate-has : tie.Need-slice-aggregate-has Inv-loop μ-loop
 slice-aggregate-has c = search needs
@@ -40,7 +45,7 @@ loop-less : tie.Need-loop-less Inv-loop μ-loop
 loop-less c = search needs
 
 loop-again : tie.Need-loop-again Inv-loop μ-loop
-loop-again c = search needs
+loop-again c = (search needs, search needs, search needs, search needs, c .before .before .before .before .before .before .before .loop .inv .4)
 
 slice-aggregate-add : tie.Need-slice-aggregate-add Inv-loop μ-loop
 slice-aggregate-add c = search needs
@@ -61,7 +66,13 @@ loop-less-2 : tie.Need-loop-less-2 Inv-loop μ-loop
 loop-less-2 c = search needs
 
 loop-again-2 : tie.Need-loop-again-2 Inv-loop μ-loop
-loop-again-2 c = search needs
+loop-again-2 c = (
+  search needs,
+  search needs,
+  search needs,
+  search needs,
+  c .before .before .before .before .before .before .before .before .before .before .before .before .before .before .loop .inv .4,
+)
 
 sub-at : tie.Need-sub-at Inv-loop μ-loop
 sub-at c = search needs
@@ -70,7 +81,7 @@ at-requires : tie.Need-at-requires Inv-loop μ-loop
 at-requires c κs = search needs
 
 returns-2 : tie.Need-returns-2 Inv-loop μ-loop
-returns-2 c = search needs
+returns-2 c = c .before .before .before .before .before .before .loop .inv .4
 
 sub-at-2 : tie.Need-sub-at-2 Inv-loop μ-loop
 sub-at-2 c = search needs
@@ -109,7 +120,14 @@ loop-less-3 : tie.Need-loop-less-3 Inv-loop μ-loop
 loop-less-3 c = search needs
 
 loop-again-3 : tie.Need-loop-again-3 Inv-loop μ-loop
-loop-again-3 c = search needs
+loop-again-3 c = (
+  search needs,
+  search needs,
+  search needs,
+  search needs,
+  c .before .before .before .before .before .before .before .before .before .before .before .before .before .before .before .before .before .before .before .before .before .loop
+      .inv .4,
+)
 
 put-requires-6 : tie.Need-put-requires-6 Inv-loop μ-loop
 put-requires-6 c κs = search needs
@@ -124,10 +142,18 @@ loop-less-4 : tie.Need-loop-less-4 Inv-loop μ-loop
 loop-less-4 c = search needs
 
 loop-again-4 : tie.Need-loop-again-4 Inv-loop μ-loop
-loop-again-4 c = search needs
+loop-again-4 c = (
+  search needs,
+  search needs,
+  search needs,
+  search needs,
+  rw (c .put6 .ensures)
+      (nodes-more _ _ (omega (arith, c .before .before .before .before .before .before .before .before .if4 .left))
+      (c .before .before .before .before .before .before .before .before .before .before .before .before .before .before .loop .inv .4)),
+)
 
 returns-3 : tie.Need-returns-3 Inv-loop μ-loop
-returns-3 c = search needs
+returns-3 c = c .before .loop .inv .4
 
 pub sort-spec : {M : Type 1} → statement M
 sort-spec =

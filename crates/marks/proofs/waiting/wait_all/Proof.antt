@@ -1,5 +1,9 @@
+-- The loop's invariant: `x` is at most the number after the last row, and each row that waited goes on waiting.
+use native.Mathlib.Omega.{arith}
 use Prim.Native.Nat.{suc, _≤_, _-_}
 use borrow.Author.Needs.{needs}
+use Rattle.marks.specs.Waits.{StillWaiting}
+use Rattle.marks.proofs.Waits.{still-none, still-further}
 use Rattle.marks.proofs.waiting.wait_all.Statement.{statement}
 use Rattle.marks.proofs.waiting.wait_all.Tie as tie
 use Rattle.marks.proofs.waiting.wait_all.Reads as reads
@@ -7,13 +11,13 @@ use Rattle.marks.proofs.waiting.wait_all.Lts as lts
 use Rattle.marks.proofs.waiting.wait.Reads as wait-reads
 
 abbrev Inv-loop : tie.InvT-loop
-Inv-loop waiting₀ names x₀ waiting x = x ≤ suc names
+Inv-loop waiting₀ names x₀ waiting x = (x ≤ suc names) × StillWaiting waiting₀ waiting
 
 abbrev μ-loop : tie.MeasureT-loop
 μ-loop waiting₀ names x₀ waiting x = suc names - x
 
 loop-holds : tie.Need-loop-holds Inv-loop μ-loop
-loop-holds c = search needs
+loop-holds c = (search needs, still-none)
 
 wait-requires : tie.Need-wait-requires Inv-loop μ-loop
 wait-requires c κs = search needs
@@ -25,10 +29,10 @@ loop-less : tie.Need-loop-less Inv-loop μ-loop
 loop-less c = search needs
 
 loop-again : tie.Need-loop-again Inv-loop μ-loop
-loop-again c = search needs
+loop-again c = (omega arith, still-further (c .before .before .before .loop .inv .1) (c .wait .ensures))
 
 returns : tie.Need-returns Inv-loop μ-loop
-returns c = search needs
+returns c = c .before .loop .inv .1
 
 pub wait-all-spec : {M : Type 1} → statement M
 wait-all-spec =
