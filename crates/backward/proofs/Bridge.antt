@@ -12,14 +12,15 @@ use Rattle.el.specs.Lists.{In}
 use Rattle.el.specs.Concepts.{Node, everything, named}
 use Rattle.el.specs.Axioms.{Axiom, isConjunction, roleOf, fillerOf}
 use Rattle.el.specs.Answers.{Column, node, nameUnder, partner}
+use Rattle.el.specs.Terminologies.{IsNode, name-node}
 use Rattle.el.proofs.Tests.{not-both}
-use Rattle.el.proofs.Nodes.{IsNode, name-node, IsColumn}
+use Rattle.el.proofs.Nodes.{IsColumn}
 use Rattle.el.proofs.PlainNodes.{plain-name}
 use Rattle.el.proofs.BackwardMarks.{Backward, of-part, of-everything, of-parts, of-name, of-role, Partner, filler, none, partner-is}
 use Rattle.el.proofs.BackwardMarks as el
 use Rattle.release.specs.Files.{axiomsOf}
-use Rattle.release.specs.Readings.{nodeNumber}
 use Rattle.release.specs.Tables.{kindAt, roleAt, fillerAt, countAt, partAt}
+use Rattle.release.specs.Entries.{nodeNumber}
 use Rattle.marks.specs.Squares.{Marked}
 use Rattle.classification.specs.Inclusions.{nodeAt, says}
 use Rattle.classification.proofs.Nodes.{at-top, number-at, number-small, said, marked}

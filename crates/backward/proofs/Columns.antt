@@ -14,8 +14,9 @@ use native.Mathlib.Decide.{ℕ-discrete}
 use borrow.Author.Tests.{eq-eqb, ne-eqb}
 use Rattle.el.specs.Concepts.{Node, everything, named}
 use Rattle.el.specs.Answers.{Column, nothing, node}
-use Rattle.el.proofs.Nodes.{top-node, name-node, IsColumn, no-column, node-column}
-use Rattle.release.specs.Readings.{nodeNumber}
+use Rattle.el.specs.Terminologies.{top-node, name-node}
+use Rattle.el.proofs.Nodes.{IsColumn, no-column, node-column}
+use Rattle.release.specs.Entries.{nodeNumber}
 use Rattle.marks.specs.declared.Square.{Square}
 use Rattle.marks.specs.Squares.{Marked}
 use Rattle.classification.specs.Inclusions.{says}

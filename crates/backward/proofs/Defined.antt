@@ -7,7 +7,8 @@ use Prim.Native.Nat.{ℕ, _<_}
 use native.Mathlib.Omega.{arith}
 use Rattle.el.specs.Lists.{In}
 use Rattle.el.specs.Axioms.{Axiom}
-use Rattle.el.proofs.Derivations.{Joins, Fills}
+use Rattle.el.specs.Terminologies.{Joins}
+use Rattle.el.proofs.Derivations.{Fills}
 use Rattle.el.proofs.Terminologies.{NotJoined}
 use Rattle.el.proofs.PlainNodes.{Plain, plain-name}
 use Rattle.release.specs.Files.{namesOf, axiomsOf}

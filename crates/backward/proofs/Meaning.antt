@@ -10,13 +10,14 @@ use native.Mathlib.Omega.{arith}
 use Rattle.el.specs.Concepts.{name, Node}
 use Rattle.el.specs.Derivability.{Derives, same}
 use Rattle.el.specs.Answers.{Column}
+use Rattle.el.specs.Terminologies.{IsNode}
 use Rattle.el.proofs.Tests.{which}
 use Rattle.el.proofs.Derivations.{_▹_}
-use Rattle.el.proofs.Nodes.{IsNode, IsColumn}
+use Rattle.el.proofs.Nodes.{IsColumn}
 use Rattle.el.proofs.BackwardMarks.{LostBelow, backward-sound, below-kept}
 use Rattle.el.proofs.BackwardMarks as el
 use Rattle.release.specs.Files.{axiomsOf}
-use Rattle.release.specs.Readings.{nodeNumber}
+use Rattle.release.specs.Entries.{nodeNumber}
 use Rattle.marks.specs.Squares.{Marked, Frame}
 use Rattle.marks.specs.Passes.{Grows, Closed, AllGood}
 use Rattle.marks.proofs.Passes.{grows-frame, grows-good, unmarked-good}

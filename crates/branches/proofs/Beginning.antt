@@ -8,7 +8,7 @@ use Rattle.release.specs.Tables.{ReleaseRead}
 use Rattle.release.specs.declared.Checked.{Checked}
 use Rattle.release.specs.declared.Refusal.{Refusal}
 use Rattle.marks.specs.Squares as marks
-use Rattle.marks.specs.Squares.{size}
+use Rattle.marks.specs.Memory.{size}
 use Rattle.comparison.specs.Compared.{BothGiven, Prepared}
 use Rattle.meanings.specs.declared.Compared.{Compared}
 use Rattle.meanings.specs.declared.Comparison.{Comparison}

@@ -11,8 +11,8 @@ use lib.Dec.{ltb}
 use lib.ListN.{length, take, drop, length-take}
 use lib.Seq.{ext-getD, getD-take, length-take-le}
 use Rattle.el.specs.Answers.{comparisonBytes}
+use Rattle.el.specs.Terminologies.{Comparable}
 use Rattle.el.proofs.Tests.{and-left}
-use Rattle.el.proofs.Nodes.{Comparable}
 use Rattle.el.proofs.Answers.{comparison-bytes}
 use Rattle.el.proofs.Demand3.{one-byte}
 use Rattle.release.specs.Files.{namesOf, rolesOf, axiomsOf, mostNames, mostRoles}
@@ -22,7 +22,7 @@ use Rattle.release.specs.declared.Checked.{Checked}
 use Rattle.release.specs.declared.Refusal.{Refusal}
 use Rattle.release.proofs.Linked.{formed, terminology}
 use Rattle.signature.specs.Bytes.{signatureFault, signatureOf}
-use Rattle.marks.specs.Squares.{size}
+use Rattle.marks.specs.Memory.{size}
 use Rattle.comparison.specs.Compared.{Given, Ready, Reported}
 use Rattle.comparison.proofs.Pipeline.{few, signature-long}
 use Rattle.meanings.specs.declared.Compared.{Compared}

@@ -22,7 +22,7 @@ use Rattle.release.specs.declared.Refusal.{Refusal}
 use Rattle.signature.specs.Bytes.{isBit, wrongByte, wrongLength, signatureFault}
 use Rattle.demands.specs.Inputs as Inputs
 use Rattle.demands.proofs.Files.{comparison-bytes}
-use Rattle.marks.specs.Squares.{size, Zeroed}
+use Rattle.marks.specs.Memory.{size, Zeroed}
 use Rattle.meanings.specs.declared.Compared.{Compared}
 use Rattle.meanings.specs.declared.Comparison.{Comparison}
 use Rattle.meanings.specs.declared.Comparison.the-variants.{Accepted, Refused}

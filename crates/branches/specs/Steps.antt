@@ -14,7 +14,7 @@ use Rattle.release.specs.Files.{fault, namesOf, rolesOf, axiomsOf, mostNames}
 use Rattle.release.specs.declared.Refusal.{Refusal}
 use Rattle.signature.specs.Bytes.{signatureFault}
 use Rattle.demands.specs.Inputs.{chosen}
-use Rattle.marks.specs.Squares.{size, Zeroed}
+use Rattle.marks.specs.Memory.{size, Zeroed}
 use Rattle.comparison.specs.Compared.{Ready, Prepared}
 use Rattle.meanings.specs.declared.Compared.{Compared}
 use Rattle.meanings.specs.declared.Comparison.{Comparison}

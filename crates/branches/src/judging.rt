@@ -1,6 +1,6 @@
 // The answer of a sheet: refusals in their order.
 ghost use mathlib.Core.Path.{_≡_};
-ghost use Rattle.meanings.specs.Comparing.{Limited};
+ghost use Rattle.meanings.specs.Judging.{Limited};
 ghost use Rattle.branches.specs.Sheets.{judged};
 use meanings::Comparison;
 use meanings::agree;

@@ -4,7 +4,7 @@ ghost use lib.ListN.{take};
 ghost use Rattle.release.specs.Files.{axiomsOf};
 ghost use Rattle.signature.specs.Bytes.{signatureOf};
 ghost use Rattle.el.specs.Answers.{comparisonBytes};
-ghost use Rattle.marks.specs.Squares.{size};
+ghost use Rattle.marks.specs.Memory.{size};
 ghost use Rattle.comparison.specs.Compared.{Given, Ready};
 ghost use Rattle.branches.specs.Rows.{rowOf};
 ghost use Rattle.branches.specs.Steps.{Begun, turns, Turn, rowAt, Endable, Ended};

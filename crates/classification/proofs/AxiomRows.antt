@@ -10,10 +10,10 @@ use native.Mathlib.Omega.{arith}
 use Rattle.el.specs.Lists.{In, pick}
 use Rattle.el.specs.Concepts.{named}
 use Rattle.el.specs.Axioms.{Axiom, isConjunction, partsOf, roleOf, fillerOf}
-use Rattle.el.proofs.Nodes.{Formed}
+use Rattle.el.specs.Terminologies.{Formed}
 use Rattle.release.specs.Files.{numbers, widthOf, namesOf, axiomsOf, joins, restricts}
-use Rattle.release.specs.Readings.{nodeNumber}
 use Rattle.release.specs.Tables.{kindAt, roleAt, fillerAt, tailAt, countAt, partAt, Shaped, Release, AxiomRow, NameRow, no-axiom, has-axiom}
+use Rattle.release.specs.Entries.{nodeNumber}
 use Rattle.release.proofs.Numbers.{in-numbers, numbers-at}
 use Rattle.release.proofs.Linked as linked
 use Rattle.classification.specs.Inclusions.{nodeAt}

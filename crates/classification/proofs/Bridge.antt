@@ -9,13 +9,13 @@ use Prim.Native.Nat.{ℕ, suc, _≤_, _<_}
 use native.Mathlib.Omega.{arith}
 use Rattle.el.specs.Concepts.{Node, named}
 use Rattle.el.specs.Axioms.{roleOf, fillerOf}
+use Rattle.el.specs.Terminologies.{IsNode}
 use Rattle.el.proofs.Derivations.{has-part}
 use Rattle.el.proofs.Derivations as el
-use Rattle.el.proofs.Nodes.{IsNode}
 use Rattle.el.proofs.Classification.{Link, Includes, the-same, to-everything, by-part, by-parts, by-filler}
 use Rattle.release.specs.Files.{namesOf, axiomsOf}
-use Rattle.release.specs.Readings.{nodeNumber}
 use Rattle.release.specs.Tables.{countAt, partAt, Release}
+use Rattle.release.specs.Entries.{nodeNumber}
 use Rattle.marks.specs.declared.Square.{Square}
 use Rattle.marks.specs.Squares.{Marked}
 use Rattle.marks.specs.Passes.{Below}

@@ -9,12 +9,12 @@ use mathlib.Core.Logic.{inl, inr}
 use Prim.Native.Nat.{ℕ, suc, _≤_}
 use native.Mathlib.Omega.{arith}
 use Rattle.el.specs.Concepts.{Node}
+use Rattle.el.specs.Terminologies.{IsNode}
 use Rattle.el.proofs.Derivations.{_▹_}
-use Rattle.el.proofs.Nodes.{IsNode}
 use Rattle.el.proofs.Classification.{Included, includes-sound, includes-complete, Table}
 use Rattle.release.specs.Files.{namesOf, axiomsOf}
-use Rattle.release.specs.Readings.{nodeNumber}
 use Rattle.release.specs.Tables.{Release}
+use Rattle.release.specs.Entries.{nodeNumber}
 use Rattle.release.proofs.Checks.{header-sound}
 use Rattle.release.proofs.Linked.{no-header-fault}
 use Rattle.marks.specs.declared.Square.{Square}

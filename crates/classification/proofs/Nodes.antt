@@ -10,8 +10,8 @@ use native.Mathlib.Omega.{arith}
 use native.Mathlib.Decide.{ℕ-discrete}
 use borrow.Author.Tests.{eqb-true, eq-eqb, ne-eqb}
 use Rattle.el.specs.Concepts.{Node, everything, named}
-use Rattle.el.proofs.Nodes.{IsNode, top-node, name-node}
-use Rattle.release.specs.Readings.{nodeNumber}
+use Rattle.el.specs.Terminologies.{IsNode, top-node, name-node}
+use Rattle.release.specs.Entries.{nodeNumber}
 use Rattle.marks.specs.declared.Square.{Square}
 use Rattle.marks.specs.Squares.{Marked}
 use Rattle.classification.specs.Inclusions.{nodeAt, says}

@@ -13,8 +13,8 @@ use Rattle.el.specs.Lists.{pick}
 use Rattle.el.specs.Concepts.{Node, everything, named}
 use Rattle.el.proofs.Classification.{Included}
 use Rattle.release.specs.Files.{namesOf, axiomsOf}
-use Rattle.release.specs.Readings.{nodeNumber}
 use Rattle.release.specs.Tables.{Release}
+use Rattle.release.specs.Entries.{nodeNumber}
 use Rattle.marks.specs.declared.Square.{Square}
 use Rattle.marks.specs.Squares.{bit, place, Area, Marked, Unmarked, Frame}
 

@@ -21,8 +21,9 @@ use Rattle.release.proofs.Checks.{header-sound}
 use Rattle.release.proofs.Linked.{no-header-fault}
 use Rattle.signature.specs.Bytes.{signatureFault}
 use Rattle.marks.specs.declared.Square.{Square}
-use Rattle.marks.specs.Squares.{span, place, behind, Room, Area, Unmarked, Touches, Kept, Apart, Frame, Zeroed}
+use Rattle.marks.specs.Squares.{span, place, behind, Room, Area, Unmarked, Touches, Kept, Apart, Frame}
 use Rattle.marks.specs.Inclusions.{Turned}
+use Rattle.marks.specs.Memory.{Zeroed}
 use Rattle.marks.proofs.Squares.{span-size, place-from, place-below, touches-further, frame-marked, marked-frame, frame-unmarked, zero-unmarked, zeroed-unmarked}
 use Rattle.classification.specs.Inclusions.{Unclassified, Classified}
 use Rattle.classification.proofs.AxiomRows.{ranges}

@@ -8,7 +8,8 @@ use native.Mathlib.Nat.{mul-le-mul, mul-left-comm}
 use native.Mathlib.Omega.{arith}
 use lib.ListN.{getD}
 use Rattle.marks.specs.declared.Square.{Square}
-use Rattle.marks.specs.Squares.{width, span, size, place, Marked}
+use Rattle.marks.specs.Squares.{width, span, place, Marked}
+use Rattle.marks.specs.Memory.{size}
 use Rattle.marks.proofs.Squares.{place-from, place-below}
 
 pub two-spans : (n : ℕ) → 1 ≤ n → 2 * span n ≤ size n

@@ -22,8 +22,9 @@ use Rattle.release.specs.Files.{namesOf, axiomsOf}
 use Rattle.release.specs.Tables.{Release}
 use Rattle.signature.specs.Bytes.{signatureFault, signatureOf}
 use Rattle.marks.specs.declared.Square.{Square}
-use Rattle.marks.specs.Squares.{size, span, mostCells, behind}
+use Rattle.marks.specs.Squares.{span, mostCells, behind}
 use Rattle.marks.specs.Inclusions.{Turned}
+use Rattle.marks.specs.Memory.{size}
 use Rattle.classification.specs.Inclusions.{Inclusions}
 use Rattle.layout.specs.declared.Layout.{Layout}
 use Rattle.forward.specs.Forward.{ForwardMarked}

@@ -1,7 +1,7 @@
 // The comparison of two accepted releases over a signature, given their tables: the result byte of each name.
 ghost use Prim.Native.Nat.{_≤_};
 ghost use lib.ListN.{length};
-ghost use Rattle.marks.specs.Squares.{size};
+ghost use Rattle.marks.specs.Memory.{size};
 ghost use Rattle.comparison.specs.Compared.{IsSize, Given, Ready, Marking, Compared, ComparedAgain};
 use crate::marking::mark;
 use crate::marking::unmark;

@@ -1,20 +1,32 @@
 -- P1 to P10 and the examples of our own: tested all at once by computing, and so true of the definitions.
+--   passes e           the test of an example
+--   examples-hold      each example of the table holds
 use mathlib.Core.Path.{_≡_, refl, ap₂}
-use mathlib.Core.Bool.{true, false≢true}
+use mathlib.Core.Bool.{Bool, true, false, _&&_, false≢true}
 use mathlib.Core.List.{List, [], _∷_}
 use Prim.Native.Nat.{ℕ}
 use lib.Dec.{eqb}
 use borrow.Author.Tests.{eqb-true}
-use Rattle.el.specs.Lists.{pick, all}
+use Rattle.el.specs.Lists.{pick, all, Every}
 use Rattle.el.specs.Answers.{comparisonBytes, isIncluded}
-use Rattle.el.proofs.Lists.{Every}
 use Rattle.el.proofs.Tests.{tells-all, tells-true, and-left, and-right}
 use Rattle.release.specs.Files.{number, numbers, widthOf, namesOf, rolesOf, countOf, axiomsOf, fault, headerFault, partsFault, conjunctionFault, restrictionFault, tailFault, axiomFault, axiomAt, axiomsFault, axiomsFrom, conjunctDefined}
 use Rattle.signature.specs.Bytes.{signatureFault}
 use Rattle.concept.specs.Bytes.{conceptOk}
 use Rattle.demands.specs.Inputs.{chosen, Accepted, textOk, AcceptedQuestion, conceptIn}
-use Rattle.demands.specs.Examples.{Example, compared, asked, Holds, sameBytes, passes, examples}
+use Rattle.demands.specs.Examples.{Example, compared, asked, Holds, examples}
 use Rattle.demands.proofs.Files.{comparison-bytes, question-answer}
+
+-- the tests, by the answers that crate el computes
+abbrev pub sameBytes : List ℕ → List ℕ → Bool
+sameBytes [] [] = true
+sameBytes [] (y ∷ ys) = false
+sameBytes (x ∷ xs) [] = false
+sameBytes (x ∷ xs) (y ∷ ys) = eqb x y && sameBytes xs ys
+
+abbrev pub passes : Example → Bool
+passes (compared s t g r) = eqb (fault s) 0 && (eqb (fault t) 0 && (eqb (namesOf s) (namesOf t) && (eqb (rolesOf s) (rolesOf t) && (eqb (signatureFault (namesOf s) (rolesOf s) g) 0 && sameBytes (comparisonBytes (namesOf s) (chosen s g) (axiomsOf s) (axiomsOf t)) r))))
+passes (asked s c d v) = eqb (fault s) 0 && (textOk s c && (textOk s d && eqb (pick (isIncluded (namesOf s) (axiomsOf s) (conceptIn s c) (conceptIn s d)) 1 0) v))
 
 same-bytes : (xs ys : List ℕ) → sameBytes xs ys ≡ true → xs ≡ ys
 same-bytes [] [] h = refl

@@ -16,8 +16,8 @@ use Rattle.el.specs.Axioms.{Axiom}
 use Rattle.el.specs.Derivability.{Derives, IsAnswer}
 use Rattle.el.specs.Comparison.{AreBytes}
 use Rattle.el.specs.Answers.{comparisonBytes, isIncluded}
+use Rattle.el.specs.Terminologies.{Comparable}
 use Rattle.el.proofs.Tests.{Tells, and-left, and-right}
-use Rattle.el.proofs.Nodes.{Comparable}
 use Rattle.el.proofs.Questions.{Scoped, tells-included}
 use Rattle.el.proofs.Answers as Answers
 use Rattle.el.proofs.Demand3 as Theory

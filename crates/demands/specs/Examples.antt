@@ -2,18 +2,12 @@
 -- one table: files, signatures and concepts as bytes, with what is to come out.
 --   Holds e        the input of the example e is accepted, and its outcome is the one written
 --   examples       the table
---   passes e       the same tested, by the answers that crate el computes
-use mathlib.Core.Bool.{Bool, true, false, _&&_}
 use mathlib.Core.List.{List, [], _∷_}
 use Prim.Native.Nat.{ℕ}
-use lib.Dec.{eqb}
-use Rattle.el.specs.Lists.{pick}
 use Rattle.el.specs.Derivability.{IsAnswer}
 use Rattle.el.specs.Comparison.{AreBytes}
-use Rattle.el.specs.Answers.{comparisonBytes, isIncluded}
-use Rattle.release.specs.Files.{fault, namesOf, rolesOf, axiomsOf}
-use Rattle.signature.specs.Bytes.{signatureFault}
-use Rattle.demands.specs.Inputs.{chosen, Accepted, textOk, AcceptedQuestion, conceptIn}
+use Rattle.release.specs.Files.{namesOf, axiomsOf}
+use Rattle.demands.specs.Inputs.{chosen, Accepted, AcceptedQuestion, conceptIn}
 
 pub data Example : Type 0 where
   compared : (first second signature result : List ℕ) → Example
@@ -122,14 +116,3 @@ examples =
     ∷ compared named-filler top-filler (1 ∷ 0 ∷ 1 ∷ []) (0 ∷ 0 ∷ [])
     ∷ compared top-filler named-filler (1 ∷ 0 ∷ 1 ∷ []) (0 ∷ 0 ∷ [])
     ∷ []
-
--- the tests
-abbrev pub sameBytes : List ℕ → List ℕ → Bool
-sameBytes [] [] = true
-sameBytes [] (y ∷ ys) = false
-sameBytes (x ∷ xs) [] = false
-sameBytes (x ∷ xs) (y ∷ ys) = eqb x y && sameBytes xs ys
-
-abbrev pub passes : Example → Bool
-passes (compared s t g r) = eqb (fault s) 0 && (eqb (fault t) 0 && (eqb (namesOf s) (namesOf t) && (eqb (rolesOf s) (rolesOf t) && (eqb (signatureFault (namesOf s) (rolesOf s) g) 0 && sameBytes (comparisonBytes (namesOf s) (chosen s g) (axiomsOf s) (axiomsOf t)) r))))
-passes (asked s c d v) = eqb (fault s) 0 && (textOk s c && (textOk s d && eqb (pick (isIncluded (namesOf s) (axiomsOf s) (conceptIn s c) (conceptIn s d)) 1 0) v))

@@ -11,7 +11,7 @@ use Rattle.el.specs.Axioms.{Axiom}
 use Rattle.el.specs.Signatures.{Signature}
 use Rattle.el.specs.Comparison.{AreBytes}
 use Rattle.el.specs.Answers.{listed, comparisonBytes}
-use Rattle.el.proofs.Nodes.{Comparable}
+use Rattle.el.specs.Terminologies.{Comparable}
 use Rattle.el.proofs.Demand3.{first-table, second-table, forth, back, the-byte, one-byte}
 
 length-listed : (f : ℕ → ℕ) (n : ℕ) → length (listed f n) ≡ n

@@ -10,17 +10,17 @@ use mathlib.Core.Logic.{_⊎_, inl, inr}
 use mathlib.Core.Bool.{Bool, true, false, _&&_, false≢true}
 use mathlib.Core.List.{List, [], _∷_}
 use Prim.Native.Nat.{ℕ}
-use Rattle.el.specs.Lists.{In, first, later, pick}
+use Rattle.el.specs.Lists.{In, first, later, pick, Every}
 use Rattle.el.specs.Concepts.{Concept, top, name, both, some, Node, everything, named, conceptOf}
 use Rattle.el.specs.Axioms.{Axiom, partsOf, roleOf, fillerOf}
 use Rattle.el.specs.Derivability.{Derives, to-top, one, other}
 use Rattle.el.specs.Signatures.{Signature, isOver}
 use Rattle.el.specs.Answers.{Test, below, Column, nothing, node, sameColumn, isFill, isPlainColumn, nameUnder, partner, backward}
-use Rattle.el.proofs.Lists.{each, Some, Every, either}
+use Rattle.el.specs.Terminologies.{Joins, Terminology, IsNode, name-node, Formed, NamesBelow, Comparable}
+use Rattle.el.proofs.Lists.{each, Some, either}
 use Rattle.el.proofs.Tests.{Tells, tells-as, tells-true, tells-false, tells-and, tells-or, tells-any, tells-all, never, always, and-left, and-right, and-both, which, which-not, not-both}
-use Rattle.el.proofs.Derivations.{_▹_, Joins, Fills}
-use Rattle.el.proofs.Terminologies.{Terminology}
-use Rattle.el.proofs.Nodes.{IsNode, name-node, IsColumn, no-column, node-column, Formed, NamesBelow, Comparable, in-below, tells-node, tells-column, node-axis, column-axis}
+use Rattle.el.proofs.Derivations.{_▹_, Fills}
+use Rattle.el.proofs.Nodes.{IsColumn, no-column, node-column, in-below, tells-node, tells-column, node-axis, column-axis}
 use Rattle.el.proofs.Saturation.{Closed, Keeps, Marks, saturated}
 use Rattle.el.proofs.Classification.{tells-joins, tells-fills, Table, part-node}
 use Rattle.el.proofs.PlainNodes.{Plain, tells-plain, is-everything, is-joined, is-plain, kind, to-part-of, from-parts-of, from-filler-of, FilledBy, part-plain, top-below-plain, both-below-plain, some-below-plain}

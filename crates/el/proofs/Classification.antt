@@ -10,18 +10,19 @@ use mathlib.Core.Logic.{_⊎_, inl, inr}
 use mathlib.Core.Bool.{Bool, true, false}
 use mathlib.Core.List.{List}
 use Prim.Native.Nat.{ℕ}
-use Rattle.el.specs.Lists.{In}
+use Rattle.el.specs.Lists.{In, Every}
 use Rattle.el.specs.Concepts.{Concept, some, Node, everything, named, conceptOf}
 use Rattle.el.specs.Axioms.{Axiom, rightOf, isConjunction, partsOf, roleOf, fillerOf}
 use Rattle.el.specs.Derivability.{Derives, same, to-top, under}
 use Rattle.el.specs.Interpretations.{Interpretation, sat}
 use Rattle.el.specs.Answers.{Test, isLink, isJoin, isFill, includes}
-use Rattle.el.proofs.Lists.{Some, Every}
+use Rattle.el.specs.Terminologies.{Joins, IsNode, name-node, Formed}
+use Rattle.el.proofs.Lists.{Some}
 use Rattle.el.proofs.Tests.{Tells, tells-as, tells-true, tells-false, tells-eq, tells-and, tells-or, tells-any, tells-all, which}
-use Rattle.el.proofs.Derivations.{_▹_, Serves, Joins, Fills, Restricts, fills-by, right-conjunction, right-restriction, to-part, from-parts, to-filler, from-filler}
+use Rattle.el.proofs.Derivations.{_▹_, Serves, Fills, Restricts, fills-by, right-conjunction, right-restriction, to-part, from-parts, to-filler, from-filler}
 use Rattle.el.proofs.Soundness.{sound}
 use Rattle.el.proofs.CanonicalModel.{Within, Edge, written, implied, names-hold, hold-names, inversion}
-use Rattle.el.proofs.Nodes.{IsNode, name-node, Formed, tells-node, node-axis}
+use Rattle.el.proofs.Nodes.{tells-node, node-axis}
 use Rattle.el.proofs.Saturation.{Closed, Keeps, Marks, saturated}
 
 pub record Link (m : Test Node Node) (x : Node) (r : ℕ) (a : Axiom) : Type 0 where

@@ -19,10 +19,11 @@ use Rattle.el.specs.Derivability.{Derives, to-top, one, other, meet, und
 use Rattle.el.specs.Signatures.{Signature, isOver, LeftWitness, RightWitness, EqualOver}
 use Rattle.el.specs.Comparison.{onLeft, onRight, IsByte, ReportsNone, Demand3}
 use Rattle.el.specs.Answers.{node, byteOf}
+use Rattle.el.specs.Terminologies.{Terminology, name-node, Comparable}
 use Rattle.el.proofs.Tests.{and-left, and-right, which, not-both}
 use Rattle.el.proofs.Derivations.{_▹_}
-use Rattle.el.proofs.Terminologies.{Terminology, top-below-some, both-below-some, some-below-some}
-use Rattle.el.proofs.Nodes.{name-node, node-column, Comparable, turned}
+use Rattle.el.proofs.Terminologies.{top-below-some, both-below-some, some-below-some}
+use Rattle.el.proofs.Nodes.{node-column, turned}
 use Rattle.el.proofs.Classification.{Table, some-table}
 use Rattle.el.proofs.ForwardMarks.{ForwardMarks, some-forward-marks, above-kept}
 use Rattle.el.proofs.BackwardMarks.{BackwardMarks, some-backward-marks, below-kept}

@@ -1,7 +1,6 @@
 -- Steps of derivations that all later modules take.
 --   p ▹ q              first p, then q
 --   Serves r s         the role r serves where s is asked for
---   Joins a            the axiom a is A ≡ B1 ⊓ .. ⊓ Bk
 --   Fills r a          a is A ≡ ∃s.B, and r serves for s: then ∃r.C ⊑ A for each C ⊑ B
 --   Restricts a r d    a is A ⊑ ∃s.B or A ≡ ∃s.B, s serves for r, and d is B: then A ⊑ ∃r.d
 -- Not here: what is not derivable (Terminologies).
@@ -14,6 +13,7 @@ use Rattle.el.specs.Lists.{In, first, later}
 use Rattle.el.specs.Concepts.{Concept, name, both, some, conceptOf, allOf}
 use Rattle.el.specs.Axioms.{Right, conjunction, restriction, Axiom, rightOf, isConjunction, partsOf, roleOf, fillerOf}
 use Rattle.el.specs.Derivability.{Derives, same, to-top, one, other, meet, under, chain, stated, defined}
+use Rattle.el.specs.Terminologies.{Joins}
 
 infixr 5 _▹_
 pub _▹_ : {al : List Axiom} {c d e : Concept} → Derives al c d → Derives al d e → Derives al c e
@@ -59,10 +59,6 @@ has-part a {z} h = by-form (a .right) refl
 -- what an axiom gives
 abbrev pub Serves : ℕ → ℕ → Type 0
 Serves r s = r ≡ s
-
-pub record Joins (a : Axiom) : Type 0 where
-  pub is-defined : a .defined ≡ true
-  pub is-conjunction : isConjunction a ≡ true
 
 pub record Fills (r : ℕ) (a : Axiom) : Type 0 where
   pub is-defined : a .defined ≡ true

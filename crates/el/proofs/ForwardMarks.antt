@@ -8,16 +8,17 @@ use mathlib.Core.Logic.{_⊎_, inl, inr}
 use mathlib.Core.Bool.{true, false}
 use mathlib.Core.List.{List, [], _∷_}
 use Prim.Native.Nat.{ℕ}
-use Rattle.el.specs.Lists.{In, first, later}
+use Rattle.el.specs.Lists.{In, first, later, Every}
 use Rattle.el.specs.Concepts.{Concept, top, name, both, some, Node, named, conceptOf}
 use Rattle.el.specs.Axioms.{Axiom, roleOf, fillerOf}
 use Rattle.el.specs.Derivability.{Derives, to-top, one, other, meet}
 use Rattle.el.specs.Signatures.{Signature, isOver}
 use Rattle.el.specs.Answers.{Test, below, forward}
-use Rattle.el.proofs.Lists.{each, Some, Every, either}
+use Rattle.el.specs.Terminologies.{IsNode, name-node, NamesBelow, Comparable}
+use Rattle.el.proofs.Lists.{each, Some, either}
 use Rattle.el.proofs.Tests.{Tells, decided, tells-as, tells-true, tells-false, tells-and, tells-or, tells-if, tells-any, tells-all, and-left, and-right, and-both, which, not-both}
 use Rattle.el.proofs.Derivations.{_▹_}
-use Rattle.el.proofs.Nodes.{IsNode, name-node, NamesBelow, Comparable, in-below, node-axis}
+use Rattle.el.proofs.Nodes.{in-below, node-axis}
 use Rattle.el.proofs.Saturation.{Closed, Keeps, Marks, saturated}
 use Rattle.el.proofs.Classification.{Link, tells-link, Table, linked, links}
 

@@ -1,47 +1,25 @@
 -- The nodes of a terminology over the names below n: the names and ⊤; and the columns of backward marks: the nodes, and
 -- nothing, below which no concept lies.
---   IsNode n x, IsColumn n y     a name in them is below n
---   Formed n al                  all names, parts and named fillers of the axioms al are below n
---   NamesBelow n sig             the chosen names are below n
---   Comparable n sig t u         two terminologies and a signature, all over the names below n
+--   IsColumn n y       a name in the column y is below n
+-- Not here: IsNode, and terminologies over the names below n (specs/Terminologies).
 use mathlib.Core.Path.{_≡_, refl, ap}
-use mathlib.Core.Bool.{true}
 use mathlib.Core.List.{List, _∷_}
 use Prim.Native.Nat.{ℕ, zero, suc, _<_}
 use native.Mathlib.Omega.{arith}
 use native.Mathlib.Decide.{ℕ-discrete}
 use Rattle.el.specs.Lists.{In, first, later}
 use Rattle.el.specs.Concepts.{Node, everything, named}
-use Rattle.el.specs.Axioms.{Axiom, partsOf, fillerOf}
+use Rattle.el.specs.Axioms.{Axiom}
 use Rattle.el.specs.Signatures.{Signature}
 use Rattle.el.specs.Answers.{below, nodes, sameNode, Column, nothing, node, columns, sameColumn}
+use Rattle.el.specs.Terminologies.{IsNode, top-node, name-node, Comparable}
 use Rattle.el.proofs.Lists.{in-map}
 use Rattle.el.proofs.Tests.{Tells, tells-as, tells-eq, never, always}
-use Rattle.el.proofs.Terminologies.{Terminology}
 use Rattle.el.proofs.Saturation.{Axis}
-
-pub data IsNode (n : ℕ) : Node → Type 0 where
-  top-node : IsNode n everything
-  name-node : {x : ℕ} → x < n → IsNode n (named x)
 
 pub data IsColumn (n : ℕ) : Column → Type 0 where
   no-column : IsColumn n nothing
   node-column : {y : Node} → IsNode n y → IsColumn n (node y)
-
-pub record Formed (n : ℕ) (al : List Axiom) : Type 0 where
-  pub left-in : {a : Axiom} → In al a → a .left < n
-  pub parts-in : {a : Axiom} {z : ℕ} → In al a → In (partsOf a) z → z < n
-  pub filler-in : {a : Axiom} → In al a → IsNode n (fillerOf a)
-
-abbrev pub NamesBelow : ℕ → Signature → Type 0
-NamesBelow n sig = (x : ℕ) → sig .has-name x ≡ true → x < n
-
-pub record Comparable (n : ℕ) (sig : Signature) (t u : List Axiom) : Type 0 where
-  pub names-in : NamesBelow n sig
-  pub first-formed : Formed n t
-  pub second-formed : Formed n u
-  pub first-terms : Terminology t
-  pub second-terms : Terminology u
 
 pub turned : {n : ℕ} {sig : Signature} {t u : List Axiom} → Comparable n sig t u → Comparable n sig u t
 turned given = record { names-in = given .names-in; first-formed = given .second-formed; second-formed = given .first-formed; first-terms = given .second-terms; second-terms = given .first-terms }

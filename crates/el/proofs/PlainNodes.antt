@@ -13,11 +13,12 @@ use Rattle.el.specs.Concepts.{Concept, top, name, both, some, Node, ever
 use Rattle.el.specs.Axioms.{Axiom, partsOf, fillerOf}
 use Rattle.el.specs.Derivability.{Derives, one, other}
 use Rattle.el.specs.Answers.{isPlain, isOf, isJoin}
+use Rattle.el.specs.Terminologies.{Joins, Terminology}
 use Rattle.el.proofs.Lists.{Some}
 use Rattle.el.proofs.Tests.{Tells, decided, tells-as, tells-and, tells-not, tells-any, never}
-use Rattle.el.proofs.Derivations.{_▹_, Joins, Fills, fills-by, to-part, from-parts, from-filler}
+use Rattle.el.proofs.Derivations.{_▹_, Fills, fills-by, to-part, from-parts, from-filler}
 use Rattle.el.proofs.CanonicalModel.{in-one, in-other, within-some}
-use Rattle.el.proofs.Terminologies.{Terminology, NotJoined, part-not-joined, OneBelow, name-below, some-below, one-below-derives, below-not-joined}
+use Rattle.el.proofs.Terminologies.{NotJoined, part-not-joined, OneBelow, name-below, some-below, one-below-derives, below-not-joined}
 use Rattle.el.proofs.Nodes.{tells-node}
 use Rattle.el.proofs.Classification.{tells-joins}
 

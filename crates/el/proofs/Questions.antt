@@ -11,11 +11,13 @@ use Rattle.el.specs.Concepts.{Concept, top, name, both, some, Node, ever
 use Rattle.el.specs.Axioms.{Axiom, partsOf, fillerOf}
 use Rattle.el.specs.Derivability.{Derives, to-top}
 use Rattle.el.specs.Answers.{nodeBelow, byPlain, belowPlain, belowSome, belowBy, isIncluded}
-use Rattle.el.proofs.Lists.{Some, Every}
+use Rattle.el.specs.Lists.{Every}
+use Rattle.el.specs.Terminologies.{Joins, Terminology, IsNode, name-node, Formed}
+use Rattle.el.proofs.Lists.{Some}
 use Rattle.el.proofs.Tests.{Tells, tells-as, tells-iff, tells-eq, tells-and, tells-or, tells-any, tells-all, never, always}
-use Rattle.el.proofs.Derivations.{both-above, Joins}
-use Rattle.el.proofs.Terminologies.{Terminology, top-below-some, both-below-some, some-below-some}
-use Rattle.el.proofs.Nodes.{IsNode, name-node, Formed, tells-node}
+use Rattle.el.proofs.Derivations.{both-above}
+use Rattle.el.proofs.Terminologies.{top-below-some, both-below-some, some-below-some}
+use Rattle.el.proofs.Nodes.{tells-node}
 use Rattle.el.proofs.Classification.{tells-link, tells-joins, tells-fills, Table, some-table, linked, links, part-node}
 use Rattle.el.proofs.PlainNodes.{Plain, tells-plain, is-everything, is-joined, is-plain, kind, to-part-of, from-parts-of, part-plain, top-below-plain, both-below-plain, some-below-plain}
 

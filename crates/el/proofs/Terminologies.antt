@@ -1,5 +1,4 @@
 -- Terminologies: what lies below a name, and below ∃r.d, is the doing of single conjuncts.
---   Terminology al        one axiom a name, and no part of a conjunction is itself defined by a conjunction
 --   OneBelow al c x       one conjunct of c lies below the name x
 --   PartsBelow al c x     that, or x is defined by a conjunction and for each part one conjunct lies below it
 --   below-name            c ⊑ x is derivable only where PartsBelow al c x (the terminology lemma)
@@ -14,14 +13,11 @@ use Rattle.el.specs.Concepts.{Concept, top, name, both, some, conceptOf}
 use Rattle.el.specs.Axioms.{Axiom, rightOf, isConjunction, partsOf, roleOf, fillerOf}
 use Rattle.el.specs.Derivability.{Derives, same, to-top, one, other, meet, under, stated, defined}
 use Rattle.el.specs.Interpretations.{Interpretation, sat, Model}
+use Rattle.el.specs.Terminologies.{Joins, Terminology}
 use Rattle.el.proofs.Tests.{which, not-both}
-use Rattle.el.proofs.Derivations.{_▹_, Serves, Joins, Fills, Restricts, right-conjunction, right-restriction, fills-by, to-part, to-filler, from-filler, has-part}
+use Rattle.el.proofs.Derivations.{_▹_, Serves, Fills, Restricts, right-conjunction, right-restriction, fills-by, to-part, to-filler, from-filler, has-part}
 use Rattle.el.proofs.Soundness.{sound}
 use Rattle.el.proofs.CanonicalModel.{Within, itself, in-one, in-other, within-derives, within-one, within-other, within-some, Edge, written, implied, edge-derives, canonical, names-hold, hold-names, within-holds, derives-holds, inversion}
-
-pub record Terminology (al : List Axiom) : Type 0 where
-  pub one-axiom : {a b : Axiom} → In al a → In al b → a .left ≡ b .left → a ≡ b
-  pub plain-parts : {a b : Axiom} → In al a → In al b → Joins b → In (partsOf a) (b .left) → ⊥
 
 -- no axiom defines x by a conjunction
 pub record NotJoined (al : List Axiom) (x : ℕ) : Type 0 where

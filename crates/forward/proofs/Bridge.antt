@@ -10,14 +10,14 @@ use native.Mathlib.Omega.{arith}
 use Rattle.el.specs.Lists.{In}
 use Rattle.el.specs.Concepts.{Node, named}
 use Rattle.el.specs.Axioms.{Axiom, isConjunction, roleOf, fillerOf}
+use Rattle.el.specs.Terminologies.{IsNode}
 use Rattle.el.proofs.Tests.{which, not-both}
-use Rattle.el.proofs.Nodes.{IsNode}
 use Rattle.el.proofs.Classification.{Link}
 use Rattle.el.proofs.ForwardMarks.{Forward}
 use Rattle.el.proofs.ForwardMarks as el
 use Rattle.release.specs.Files.{axiomsOf}
-use Rattle.release.specs.Readings.{nodeNumber}
 use Rattle.release.specs.Tables.{roleAt, fillerAt}
+use Rattle.release.specs.Entries.{nodeNumber}
 use Rattle.marks.specs.Squares.{Marked}
 use Rattle.marks.specs.Passes.{Below}
 use Rattle.classification.specs.Inclusions.{nodeAt, says}

@@ -8,11 +8,11 @@ use Prim.Native.Nat.{ℕ, suc, _≤_}
 use Rattle.el.specs.Concepts.{Node}
 use Rattle.el.proofs.Tests.{which}
 use Rattle.el.specs.Derivability.{same}
+use Rattle.el.specs.Terminologies.{IsNode}
 use Rattle.el.proofs.Derivations.{_▹_}
-use Rattle.el.proofs.Nodes.{IsNode}
 use Rattle.el.proofs.ForwardMarks.{LostAbove, forward-sound, above-kept}
 use Rattle.release.specs.Files.{axiomsOf}
-use Rattle.release.specs.Readings.{nodeNumber}
+use Rattle.release.specs.Entries.{nodeNumber}
 use Rattle.marks.specs.Squares.{Marked, Frame}
 use Rattle.marks.specs.Passes.{Grows, Closed, Below, AllGood}
 use Rattle.marks.proofs.Passes.{grows-frame, grows-good, unmarked-good}

@@ -10,7 +10,7 @@ use Prim.Native.Nat.{ℕ}
 use borrow.Author.Tests.{ltb-true}
 use lib.Dec.{ltb}
 use Rattle.el.proofs.Tests.{and-left}
-use Rattle.el.proofs.Nodes.{Comparable, NamesBelow}
+use Rattle.el.specs.Terminologies.{Comparable, NamesBelow}
 use Rattle.el.proofs.Classification.{Table}
 use Rattle.release.specs.Files.{axiomsOf}
 use Rattle.release.specs.Tables.{Shaped}

@@ -21,7 +21,8 @@ use lib.Seq.{getD-set-same, getD-set-other}
 use lib.Bits.{bitOr}
 use Rattle.el.proofs.Tests.{Tells, always, never}
 use Rattle.marks.specs.declared.Square.{Square}
-use Rattle.marks.specs.Squares.{bit, width, span, size, place, behind, Area, Lent, Small, mostNames, mostCells, farthest, Place, Room, Marked, Unmarked, Apart, Behind, Touches, Frame, Extends, Put, Hints, Kept, NextMarked, NextUnmarked, Zeroed}
+use Rattle.marks.specs.Squares.{bit, width, span, place, behind, Area, Lent, Small, mostNames, mostCells, farthest, Place, Room, Marked, Unmarked, Apart, Behind, Touches, Frame, Extends, Put, Hints, Kept, NextMarked, NextUnmarked}
+use Rattle.marks.specs.Memory.{size, Zeroed}
 use Rattle.marks.proofs.Bits.{bit-same, bit-other, high-bits, bit-of-zero, orAt, or-stays, or-has, or-only, or-fewer, or-less}
 
 pub not-true : {A : Type 0} → true ≡ false → A

@@ -1,4 +1,5 @@
 -- Squares of marks, passes over them, and lines. To be read in this order.
+pub mod Memory
 pub mod Squares
 pub mod Passes
 pub mod Words

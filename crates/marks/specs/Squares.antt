@@ -1,7 +1,6 @@
 -- A square of marks in lent memory: names + 1 rows and columns, row after row, a bit a cell. A mark is a bit 1.
 --   bit b k            the bit k of the byte b
---   width n            the bytes of a row;  span n: of all rows;  size n: how many cells there are, the bytes lent for a square: those of its
---                      rows, and behind them memory for hints
+--   width n            the bytes of a row;  span n: of all rows; behind them, up to the size of the square (Memory), is memory for hints
 --   place q x y        the byte of the cell in row x and column y of the square q; its bit is y % 8
 --   Room q w           the square q lies in the memory w
 --   Marked q w x y     the cell is marked;  Unmarked q w: no cell is
@@ -16,7 +15,6 @@
 --   Within q a x w     row x has the marks of row a
 --   NextMarked q w x from r   r is the first column of row x from `from` on that is marked, or the number after the last
 --   NextUnmarked q w x from r   the same, the first that is not marked
---   Zeroed k w v       v is w with the first k bytes 0
 use mathlib.Core.Path.{_≡_}
 use mathlib.Core.Bool.{Bool, true, false}
 use mathlib.Core.List.{List, [], _∷_}
@@ -24,6 +22,7 @@ use mathlib.Core.Logic.{_⊎_}
 use Prim.Native.Nat.{ℕ, zero, suc, _+_, _-_, _*_, _/_, _%_, _^_, _≤_, _<_}
 use lib.ListN.{length, getD}
 use Rattle.marks.specs.declared.Square.{Square}
+use Rattle.marks.specs.Memory.{size}
 
 unfoldable pub bit : ℕ → ℕ → ℕ
 bit b k = b / 2 ^ k % 2
@@ -33,9 +32,6 @@ width n = n / 8 + 1
 
 unfoldable pub span : ℕ → ℕ
 span n = suc n * width n
-
-unfoldable pub size : ℕ → ℕ
-size n = suc n * suc n
 
 unfoldable pub place : Square → ℕ → ℕ → ℕ
 place q x y = q .base + (x * width (q .names) + y / 8)
@@ -148,8 +144,3 @@ pub record NextUnmarked (q : Square) (w : List ℕ) (x from r : ℕ) : Type 0 wh
   pub inside : r ≤ suc (q .names)
   pub all : (y : ℕ) → from ≤ y → y < r → Marked q w x y
   pub found : r ≤ q .names → Marked q w x r → ⊥
-
-pub record Zeroed (k : ℕ) (w v : List ℕ) : Type 0 where
-  pub long : length v ≡ length w
-  pub zero : (i : ℕ) → i < k → getD v i 0 ≡ 0
-  pub past : (i : ℕ) → k ≤ i → getD v i 0 ≡ getD w i 0

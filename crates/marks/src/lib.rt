@@ -4,7 +4,8 @@ ghost use mathlib.Core.Bool.{true};
 ghost use Prim.Native.Nat.{_*_, _≤_};
 ghost use lib.ListN.{length};
 ghost use Rattle.el.proofs.Tests.{Tells};
-ghost use Rattle.marks.specs.Squares.{size, span, behind, Unmarked, Touches, width, mostNames, mostCells, Small, Place, Room, Marked, Put, Zeroed};
+ghost use Rattle.marks.specs.Squares.{span, behind, Unmarked, Touches, width, mostNames, mostCells, Small, Place, Room, Marked, Put};
+ghost use Rattle.marks.specs.Memory.{size, Zeroed};
 
 pub mod hints;
 pub mod inclusions;

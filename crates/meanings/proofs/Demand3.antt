@@ -1,29 +1,24 @@
 -- Demand 3 of the call's own promise.
---   Enough s o w                 memory that is enough for comparing releases with as many names as s
 --   not-refused                  accepted releases with the same counts, an accepted signature and enough memory: not refused
 --   demand3                      compared in both orders, with any memory that is enough: neither is refused, each gives every
 --                                name its byte, and the releases are equal over the signature exactly when no byte is other than 0
 use mathlib.Core.Path.{_≡_, sym, subst, _∙_}
 use mathlib.Core.Logic.{_↔_}
 use mathlib.Core.List.{List}
-use Prim.Native.Nat.{ℕ, _≤_, _<_}
+use Prim.Native.Nat.{ℕ, _<_}
 use borrow.Author.Tests.{eq-eqb, le-leb}
 use lib.ListN.{length, getD, take}
 use Rattle.el.specs.Axioms.{Axiom}
-use Rattle.el.specs.Signatures.{Signature, EqualOver}
+use Rattle.el.specs.Signatures.{Signature}
 use Rattle.el.specs.Comparison.{IsByte, AreBytes, ReportsNone}
 use Rattle.el.proofs.Demand3.{one-byte}
 use Rattle.release.specs.Files.{namesOf, rolesOf, axiomsOf}
 use Rattle.demands.specs.Inputs.{Accepted, chosen}
 use Rattle.demands.proofs.Files as Files
-use Rattle.meanings.specs.declared.Comparison.{Comparison}
 use Rattle.meanings.specs.declared.Comparison.the-variants as Is
 use Rattle.release.specs.Readings.{checked}
-use Rattle.meanings.specs.Comparing.{workLength, agreed, sameCounts, lent, judged, comparison, Result, Says}
-
-pub record Enough (s : List ℕ) (o w : ℕ) : Type 0 where
-  pub result : namesOf s ≤ o
-  pub work : workLength (namesOf s) ≤ w
+use Rattle.meanings.specs.Comparing.{agreed, sameCounts, lent, judged, comparison, Result}
+use Rattle.meanings.specs.Demand3.{Enough, Compares, Demand3}
 
 pub turned : {s t g : List ℕ} → Accepted s t g → Accepted t s g
 turned given = record { first = given .second; second = given .first; names = sym (given .names); roles = sym (given .roles); signature = rw (given .names, given .roles) at (given .signature) }
@@ -32,26 +27,8 @@ pub not-refused : {s t g : List ℕ} (o w : ℕ) → Accepted s t g → Enough s
 unfolding checked agreed sameCounts lent judged
 not-refused {s} {t} o w given enough = simp (checked, given .first, given .second, agreed, sameCounts, lent, judged, eq-eqb _ _ (given .names), eq-eqb _ _ (given .roles), eq-eqb _ _ (given .signature), le-leb _ _ (enough .result), le-leb _ _ (enough .work))
 
--- one comparison of accepted input, as the call promises it
-pub record Compares (s t g o w : List ℕ) : Type 0 where
-  pub answer : Comparison
-  pub result : List ℕ
-  pub memory : List ℕ
-  pub says : Says s t g o result w memory answer
-
 pub result-of : {s t g o w : List ℕ} → Accepted s t g → Enough s (length o) (length w) → (c : Compares s t g o w) → Result s t g o (c .result) w (c .memory)
 result-of {o = o} {w = w} given enough c = c .says .accepted (c .says .answer ∙ not-refused (length o) (length w) given enough)
-
--- no name is reported: the first bytes of the result are 0
-abbrev pub NoneReported : ℕ → List ℕ → Type 0
-NoneReported n o = (a : ℕ) → a < n → getD (take n o) a 0 ≡ 0
-
-pub record Demand3 (s t g : List ℕ) {o w o′ w′ : List ℕ} (forth : Compares s t g o w) (back : Compares t s g o′ w′) : Type 0 where
-  pub forth-accepted : forth .answer ≡ Is.Accepted (record { names = namesOf s; roles = rolesOf s })
-  pub back-accepted : back .answer ≡ Is.Accepted (record { names = namesOf s; roles = rolesOf s })
-  pub forth-bytes : AreBytes (namesOf s) (chosen s g) (axiomsOf s) (axiomsOf t) (take (namesOf s) (forth .result))
-  pub back-bytes : AreBytes (namesOf s) (chosen s g) (axiomsOf t) (axiomsOf s) (take (namesOf s) (back .result))
-  pub equal : EqualOver (chosen s g) (axiomsOf s) (axiomsOf t) ↔ (NoneReported (namesOf s) (forth .result) × NoneReported (namesOf s) (back .result))
 
 none-reported : {n : ℕ} {sig : Signature} {t u : List Axiom} {bs : List ℕ} → AreBytes n sig t u bs → ReportsNone n sig t u ↔ ((a : ℕ) → a < n → getD bs a 0 ≡ 0)
 none-reported {sig = sig} {t = t} {u = u} {bs = bs} are = (

@@ -9,7 +9,7 @@ use lib.Dec.{eqb, ltb}
 use Rattle.el.specs.Lists.{pick}
 use Rattle.el.proofs.Tests.{and-left, and-right}
 use Rattle.release.specs.Files.{mostNames, mostRoles}
-use Rattle.marks.specs.Squares.{size}
+use Rattle.marks.specs.Memory.{size}
 use Rattle.release.specs.declared.Counts.{Counts}
 use Rattle.release.specs.declared.Refusal.{Refusal}
 use Rattle.release.specs.declared.Checked.{Checked}
@@ -18,7 +18,8 @@ use Rattle.signature.specs.Bytes.{signatureFault}
 use Rattle.meanings.specs.declared.Compared.{Compared}
 use Rattle.meanings.specs.declared.Comparison.{Comparison}
 use Rattle.meanings.specs.declared.Comparison.the-variants.{Accepted, Refused}
-use Rattle.meanings.specs.Comparing.{workLength, refused, sameCounts, agreed, lent, judged, numberOf, Limited}
+use Rattle.meanings.specs.Comparing.{workLength, refused, sameCounts, agreed, lent, judged}
+use Rattle.meanings.specs.Judging.{numberOf, Limited}
 
 pub work-length : (n q : ℕ) → q ≡ size n → 4 * q ≡ workLength n
 unfolding size

@@ -21,13 +21,14 @@ use Rattle.release.specs.declared.Checked.{Checked}
 use Rattle.release.proofs.Limits as limits
 use Rattle.release.proofs.Limits.{limits}
 use Rattle.signature.specs.Bytes.{signatureFault, signatureOf}
-use Rattle.marks.specs.Squares.{size}
+use Rattle.marks.specs.Memory.{size}
 use Rattle.comparison.specs.Compared as C
 use Rattle.meanings.specs.declared.Compared.{Compared}
 use Rattle.meanings.specs.declared.Comparison.{Comparison}
 use Rattle.meanings.specs.declared.Comparison.the-variants.{Accepted, Refused}
 use Rattle.meanings.proofs.Judging.{not-refused, same-counts}
-use Rattle.meanings.specs.Comparing.{workLength, refused, agreed, lent, andThen, judged, comparison, Limited, Result, Says}
+use Rattle.meanings.specs.Comparing.{workLength, refused, agreed, lent, andThen, judged, comparison, Result, Says}
+use Rattle.meanings.specs.Judging.{Limited}
 
 -- what an accepted comparison has been lent
 pub record LentEnough (g : List ℕ) (o w : ℕ) (c : Compared) : Type 0 where

@@ -7,12 +7,12 @@
 use mathlib.Core.Path.{_≡_}
 use mathlib.Core.Bool.{_&&_}
 use mathlib.Core.List.{List, _++_}
-use Prim.Native.Nat.{ℕ, suc, _*_, _≤_}
+use Prim.Native.Nat.{ℕ, suc, _*_}
 use lib.Dec.{eqb, leb}
 use lib.ListN.{length, take, drop, replicate}
 use Rattle.el.specs.Lists.{pick}
 use Rattle.el.specs.Comparison.{AreBytes}
-use Rattle.release.specs.Files.{namesOf, axiomsOf, mostNames, mostRoles}
+use Rattle.release.specs.Files.{namesOf, axiomsOf}
 use Rattle.release.specs.Readings.{checked}
 use Rattle.release.specs.declared.Counts.{Counts}
 use Rattle.release.specs.declared.Checked.{Checked}
@@ -61,16 +61,6 @@ judged first second g o w = andThen (agreed first second) (lent g o w)
 
 abbrev pub comparison : List ℕ → List ℕ → List ℕ → ℕ → ℕ → Comparison
 comparison s t g o w = judged (checked s) (checked t) g o w
-
--- the number of a check's refusal, 0 for an accepted release
-abbrev pub numberOf : Checked → ℕ
-numberOf (Check.Accepted a) = 0
-numberOf (Check.Refused k) = k .number
-
--- an accepted release has no more names and roles than there can be
-pub record Limited (c : Checked) : Type 0 where
-  pub names : {a : Counts} → c ≡ Check.Accepted a → a .names ≤ mostNames
-  pub roles : {a : Counts} → c ≡ Check.Accepted a → a .roles ≤ mostRoles
 
 pub record Result (s t g o o2 w w2 : List ℕ) : Type 0 where
   pub bytes : AreBytes (namesOf s) (chosen s g) (axiomsOf s) (axiomsOf t) (take (namesOf s) o2)

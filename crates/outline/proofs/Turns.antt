@@ -14,7 +14,7 @@ use lib.ListN.{length, getD, set, drop, length-set, length-drop}
 use lib.Seq.{drop-cons, drop-drop, getD-set-same, getD-set-other}
 use Rattle.el.specs.Concepts.{Concept, some}
 use Rattle.el.proofs.Tests.{and-left, and-right}
-use Rattle.release.specs.Tables.{IsWidth}
+use Rattle.release.specs.Files.{IsWidth}
 use Rattle.concept.specs.Bytes.{number, Spelled, is-top, is-name, is-both, is-some, isWithin, IsTextOf}
 use Rattle.outline.specs.Atoms.{putAtom, Atom, atomsFrom, Outlined, Outlinable}
 use Rattle.outline.proofs.Roots.{Pending, awaits, atom, Reads, done, read-top, read-name, read-both, read-some, OwnersBelow, owners-more, reads-mean, same-chain, same-without-top}

@@ -15,7 +15,7 @@ use Rattle.el.specs.Lists.{pick}
 use Rattle.el.specs.Concepts.{Concept, top, name, both, some}
 use Rattle.el.specs.Axioms.{Axiom}
 use Rattle.el.specs.Derivability.{Derives}
-use Rattle.release.specs.Tables.{IsWidth}
+use Rattle.release.specs.Files.{IsWidth}
 use Rattle.concept.specs.Bytes.{IsTextOf}
 use Rattle.outline.specs.declared.Extent.{Extent}
 

@@ -4,7 +4,7 @@ ghost use mathlib.Core.Path.{_≡_};
 ghost use Prim.Native.Nat.{ℕ};
 ghost use lib.ListN.{drop};
 ghost use Rattle.el.specs.Concepts.{Concept};
-ghost use Rattle.release.specs.Tables.{IsWidth};
+ghost use Rattle.release.specs.Files.{IsWidth};
 ghost use Rattle.concept.specs.Bytes.{number, IsTextOf, conceptOk};
 ghost use Rattle.outline.specs.Atoms.{HasNumber, valueAt, ownerAt, childAt, HasAtom, putAtom, Outlinable, Outlined};
 use concept::LONGEST;

@@ -23,7 +23,8 @@ use Rattle.release.proofs.Linked as linked
 use Rattle.concept.specs.Bytes.{conceptOk, IsTextOf}
 use Rattle.concept.proofs.Texts.{accepted-is-text}
 use Rattle.marks.specs.declared.Square.{Square}
-use Rattle.marks.specs.Squares.{size, Room, Area, Zeroed}
+use Rattle.marks.specs.Squares.{Room, Area}
+use Rattle.marks.specs.Memory.{size, Zeroed}
 use Rattle.marks.proofs.Squares.{span-size, size-small, size-is, zeroed-unmarked}
 use Rattle.points.specs.Grids.{mostNodes}
 use Rattle.classification.specs.Inclusions.{Unclassified, Classified}
@@ -32,7 +33,8 @@ use Rattle.question.specs.declared.Asked.the-variants.{Answer, Refused}
 use Rattle.el.specs.Derivability.{IsAnswer}
 use Rattle.question.specs.Evaluation.{ToDecide}
 use Rattle.demands.specs.Inputs.{textOk, conceptIn}
-use Rattle.question.specs.Asking.{refusalNumber, refusalSide, refusedBy, ofRelease, AskedAs, ToAnswer, Answered}
+use Rattle.question.specs.Asking.{refusalNumber, refusalSide, refusedBy, AskedAs}
+use Rattle.question.specs.Answering.{ofRelease, ToAnswer, Answered}
 
 pub few-names : (s : List ℕ) → fault s ≡ 0 → namesOf s < mostNodes
 few-names s ok = omega (arith, header-sound s (linked.no-header-fault s ok) .names)

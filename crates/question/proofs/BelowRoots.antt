@@ -11,8 +11,9 @@ use native.Mathlib.Decide.{ℕ-discrete}
 use Rattle.el.specs.Concepts.{Concept, some}
 use Rattle.el.specs.Axioms.{Axiom}
 use Rattle.el.specs.Derivability.{Derives, same, one, other, under}
+use Rattle.el.specs.Terminologies.{Terminology}
 use Rattle.el.proofs.Derivations.{_▹_}
-use Rattle.el.proofs.Terminologies.{Terminology, top-below-some, both-below-some, some-below-some}
+use Rattle.el.proofs.Terminologies.{top-below-some, both-below-some, some-below-some}
 use Rattle.release.specs.Files.{axiomsOf}
 use Rattle.marks.specs.declared.Square.{Square}
 use Rattle.classification.proofs.Nodes.{at-name}

@@ -12,7 +12,7 @@ use Rattle.el.specs.Lists.{In}
 use Rattle.el.specs.Concepts.{name, named}
 use Rattle.el.specs.Axioms.{Axiom, isConjunction, fillerOf}
 use Rattle.el.specs.Derivability.{Derives}
-use Rattle.el.proofs.Terminologies.{Terminology}
+use Rattle.el.specs.Terminologies.{Terminology}
 use Rattle.el.proofs.PlainNodes.{Plain, plain-name}
 use Rattle.release.specs.Files.{axiomsOf, joins, restricts}
 use Rattle.release.specs.Tables.{kindAt, fillerAt, countAt, partAt}

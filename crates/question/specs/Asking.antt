@@ -4,19 +4,15 @@
 --   askedBy number side v      what is answered: the refusal, or v where the number is 0
 --   AskedAs s c d w v r        the answer r, and the memory w that became v
 use mathlib.Core.Path.{_≡_}
-use mathlib.Core.Bool.{true}
 use mathlib.Core.List.{List}
-use Prim.Native.Nat.{ℕ, zero, suc, _*_, _≤_}
+use Prim.Native.Nat.{ℕ, zero, suc, _*_}
 use lib.Dec.{eqb, ltb}
 use lib.ListN.{length}
 use Rattle.el.specs.Lists.{pick}
 use Rattle.el.specs.Derivability.{IsAnswer}
-use Rattle.release.specs.Files.{fault, firstOf, widthOf, namesOf, axiomsOf}
-use Rattle.release.specs.Tables.{Release}
-use Rattle.release.specs.declared.Checked.{Checked}
-use Rattle.release.specs.declared.Checked.the-variants as checked
+use Rattle.release.specs.Files.{fault, firstOf, namesOf, axiomsOf}
 use Rattle.demands.specs.Inputs.{textOk, conceptIn}
-use Rattle.marks.specs.Squares.{size, Zeroed}
+use Rattle.marks.specs.Memory.{size, Zeroed}
 use Rattle.question.specs.declared.Asked.{Asked}
 use Rattle.question.specs.declared.Asked.the-variants.{Answer, Refused}
 
@@ -33,10 +29,6 @@ abbrev pub askedBy : ℕ → ℕ → ℕ → Asked
 askedBy zero side v = Answer v
 askedBy (suc k) side v = refusedBy (suc k) side
 
-abbrev pub ofRelease : Checked → Asked
-ofRelease (checked.Accepted counts) = Answer 0
-ofRelease (checked.Refused refusal) = Refused refusal
-
 pub record AskedAs (s c d w v : List ℕ) (r : Asked) : Type 0 where
   pub value : ℕ
   pub answer : r ≡ askedBy (refusalNumber s c d w) (refusalSide s c d w) value
@@ -44,17 +36,3 @@ pub record AskedAs (s c d w v : List ℕ) (r : Asked) : Type 0 where
   pub unchanged : (refusalNumber s c d w ≡ 0 → ⊥) → v ≡ w
   pub held : refusalNumber s c d w ≡ 0 → IsAnswer (axiomsOf s) (conceptIn s c) (conceptIn s d) value
   pub cleared : refusalNumber s c d w ≡ 0 → Zeroed (4 * size (namesOf s)) w v
-
--- answering where nothing is refused
-pub record ToAnswer (s t : List ℕ) (width : ℕ) (c d w : List ℕ) (n cells : ℕ) : Type 0 where
-  pub release : Release s t
-  pub width-is : width ≡ widthOf s
-  pub names : n ≡ namesOf s
-  pub below : textOk s c ≡ true
-  pub above : textOk s d ≡ true
-  pub cells-are : cells ≡ size n
-  pub room : 4 * cells ≤ length w
-
-pub record Answered (s c d w v : List ℕ) (r : ℕ) : Type 0 where
-  pub held : IsAnswer (axiomsOf s) (conceptIn s c) (conceptIn s d) r
-  pub cleared : Zeroed (4 * size (namesOf s)) w v

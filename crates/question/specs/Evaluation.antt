@@ -10,8 +10,8 @@ use Prim.Native.Nat.{ℕ, _<_}
 use Rattle.el.specs.Concepts.{Concept, name, conceptOf}
 use Rattle.el.specs.Axioms.{Axiom}
 use Rattle.el.specs.Derivability.{Derives}
-use Rattle.release.specs.Files.{namesOf, axiomsOf}
-use Rattle.release.specs.Tables.{IsWidth, kindAt, Release}
+use Rattle.release.specs.Files.{namesOf, axiomsOf, IsWidth}
+use Rattle.release.specs.Tables.{kindAt, Release}
 use Rattle.concept.specs.Bytes.{IsTextOf}
 use Rattle.marks.specs.declared.Square.{Square}
 use Rattle.marks.specs.Squares.{Room}

@@ -1,3 +1,4 @@
 -- Questions. To be read in this order.
-pub mod Evaluation
 pub mod Asking
+pub mod Answering
+pub mod Evaluation

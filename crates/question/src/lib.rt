@@ -1,7 +1,8 @@
 // The question whether an inclusion of two concepts is derivable from a release.
 ghost use mathlib.Core.Path.{_≡_};
 ghost use Rattle.release.specs.Files.{widthOf};
-ghost use Rattle.question.specs.Asking.{ofRelease, refusedBy, AskedAs, ToAnswer, Answered};
+ghost use Rattle.question.specs.Asking.{refusedBy, AskedAs};
+ghost use Rattle.question.specs.Answering.{ofRelease, ToAnswer, Answered};
 use classification::classify;
 use marks::Square;
 use marks::clear;

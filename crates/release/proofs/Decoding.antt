@@ -11,8 +11,8 @@ use lib.ListN.{length, getD}
 use Rattle.el.specs.Lists.{In, first, later}
 use Rattle.el.specs.Axioms.{Axiom, isConjunction, partsOf}
 use Rattle.release.specs.Files.{number, numbers, widthOf, firstPlace, joins, restricts, axiomLength, axiomsFault, axiomAt, axiomsFrom, firstOf, fillerNode}
-use Rattle.release.specs.Readings.{nodeNumber, entryOf}
 use Rattle.release.specs.Tables.{kindAt, roleAt, fillerAt, tailAt, countAt, partAt, Stands, here, there, Row, entryAt, blank, of-axiom, Decoded, Shaped}
+use Rattle.release.specs.Entries.{nodeNumber, entryOf}
 use Rattle.release.proofs.Sound.{Sound, axiom-sound, Tail, joined, restricted, Joined}
 use Rattle.release.proofs.Faults.{restricts-not-joins}
 use Rattle.release.proofs.Scan.{filler-node}

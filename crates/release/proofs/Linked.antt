@@ -16,11 +16,10 @@ use lib.ListN.{getD}
 use Rattle.el.specs.Lists.{In, pick}
 use Rattle.el.specs.Concepts.{everything}
 use Rattle.el.specs.Axioms.{Axiom, isConjunction, partsOf, roleOf, fillerOf}
-use Rattle.el.proofs.Nodes.{IsNode, top-node, name-node, Formed}
-use Rattle.el.proofs.Terminologies.{Terminology}
-use Rattle.release.specs.Files.{number, widthOf, firstPlace, namesOf, rolesOf, countOf, joins, restricts, defines, isFiller, topNumber, fillerNode, headerFault, axiomFault, axiomsFault, axiomLength, axiomAt, axiomsOf, conjunctDefined, fault, firstOf}
-use Rattle.release.specs.Readings.{nodeNumber}
-use Rattle.release.specs.Tables.{kindAt, Stands, here, there, blank, of-axiom, Shaped, Release, kindOf, AxiomRow, NameRow, no-axiom, has-axiom}
+use Rattle.el.specs.Terminologies.{Terminology, IsNode, top-node, name-node, Formed}
+use Rattle.release.specs.Files.{number, widthOf, firstPlace, namesOf, rolesOf, countOf, joins, restricts, defines, isFiller, topNumber, fillerNode, headerFault, axiomFault, axiomsFault, axiomLength, axiomAt, axiomsOf, conjunctDefined, fault, firstOf, kindOf}
+use Rattle.release.specs.Tables.{kindAt, Stands, here, there, blank, of-axiom, Shaped, Release, AxiomRow, NameRow, no-axiom, has-axiom}
+use Rattle.release.specs.Entries.{nodeNumber}
 use Rattle.release.proofs.Sound.{Sound, Tail, joined, restricted}
 use Rattle.release.proofs.Faults.{no-kind}
 use Rattle.release.proofs.Decoding.{holds, count-is, stands-sound, both-none, shaped, in-stands, stands-in, axiom-joins, axiom-parts, axiom-no-parts}

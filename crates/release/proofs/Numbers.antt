@@ -13,8 +13,8 @@ use borrow.Author.Tests.{eq-eqb, ne-eqb}
 use lib.Dec.{eqb}
 use lib.ListN.{getD}
 use Rattle.el.specs.Lists.{In, first, later, pick}
-use Rattle.release.specs.Files.{number, numbers, versionOf, widthOf, mostNames, mostNamesOf, mostConjuncts}
-use Rattle.release.specs.Tables.{tailAt, IsWidth, HasNumber, HasHeader, HasPart}
+use Rattle.release.specs.Files.{number, numbers, versionOf, widthOf, mostNames, mostNamesOf, mostConjuncts, IsWidth}
+use Rattle.release.specs.Tables.{tailAt, HasNumber, HasHeader, HasPart}
 
 -- the width
 pub is-width : (s : List ℕ) → IsWidth (widthOf s)

@@ -9,7 +9,7 @@ use lib.ListN.{length, getD}
 use Rattle.release.specs.declared.axiom.Entry.{Entry}
 use Rattle.release.specs.declared.axiom.Reading.the-variants.{Axiom, Refused}
 use Rattle.release.specs.Files.{number, conjunctionFault, restrictionFault, tailFault, tailLength, axiomFault, axiomLength, joins, restricts, fillerNode}
-use Rattle.release.specs.Readings.{nodeNumber, entryOf, reading, tailReading, readingAt}
+use Rattle.release.specs.Entries.{nodeNumber, entryOf, reading, tailReading, readingAt}
 use Rattle.release.proofs.Faults.{restricts-not-joins}
 
 reading-refused : (f k : ℕ) (e : Entry) (next : ℕ) → f ≡ k → (k ≡ 0 → ⊥) → Refused k ≡ reading f e next

@@ -16,8 +16,8 @@ use Rattle.release.specs.declared.axiom.Cursor.{Cursor}
 use Rattle.release.specs.declared.axiom.Reading.{Reading}
 use Rattle.release.specs.declared.axiom.Reading.the-variants.{Axiom, Refused}
 use Rattle.release.specs.Files.{number, widthOf, firstPlace, mostNames, mostRoles, joins, isFiller, fillerNode, topNumber, axiomFault, axiomLength, axiomsFault, firstOf}
-use Rattle.release.specs.Readings.{nodeNumber, entryOf, reading, readingAt, numberOf}
 use Rattle.release.specs.Tables.{Stands, here, there, Row, Put, Fits, entryAt, Origin, blank, of-axiom, Ready, AxiomsRead}
+use Rattle.release.specs.Entries.{nodeNumber, entryOf, reading, readingAt, numberOf}
 use Rattle.release.proofs.Sound.{Sound, axiom-sound, Tail, joined, restricted, tail-within}
 use Rattle.release.proofs.Numbers.{is-width}
 use Rattle.release.proofs.Rows.{row-kept}

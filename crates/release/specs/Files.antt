@@ -6,7 +6,7 @@
 -- takes. Each number is written once: the limits, the mark, a refusal's number.
 use mathlib.Core.Bool.{Bool, true, false, _&&_, _||_, not}
 use mathlib.Core.List.{List, [], _∷_}
-use Prim.Native.Nat.{ℕ, zero, suc, _+_, _*_}
+use Prim.Native.Nat.{ℕ, zero, suc, _+_, _*_, _≤_}
 use lib.Dec.{eqb, ltb, leb}
 use lib.ListN.{length, getD}
 use Rattle.el.specs.Lists.{pick, any}
@@ -32,6 +32,11 @@ mark = 0x45 ∷ 0x4C ∷ 0x54 ∷ []
 
 abbrev pub topNumber : ℕ → ℕ
 topNumber w = pick (eqb w 1) 255 65535
+
+-- a width that a name can have
+pub record IsWidth (w : ℕ) : Type 0 where
+  pub some : 1 ≤ w
+  pub few : w ≤ 2
 
 -- the number of w bytes at place p, low byte first; k such numbers one after the other
 unfoldable pub number : ℕ → List ℕ → ℕ → ℕ
@@ -106,6 +111,10 @@ restricts kind = eqb kind 3 || eqb kind 4
 
 abbrev pub defines : ℕ → Bool
 defines kind = eqb kind 2 || eqb kind 4
+
+-- the kind of an axiom
+abbrev pub kindOf : Axiom → ℕ
+kindOf a = pick (isConjunction a) (pick (a .defined) 2 1) (pick (a .defined) 4 3)
 
 unfoldable pub tailFault : ℕ → ℕ → ℕ → ℕ → List ℕ → ℕ → ℕ
 tailFault w n m kind s p = pick (joins kind) (conjunctionFault w n s p) (pick (restricts kind) (restrictionFault w n m s p) 8)

@@ -1,5 +1,6 @@
 -- The release file: what it says, and what is refused. To be read in this order.
 pub mod Files
 pub mod Readings
-pub mod Tables
 pub mod Shown
+pub mod Entries
+pub mod Tables

@@ -8,10 +8,11 @@ use mathlib.Core.Bool.{true, false}
 use mathlib.Core.List.{List}
 use Prim.Native.Nat.{ℕ, suc, _+_, _*_, _≤_, _<_}
 use lib.ListN.{length, getD}
-use Rattle.el.specs.Lists.{In, pick}
+use Rattle.el.specs.Lists.{In}
 use Rattle.el.specs.Axioms.{Axiom, isConjunction, partsOf, roleOf, fillerOf}
-use Rattle.release.specs.Files.{number, numbers, widthOf, headerLength, firstPlace, mostNames, mostRoles, namesOf, countOf, joins, restricts, axiomLength, axiomsFault, fault}
-use Rattle.release.specs.Readings.{nodeNumber, entryOf, checked}
+use Rattle.release.specs.Files.{number, numbers, widthOf, headerLength, firstPlace, mostNames, mostRoles, namesOf, countOf, joins, restricts, axiomLength, axiomsFault, fault, IsWidth, kindOf}
+use Rattle.release.specs.Readings.{checked}
+use Rattle.release.specs.Entries.{nodeNumber, entryOf}
 use Rattle.release.specs.declared.axiom.Entry.{Entry}
 use Rattle.release.specs.declared.Checked.{Checked}
 
@@ -92,10 +93,6 @@ pub record AxiomsRead (n m c : ℕ) (s t : List ℕ) (r : ℕ) : Type 0 where
   pub decoded : r ≡ 0 → Decoded n c s t
 
 -- what the functions that read a number ask: a width that a name can have, and its bytes in the file
-pub record IsWidth (w : ℕ) : Type 0 where
-  pub some : 1 ≤ w
-  pub few : w ≤ 2
-
 pub record HasNumber (w : ℕ) (s : List ℕ) (p : ℕ) : Type 0 where
   pub width : IsWidth w
   pub inside : p + w ≤ length s
@@ -158,10 +155,6 @@ pub record ReleaseRead (s t : List ℕ) (r : Checked) : Type 0 where
 pub record Release (s t : List ℕ) : Type 0 where
   pub accepted : fault s ≡ 0
   pub decoded : Decoded (namesOf s) (countOf s) s t
-
--- the kind of an axiom
-abbrev pub kindOf : Axiom → ℕ
-kindOf a = pick (isConjunction a) (pick (a .defined) 2 1) (pick (a .defined) 4 3)
 
 -- the row of an axiom, in the axiom's own terms
 pub record AxiomRow (n : ℕ) (s t : List ℕ) (a : Axiom) : Type 0 where

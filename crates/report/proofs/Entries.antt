@@ -12,9 +12,9 @@ use lib.ListN.{length, drop, getD, length-append, drop-of-length-le}
 use lib.Seq.{drop-cons}
 use Rattle.el.specs.Lists.{pick, count}
 use Rattle.el.specs.Comparison.{isReported}
-use Rattle.report.specs.Texts.{newline, space, onSide, letter, line, entry, lines}
+use Rattle.report.specs.Texts.{newline, space, letter, line, entry, lines}
 use Rattle.report.specs.Numbers.{threeDigits}
-use Rattle.report.specs.Places.{Room, Put, LinesLength, Counted}
+use Rattle.report.specs.Places.{Room, Put, LinesLength, Counted, onSide}
 use Rattle.report.proofs.Puts.{Rest, rest-less, rest-nothing, room-first}
 use Rattle.report.proofs.Decimals.{three-few}
 

@@ -7,12 +7,14 @@
 --   Numbers n m x y bs     the numbers and result bytes of a report are small
 --   mostNumber, mostWorded, mostLine     no number of a row of a sheet is greater, no word with a number and no line of a sheet is longer
 use mathlib.Core.Path.{_≡_}
+use mathlib.Core.Bool.{Bool, _||_}
 use mathlib.Core.List.{List}
 use Prim.Native.Nat.{ℕ, _+_, _*_, _≤_, _<_}
+use lib.Dec.{eqb}
 use lib.ListN.{length}
 use lib.Seq.{sets}
 use Rattle.el.specs.Lists.{count}
-use Rattle.report.specs.Texts.{onSide, lines}
+use Rattle.report.specs.Texts.{lines}
 
 pub record Room (o : List ℕ) (p : ℕ) (text : List ℕ) : Type 0 where
   pub fits : p + length text ≤ length o
@@ -30,6 +32,10 @@ pub record Small (v : List ℕ) (x : ℕ) (w : List ℕ) (y : ℕ) : Type 0 wher
 pub record LinesLength (bs : List ℕ) (k : ℕ) : Type 0 where
   pub is : k ≡ length (lines 0 bs)
   pub small : k ≤ length bs * 70000
+
+-- reported on the side 1, left, or 2, right: so onLeft is onSide 1 and onRight is onSide 2
+abbrev pub onSide : ℕ → ℕ → Bool
+onSide side b = eqb b side || eqb b 3
 
 pub record Counted (side : ℕ) (bs : List ℕ) (k : ℕ) : Type 0 where
   pub is : k ≡ count (onSide side) bs

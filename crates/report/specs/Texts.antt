@@ -4,10 +4,8 @@
 --   lines a bs             the lines of the reported names, where bs are the bytes of the names from a on
 --   report n m bs          the report of a comparison with n names, m roles and the result bytes bs
 --   refusalLine k s        the one line of a refusal with number k and side s
-use mathlib.Core.Bool.{Bool, _||_}
 use mathlib.Core.List.{List, [], _∷_, _++_}
 use Prim.Native.Nat.{ℕ, suc}
-use lib.Dec.{eqb}
 use Rattle.el.specs.Comparison.{onLeft, onRight, isReported}
 use Rattle.el.specs.Lists.{pick, count}
 use Rattle.report.specs.Numbers.{decimal, threeDigits}
@@ -41,10 +39,6 @@ side-word = 32 ∷ 115 ∷ 105 ∷ 100 ∷ 101 ∷ 32 ∷ []
 
 unfoldable pub twoNumbers : List ℕ → ℕ → List ℕ → ℕ → List ℕ
 twoNumbers v x w y = v ++ (decimal x ++ (w ++ (decimal y ++ (newline ∷ []))))
-
--- reported on the side 1, left, or 2, right: so onLeft is onSide 1 and onRight is onSide 2
-abbrev pub onSide : ℕ → ℕ → Bool
-onSide side b = eqb b side || eqb b 3
 
 -- of a reported name: B for both sides, L for the left, R for the right
 unfoldable pub letter : ℕ → ℕ

@@ -3,15 +3,13 @@
 --   outputAfter a text o   the output o after the answer a: the text at its start and the rest as it was, or unchanged
 --   WrittenAs e text o p a     the answer a is e, and the output, o before, is p after it
 --   reportAnswer n m result o              what writing a report answers
---   ReportWritten n m result o p a         writing a report answers a, and the output, o before, is p after it
---   RefusalWritten k s o p a               the same of the line of a refusal with number k and side s
 use mathlib.Core.Path.{_≡_}
 use mathlib.Core.List.{List, _++_}
 use Prim.Native.Nat.{ℕ}
 use lib.Dec.{ltb}
 use lib.ListN.{length, take, drop}
 use Rattle.el.specs.Lists.{pick}
-use Rattle.report.specs.Texts.{report, refusalLine}
+use Rattle.report.specs.Texts.{report}
 use Rattle.report.specs.declared.Written.{Written}
 use Rattle.report.specs.declared.Written.the-variants.{Length, Refused}
 
@@ -39,9 +37,3 @@ reportText n m result = report n m (take n result)
 
 unfoldable pub reportAnswer : ℕ → ℕ → List ℕ → List ℕ → Written
 reportAnswer n m result o = pick (ltb (length result) n) shortResult (fitted (reportText n m result) o)
-
-abbrev pub ReportWritten : ℕ → ℕ → List ℕ → List ℕ → List ℕ → Written → Type 0
-ReportWritten n m result o output answer = WrittenAs (reportAnswer n m result o) (reportText n m result) o output answer
-
-abbrev pub RefusalWritten : ℕ → ℕ → List ℕ → List ℕ → Written → Type 0
-RefusalWritten k s o output answer = WrittenAs (fitted (refusalLine k s) o) (refusalLine k s) o output answer

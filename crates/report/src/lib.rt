@@ -1,7 +1,8 @@
 // The report of a comparison, as text in a caller's bytes.
 ghost use mathlib.Core.Path.{_≡_};
+ghost use Rattle.report.specs.Texts.{refusalLine};
 ghost use Rattle.report.specs.Answered.{answerText, answerTo};
-ghost use Rattle.report.specs.Written.{WrittenAs, ReportWritten, RefusalWritten};
+ghost use Rattle.report.specs.Written.{WrittenAs, fitted, reportText, reportAnswer};
 use crate::lines::LEFT;
 use crate::lines::RIGHT;
 use crate::lines::count;
@@ -41,7 +42,7 @@ fn refused(number: u8) -> Written
 
 // Writes the report of a comparison whose result is the first `names` bytes of `result`.
 pub fn write_report(names: u16, roles: u8, result: &[u8], output: &mut [u8]) -> Written
-    ensures { λ r. ⌜ ReportWritten names roles (now (result .entry)) (now (output .entry)) (now (output .exit)) r ⌝ }
+    ensures { λ r. ⌜ WrittenAs (reportAnswer names roles (now (result .entry)) (now (output .entry))) (reportText names roles (now (result .entry))) (now (output .entry)) (now (output .exit)) r ⌝ }
 {
     let name_count = names as usize;
     let role_count = wide(roles);
@@ -61,7 +62,7 @@ pub fn write_report(names: u16, roles: u8, result: &[u8], output: &mut [u8]) -> 
 
 // Writes the line of a refused comparison.
 pub fn write_refusal(refusal: Refusal, output: &mut [u8]) -> Written
-    ensures { λ r. ⌜ RefusalWritten (refusal .number) (refusal .side) (now (output .entry)) (now (output .exit)) r ⌝ }
+    ensures { λ r. ⌜ WrittenAs (fitted (refusalLine (refusal .number) (refusal .side)) (now (output .entry))) (refusalLine (refusal .number) (refusal .side)) (now (output .entry)) (now (output .exit)) r ⌝ }
 {
     let number = wide(refusal.number);
     let side = wide(refusal.side);

@@ -1,9 +1,7 @@
 -- A rewritten file is accepted, and says what the release says.
---   Same w s t      the file t, of version w, is accepted and has the names, the roles, the axioms and so the derivable inclusions of s
---   read-back       the file of an accepted release in a version that has room for its names is such a file
+--   read-back       so does the file of an accepted release in a version that has room for its names
 use mathlib.Core.Path.{_≡_, refl, sym, ap, subst, _∙_}
 use mathlib.Core.Bool.{Bool, true, false, not}
-use mathlib.Core.Logic.{_↔_}
 use mathlib.Core.List.{List, _++_}
 use Prim.Native.Nat.{ℕ, zero, suc, _+_, _≤_}
 use native.Mathlib.Nat.{mod-eq-of-lt}
@@ -11,17 +9,15 @@ use native.Mathlib.Omega.{arith}
 use lib.Dec.{eqb}
 use lib.ListN.{length, getD}
 use Rattle.el.specs.Lists.{pick}
-use Rattle.el.specs.Concepts.{Concept}
 use Rattle.el.specs.Axioms.{Axiom}
 use Rattle.el.specs.Derivability.{Derives}
-use Rattle.release.specs.Files.{mark, startsWith, isVersion, versionOf, widthOf, mostNamesOf, topNumber, headerLength, firstPlace, namesOf, rolesOf, countOf, headerFault, axiomsFault, axiomsFrom, axiomsOf, conjunctDefined, fault}
-use Rattle.release.specs.Tables.{IsWidth}
+use Rattle.release.specs.Files.{mark, startsWith, isVersion, versionOf, widthOf, mostNamesOf, topNumber, headerLength, firstPlace, namesOf, rolesOf, countOf, headerFault, axiomsFault, axiomsFrom, axiomsOf, conjunctDefined, fault, IsWidth}
 use Rattle.release.proofs.Numbers.{width-1, width-2}
 use Rattle.release.proofs.Headers.{header-none}
 use Rattle.release.proofs.Checks.{header-sound}
 use Rattle.release.proofs.Linked.{no-header-fault, no-axiom-fault, no-conjunct-defined}
 use Rattle.rewriting.specs.Bytes.{numberBytes, axiomsBytes, releaseBytes}
-use Rattle.rewriting.specs.Rewriting.{rewritten}
+use Rattle.rewriting.specs.Rewriting.{rewritten, Same}
 use Rattle.rewriting.proofs.Lengths.{header-bytes, count-length}
 use Rattle.rewriting.proofs.Parts.{At, at-start, at-place, at-later, at-byte, number-back, fits, two-fit, byte-back, at-number, at-next}
 use Rattle.rewriting.proofs.ReadBack.{axioms-back}
@@ -112,15 +108,6 @@ module _ (w n m : ℕ) (al : List Axiom) (width : IsWidth w) (few : n ≤ mostNa
       header-none t long marked known whole (rw (width-back, names-back) few) (rw roles-back few-roles) (rw (count-back, names-back) few-axioms)
 
 -- the whole file
-pub record Same (w : ℕ) (s t : List ℕ) : Type 0 where
-  pub accepted : fault t ≡ 0
-  pub version : versionOf t ≡ w
-  pub width : widthOf t ≡ w
-  pub names : namesOf t ≡ namesOf s
-  pub roles : rolesOf t ≡ rolesOf s
-  pub axioms : axiomsOf t ≡ axiomsOf s
-  pub inclusions : (c d : Concept) → Derives (axiomsOf t) c d ↔ Derives (axiomsOf s) c d
-
 module _ (w : ℕ) (s : List ℕ) (width : IsWidth w) (ok : fault s ≡ 0) (few : namesOf s ≤ mostNamesOf w) where
   abbrev n : ℕ
   n = namesOf s

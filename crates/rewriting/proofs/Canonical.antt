@@ -12,8 +12,8 @@ use borrow.Author.Tests.{eqb-true}
 use lib.Dec.{eqb}
 use lib.ListN.{length, getD, drop, length-append}
 use lib.Seq.{drop-cons}
-use Rattle.release.specs.Files.{number, numbers, mark, startsWith, versionOf, widthOf, topNumber, firstPlace, namesOf, rolesOf, countOf, joins, fillerNode, rightAt, axiomAt, axiomLength, axiomsFrom, axiomsOf, fault}
-use Rattle.release.specs.Tables.{kindOf, here, there}
+use Rattle.release.specs.Files.{number, numbers, mark, startsWith, versionOf, widthOf, topNumber, firstPlace, namesOf, rolesOf, countOf, joins, fillerNode, rightAt, axiomAt, axiomLength, axiomsFrom, axiomsOf, fault, kindOf}
+use Rattle.release.specs.Tables.{here, there}
 use Rattle.release.proofs.Numbers.{version-1-width, version-2-width}
 use Rattle.release.proofs.Checks.{Header, header-sound}
 use Rattle.release.proofs.Linked.{no-header-fault}
@@ -154,7 +154,7 @@ module _ (s : List ℕ) (bytes : Bytes s) where
         let from-roles : At s (5 + w) (numberBytes 1 (rolesOf s) ++ from-count) = then-at 1 (rolesOf s) (5 + w) roles-of-at (at-place {q = 5 + w + 1} (omega arith) from-count-at) in
         at-both (starts-at mark s (header .marked)) (then-at 2 w 3 version-at (then-at w (namesOf s) 5 names-of-at from-roles))
 
-    pub canonical : s ≡ rewritten w s
+    pub canonical : s ≡ rewritten (widthOf s) s
     unfolding rewritten
     canonical =
         let l : length s ≡ length (rewritten w s) = accepted-ends s ok ∙ sym (header-bytes w (namesOf s) (rolesOf s) (axiomsOf s)) in

@@ -11,8 +11,7 @@ use borrow.Author.Tests.{ltb-false}
 use lib.Dec.{ltb}
 use lib.ListN.{length, getD, length-append}
 use Rattle.el.specs.Axioms.{Axiom, Right, conjunction, restriction}
-use Rattle.release.specs.Files.{number, widthOf, namesOf, rolesOf, countOf, joins, firstPlace, axiomsFault, axiomAt, axiomLength, axiomsFrom, axiomsOf, fault}
-use Rattle.release.specs.Tables.{kindOf}
+use Rattle.release.specs.Files.{number, widthOf, namesOf, rolesOf, countOf, joins, firstPlace, axiomsFault, axiomAt, axiomLength, axiomsFrom, axiomsOf, fault, kindOf}
 use Rattle.release.proofs.Numbers.{is-width}
 use Rattle.release.proofs.Sound.{axiom-sound, tail-within, passed}
 use Rattle.release.proofs.Decoding.{both-none}

@@ -9,8 +9,7 @@ use native.Mathlib.Nat.{mod-add-div, div-eq-of-lt, div-div-eq-div-mul}
 use native.Mathlib.Omega.{arith}
 use lib.ListN.{length, getD, drop, length-append, length-drop}
 use lib.Seq.{getD-drop, drop-drop, drop-append-seam}
-use Rattle.release.specs.Files.{number, topNumber}
-use Rattle.release.specs.Tables.{IsWidth}
+use Rattle.release.specs.Files.{number, topNumber, IsWidth}
 use Rattle.rewriting.specs.Bytes.{numberBytes}
 use Rattle.rewriting.proofs.Pieces.{number-length}
 

@@ -6,8 +6,7 @@ use Prim.Native.Nat.{ℕ, zero, suc, _+_, _-_, _≤_, _<_, _/_, _%_}
 use native.Mathlib.Omega.{arith}
 use lib.ListN.{length, getD, length-append}
 use Rattle.el.specs.Axioms.{Right, conjunction, restriction}
-use Rattle.release.specs.Files.{number, numbers, widthOf, joins, fillerNode, rightAt, axiomAt, axiomLength, axiomsFrom}
-use Rattle.release.specs.Tables.{IsWidth, kindOf}
+use Rattle.release.specs.Files.{number, numbers, widthOf, joins, fillerNode, rightAt, axiomAt, axiomLength, axiomsFrom, IsWidth, kindOf}
 use Rattle.rewriting.specs.Bytes.{numberBytes, namesBytes, fillerNumber, tailBytes, axiomBytes, axiomsBytes}
 use Rattle.rewriting.specs.Places.{Room}
 use Rattle.rewriting.proofs.Puts.{Begins}

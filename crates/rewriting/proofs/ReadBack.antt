@@ -12,9 +12,8 @@ use lib.Dec.{eqb, ltb, leb}
 use lib.ListN.{length, getD, length-append}
 use Rattle.el.specs.Lists.{pick}
 use Rattle.el.specs.Axioms.{Axiom, Right, conjunction, restriction}
-use Rattle.release.specs.Files.{number, numbers, widthOf, mostNamesOf, topNumber, ends, mostConjuncts}
+use Rattle.release.specs.Files.{number, numbers, widthOf, mostNamesOf, topNumber, ends, mostConjuncts, IsWidth, kindOf}
 use Rattle.release.specs.Files.{partsFault, conjunctionFault, restrictionFault, tailFault, axiomFault, axiomsFault, joins, restricts, isFiller, fillerNode, rightAt, axiomAt, axiomLength, axiomsFrom}
-use Rattle.release.specs.Tables.{IsWidth, kindOf}
 use Rattle.release.proofs.Sound.{passed, axiom-sound}
 use Rattle.release.proofs.Faults.{is-filler}
 use Rattle.release.proofs.Decoding.{both-none}

@@ -11,16 +11,15 @@ use borrow.Author.Tests.{le-ltb, ltb-false}
 use lib.Dec.{ltb}
 use lib.ListN.{length, take, drop}
 use lib.Seq.{take-at}
-use Rattle.release.specs.Files.{versionOf, widthOf, mostNamesOf, namesOf, fault}
-use Rattle.release.specs.Tables.{IsWidth}
+use Rattle.release.specs.Files.{versionOf, widthOf, mostNamesOf, namesOf, fault, IsWidth}
 use Rattle.release.proofs.Checks.{header-sound}
 use Rattle.release.proofs.Linked.{no-header-fault}
 use Rattle.rewriting.specs.declared.Rewriting.{Rewriting}
 use Rattle.rewriting.specs.declared.Rewriting.the-variants.{Written}
 use Rattle.rewriting.specs.Bytes.{Bytes}
-use Rattle.rewriting.specs.Rewriting.{rewritten, refusal, fitted, answerTo, outputAfter, Rewrites}
+use Rattle.rewriting.specs.Rewriting.{rewritten, refusal, fitted, answerTo, outputAfter, Rewrites, Same, Returned}
 use Rattle.rewriting.proofs.Stands.{one-byte}
-use Rattle.rewriting.proofs.Accepted.{Same, read-back}
+use Rattle.rewriting.proofs.Accepted.{read-back}
 use Rattle.rewriting.proofs.Canonical.{canonical, version-width}
 
 -- not refused: the release is accepted, has names few enough, and its file fits the output
@@ -84,11 +83,6 @@ copied s bytes ok = rw (version-width s bytes ok) (sym (canonical s bytes ok))
 same-file : {w : ℕ} {s t : List ℕ} (v : ℕ) → Same w s t → rewritten v t ≡ rewritten v s
 unfolding rewritten
 same-file v same = rw (same .names, same .roles, same .axioms)
-
--- a call's answer and output where it returns the bytes of s
-pub record Returned (s o q : List ℕ) (answer : Rewriting) : Type 0 where
-  pub answers : answer ≡ Written (length s)
-  pub leaves : q ≡ s ++ drop (length s) o
 
 pub round-trip : (s : List ℕ) → Bytes s → {w : ℕ} → IsWidth w → {o q o′ q′ : List ℕ} {k : ℕ} {answer : Rewriting} → Rewrites w s o q (Written k) → Rewrites (versionOf s) (take k q) o′ q′ answer → length s ≤ length o′ → Returned s o′ q′ answer
 round-trip s bytes {w} width {o} {q} {o′} {q′} {k} {answer} forth back room =

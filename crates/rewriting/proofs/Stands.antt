@@ -6,8 +6,8 @@ use mathlib.Core.List.{List}
 use Prim.Native.Nat.{ℕ, suc, _+_, _*_, _-_, _≤_, _<_}
 use native.Mathlib.Omega.{arith}
 use lib.ListN.{length, getD}
-use Rattle.release.specs.Files.{widthOf, countOf, joins, firstPlace, axiomLength, fault}
-use Rattle.release.specs.Tables.{IsWidth, HasNumber, HasHeader, Stands, here, there}
+use Rattle.release.specs.Files.{widthOf, countOf, joins, firstPlace, axiomLength, fault, IsWidth}
+use Rattle.release.specs.Tables.{HasNumber, HasHeader, Stands, here, there}
 use Rattle.release.proofs.Numbers.{is-width}
 use Rattle.release.proofs.Sound.{tail-within}
 use Rattle.release.proofs.Checks.{header-sound, has-header}

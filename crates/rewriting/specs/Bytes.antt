@@ -9,8 +9,7 @@ use Prim.Native.Nat.{ℕ, zero, suc, _<_, _/_, _%_}
 use lib.ListN.{length, getD}
 use Rattle.el.specs.Concepts.{Node, everything, named}
 use Rattle.el.specs.Axioms.{Axiom, Right, conjunction, restriction}
-use Rattle.release.specs.Files.{mark, topNumber}
-use Rattle.release.specs.Tables.{kindOf}
+use Rattle.release.specs.Files.{mark, topNumber, kindOf}
 
 pub record Bytes (s : List ℕ) : Type 0 where
   pub each : (i : ℕ) → i < length s → getD s i 0 < 256

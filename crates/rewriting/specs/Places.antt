@@ -9,8 +9,7 @@ use mathlib.Core.List.{List}
 use Prim.Native.Nat.{ℕ, _+_, _*_, _≤_}
 use lib.ListN.{length, getD}
 use lib.Seq.{sets}
-use Rattle.release.specs.Files.{namesOf, rolesOf, countOf, tailLength, axiomLength, axiomAt, fault}
-use Rattle.release.specs.Tables.{IsWidth, kindOf}
+use Rattle.release.specs.Files.{namesOf, rolesOf, countOf, tailLength, axiomLength, axiomAt, fault, IsWidth, kindOf}
 use Rattle.release.specs.declared.Counts.{Counts}
 
 pub record Room (o : List ℕ) (p : ℕ) (text : List ℕ) : Type 0 where

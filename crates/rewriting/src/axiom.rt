@@ -1,7 +1,6 @@
 // An axiom read at a place of a file and written at a place of the output, with names of another width.
 ghost use mathlib.Core.Path.{_≡_};
-ghost use Rattle.release.specs.Files.{joins, numbers, fillerNode, rightAt, axiomAt, axiomLength};
-ghost use Rattle.release.specs.Tables.{IsWidth};
+ghost use Rattle.release.specs.Files.{joins, numbers, fillerNode, rightAt, axiomAt, axiomLength, IsWidth};
 ghost use Rattle.rewriting.specs.Bytes.{namesBytes, fillerNumber, tailBytes, axiomBytes};
 ghost use Rattle.rewriting.specs.Places.{Room, Put, NamesStand, TailStands, AxiomStands};
 use crate::places::put_number;

@@ -1,8 +1,7 @@
 // The whole file: its header, its axioms and its length.
 ghost use mathlib.Core.Path.{_≡_};
 ghost use lib.ListN.{length};
-ghost use Rattle.release.specs.Files.{mark, axiomsOf, countOf, fault};
-ghost use Rattle.release.specs.Tables.{IsWidth};
+ghost use Rattle.release.specs.Files.{mark, axiomsOf, countOf, fault, IsWidth};
 ghost use Rattle.rewriting.specs.Bytes.{axiomsBytes};
 ghost use Rattle.rewriting.specs.Rewriting.{rewritten};
 ghost use Rattle.rewriting.specs.Places.{Room, Put, Granted};

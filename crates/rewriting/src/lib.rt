@@ -1,6 +1,6 @@
 // A release rewritten in version 1 or version 2 of the file.
 ghost use mathlib.Core.Path.{_≡_};
-ghost use Rattle.release.specs.Tables.{IsWidth};
+ghost use Rattle.release.specs.Files.{IsWidth};
 ghost use Rattle.rewriting.specs.Rewriting.{Rewrites};
 ghost use Rattle.rewriting.specs.Places.{Granted};
 use crate::file::put_release;

@@ -2,7 +2,7 @@
 ghost use mathlib.Core.Path.{_≡_};
 ghost use mathlib.Core.List.{_∷_, []};
 ghost use Prim.Native.Nat.{_%_};
-ghost use Rattle.release.specs.Tables.{IsWidth};
+ghost use Rattle.release.specs.Files.{IsWidth};
 ghost use Rattle.rewriting.specs.Bytes.{numberBytes};
 ghost use Rattle.rewriting.specs.Places.{Room, Put};
 

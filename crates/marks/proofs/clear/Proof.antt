@@ -2,7 +2,7 @@ use Prim.Native.Nat.{_≤_, _-_}
 use mathlib.Core.Path.{_≡_, refl}
 use borrow.Author.Needs.{needs}
 use lib.ListN.{length, length-set}
-use Rattle.marks.specs.Squares.{Zeroed}
+use Rattle.marks.specs.Memory.{Zeroed}
 use Rattle.marks.proofs.Squares.{zeroed-none, zeroed-more, zeroed-end}
 use Rattle.marks.proofs.clear.Statement.{statement}
 use Rattle.marks.proofs.clear.Tie as tie

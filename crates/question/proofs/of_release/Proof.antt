@@ -1,5 +1,5 @@
 use mathlib.Core.Path.{sym, ap}
-use Rattle.question.specs.Asking.{ofRelease}
+use Rattle.question.specs.Answering.{ofRelease}
 use borrow.Author.Needs.{needs}
 use Rattle.question.proofs.of_release.Statement.{statement}
 use Rattle.question.proofs.of_release.Tie as tie

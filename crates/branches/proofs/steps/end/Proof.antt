@@ -1,5 +1,5 @@
 use Rattle.branches.proofs.Sheets.{refused-end, accepted-end}
-use Rattle.marks.specs.Squares.{size}
+use Rattle.marks.specs.Memory.{size}
 use native.Mathlib.Omega.{arith}
 use borrow.Author.Needs.{needs}
 use Rattle.branches.proofs.steps.end.Statement.{statement}
