@@ -2,6 +2,7 @@
 pub mod Counts
 pub mod Refusals
 pub mod Sheets
+pub mod Single
 pub mod Beginning
 pub mod Rows
 pub mod Again

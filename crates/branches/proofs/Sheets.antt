@@ -1,6 +1,7 @@
 -- A sheet by its rows, and what its steps give together.
 --   rowsOf, sheetOf           the first k rows, and the sheet of these and of the later rows that were lent
 --   sheet-long, sheet-more    its length, and one row more
+--   accepted-one              each signature of an accepted sheet is accepted
 --   fits, enough-rows         what is known where the answer is no refusal
 --   turn, endable             what the steps ask
 --   says                      what the call promises
@@ -85,6 +86,16 @@ one-signature n m q gs i l h = by-tests (eqb (length gs) (q * (n + m) + 0)) (all
         let part : length (signatureAt n m gs i) ≡ n + m = length-take-le (n + m) (drop (i * (n + m)) gs) (omega (arith, part-room n m q i l)) in
         simp (signatureFault, eq-eqb _ _ part, all-take isBit (n + m) (drop (i * (n + m)) gs) (all-drop isBit (i * (n + m)) gs f))
 
+-- each signature of an accepted sheet is accepted
+pub accepted-one : {s t gs : List ℕ} {q rows w : ℕ} {c : Compared} → Agree s t c → Enough gs q rows w c → (i : ℕ) → i < q → Inputs.Accepted s t (signatureAt (namesOf s) (rolesOf s) gs i)
+accepted-one {s} {t} {gs} {q} a b i l = record {
+  first = a .first;
+  second = a .second;
+  names = sym (a .first-names) ∙ a .second-names;
+  roles = sym (a .first-roles) ∙ a .second-roles;
+  signature = one-signature (namesOf s) (rolesOf s) q gs i l (rw (a .first-names, a .first-roles) at (b .signatures));
+}
+
 -- the steps
 module _ {s t gs : List ℕ} {q rows : ℕ} {w v : List ℕ} {r : Comparison} (begun : Begun s t gs q rows w v r) where
   known : {c : Compared} → r ≡ Accepted c → Agree s t c × Enough gs q rows (length w) c
@@ -131,12 +142,9 @@ module _ {s t gs : List ℕ} {q rows : ℕ} {w v : List ℕ} {r : Comparison} (b
 
   -- an accepted sheet
   module _ {c : Compared} (e : r ≡ Accepted c) where
-    accepted : (i : ℕ) → i < q → Inputs.Accepted s t (signatureAt (namesOf s) (rolesOf s) gs i)
-    accepted i l = let f = fits e in record { first = f .first; second = f .second; names = f .names; roles = f .roles; signature = one-signature (namesOf s) (rolesOf s) q gs i l (f .signatures) }
-
     is-row : (i : ℕ) → i < q → IsRow s t (signatureAt (namesOf s) (rolesOf s) gs i) (rowAt s t gs i)
     unfolding rowAt
-    is-row i l = record { bytes = _; are-bytes = comparison-bytes (accepted i l); is = refl }
+    is-row i l = record { bytes = _; are-bytes = comparison-bytes (accepted-one (known e .0) (known e .1) i l); is = refl }
 
     filled : (ys : List Row) → Filled s t gs q ys (sheetOf s t gs q ys)
     filled ys = record { filled = rowsOf s t gs q; long = rows-long s t gs q; each = λ i l. rw (row-in s t gs q i l) (is-row i l); rows = refl }
