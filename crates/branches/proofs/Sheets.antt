@@ -5,6 +5,7 @@
 --   fits, enough-rows         what is known where the answer is no refusal
 --   turn, endable             what the steps ask
 --   says                      what the call promises
+--   all-lent                  and where all rows of an array are lent
 use mathlib.Core.Path.{_≡_, refl, sym, ap, subst, _∙_}
 use mathlib.Core.Bool.{Bool, true, false}
 use mathlib.Core.List.{List, [], _∷_, _++_, append-assoc}
@@ -15,7 +16,7 @@ use native.Mathlib.Decide.{ℕ-discrete}
 use borrow.Author.Tests.{eqb-true, eq-eqb}
 use lib.Dec.{eqb}
 use lib.ListN.{length, getD, drop, set, replicate, length-append, length-drop, List·getD-append}
-use lib.Seq.{drop-cons, set-at, getD-at, length-take-le}
+use lib.Seq.{drop-cons, set-at, getD-at, length-take-le, take-all}
 use Rattle.el.specs.Lists.{pick, all}
 use Rattle.el.proofs.Lists.{all-drop, all-take}
 use Rattle.release.specs.Files.{namesOf, rolesOf}
@@ -32,8 +33,8 @@ use Rattle.meanings.proofs.Judging.{not-refused}
 use Rattle.meanings.proofs.Promise.{Agree, few-counts, cleared}
 use Rattle.branches.specs.declared.row.Row.{Row}
 use Rattle.branches.specs.Rows.{IsRow}
-use Rattle.branches.specs.Sheets.{signatureAt, noRow, Filled, Says}
-use Rattle.branches.specs.Steps.{Fits, Begun, turns, Turn, rowAt, Ended, Endable}
+use Rattle.branches.specs.Sheets.{mostBranches, signatureAt, noRow, Filled, Says}
+use Rattle.branches.specs.Steps.{Fits, Begun, turns, Turn, rowAt, Ended, Endable, FilledPart}
 use Rattle.branches.proofs.Refusals.{Enough, known as sheet-known}
 
 abbrev pub rowsOf : List ℕ → List ℕ → List ℕ → ℕ → List Row
@@ -176,6 +177,10 @@ module _ {s t gs : List ℕ} {q rows : ℕ} {w v : List ℕ} {r : Comparison} (b
         accepted-rows = λ z. filled e ys;
         accepted-work = λ z. zeroed e ended;
       }
+
+-- all rows lent
+pub all-lent : {s t gs : List ℕ} {q : ℕ} {ys zs : List Row} {w v : List ℕ} {r : Comparison} → FilledPart s t gs q mostBranches ys zs w v r → Says s t gs q ys zs w v r
+all-lent {ys = ys} {zs = zs} part = rw (take-all mostBranches ys (omega (arith, part .long)), take-all mostBranches zs (omega (arith, part .still-long))) at (part .says)
 
 -- the end
 pub refused-end : {r : Comparison} {w : List ℕ} {k : Refusal} → r ≡ Refused k → Ended r w w

@@ -5,10 +5,11 @@
 --   Turn s t gs i w             what is asked to find row i
 --   rowAt s t gs i              row i, computed
 --   Ended r w v                 after the answer r the memory w became v: 0 as far as it was used
+--   FilledPart s t gs q k ys zs w v r    the call was lent the first k of the rows ys, which became zs, and keeps its promise of these
 use mathlib.Core.Path.{_≡_}
 use mathlib.Core.List.{List}
 use Prim.Native.Nat.{ℕ, _+_, _*_, _≤_, _<_}
-use lib.ListN.{length, take}
+use lib.ListN.{length, take, drop}
 use Rattle.el.specs.Answers.{comparisonBytes}
 use Rattle.release.specs.Files.{fault, namesOf, rolesOf, axiomsOf, mostNames}
 use Rattle.release.specs.declared.Refusal.{Refusal}
@@ -22,7 +23,7 @@ use Rattle.meanings.specs.declared.Comparison.the-variants.{Accepted, Refused}
 use Rattle.meanings.specs.Comparing.{workLength}
 use Rattle.branches.specs.declared.row.Row.{Row}
 use Rattle.branches.specs.Rows.{rowOf}
-use Rattle.branches.specs.Sheets.{mostBranches, signatureAt, sheet}
+use Rattle.branches.specs.Sheets.{mostBranches, signatureAt, sheet, Says}
 
 pub record Fits (s t gs : List ℕ) (q : ℕ) (w : List ℕ) : Type 0 where
   pub first : fault s ≡ 0
@@ -56,6 +57,12 @@ rowAt s t gs i =
 pub record Ended (r : Comparison) (w v : List ℕ) : Type 0 where
   pub refused : {k : Refusal} → r ≡ Refused k → v ≡ w
   pub accepted : {c : Compared} → r ≡ Accepted c → Zeroed (4 * size (c .names)) w v
+
+pub record FilledPart (s t gs : List ℕ) (q k : ℕ) (ys zs : List Row) (w v : List ℕ) (r : Comparison) : Type 0 where
+  pub says : Says s t gs q (take k ys) (take k zs) w v r
+  pub rest : drop k zs ≡ drop k ys
+  pub long : length ys ≡ mostBranches
+  pub still-long : length zs ≡ mostBranches
 
 -- what is asked to end
 pub record Endable (r : Comparison) (w : List ℕ) : Type 0 where

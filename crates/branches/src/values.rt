@@ -3,12 +3,34 @@ use crate::compare_branches;
 use crate::judging::Sheet;
 use crate::row::Row;
 use meanings::Comparison;
-ghost use Rattle.branches.specs.Sheets.{Says};
+ghost use Prim.Native.Nat.{_≤_};
+ghost use Rattle.branches.specs.Sheets.{mostBranches, Says};
+ghost use Rattle.branches.specs.Steps.{FilledPart};
 
 // What a sheet answers, and its rows.
 pub struct Filled {
     pub answer: Comparison,
     pub rows: [Row; Sheet::BRANCHES],
+}
+
+// Lends the first rows of those given, `lent` in number, and returns all.
+pub fn fill_part<'a>(
+    first: &'a [u8],
+    second: &'a [u8],
+    signatures: &'a [u8],
+    count: usize,
+    work: &mut [u8],
+    mut rows: [Row; Sheet::BRANCHES],
+    lent: usize,
+) -> Filled
+    requires { ⌜ lent ≤ mostBranches ⌝ }
+    ensures { λ r. ⌜ FilledPart (now (first .entry)) (now (second .entry)) (now (signatures .entry)) count lent rows (r .rows) (now (work .entry)) (now (work .exit)) (r .answer) ⌝ }
+{
+    let answer = compare_branches(first, second, signatures, count, work, &mut rows[..lent]);
+    Filled {
+        answer: answer,
+        rows: rows,
+    }
 }
 
 // Fills the rows given.
@@ -18,13 +40,17 @@ pub fn fill_rows<'a>(
     signatures: &'a [u8],
     count: usize,
     work: &mut [u8],
-    mut rows: [Row; Sheet::BRANCHES],
+    rows: [Row; Sheet::BRANCHES],
 ) -> Filled
     ensures { λ r. ⌜ Says (now (first .entry)) (now (second .entry)) (now (signatures .entry)) count rows (r .rows) (now (work .entry)) (now (work .exit)) (r .answer) ⌝ }
 {
-    let answer = compare_branches(first, second, signatures, count, work, &mut rows);
-    Filled {
-        answer: answer,
-        rows: rows,
-    }
+    fill_part(
+        first,
+        second,
+        signatures,
+        count,
+        work,
+        rows,
+        Sheet::BRANCHES,
+    )
 }
