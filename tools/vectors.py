@@ -5,7 +5,7 @@ usage: tools/vectors.py FOLDER
 
 FOLDER holds vectors, NAME.jsonl, one JSON object a line with bytes in hex. The cases of the families `refusals`,
 `shows`, `rewrites` and `signatures` come from the tables of that name beside this script, and release.py confirms these.
-Those of the family `deep` are made here.
+Those of the family `deep` are made here, and those of the family `lines` of the vectors `sheet`.
 
 A data file is a case after the other. A case is a length of four bytes and that many bytes: its fields, one after the
 other, each again a length of four bytes and that many bytes. A number is a field of one to eight bytes. Numbers and
@@ -19,6 +19,7 @@ The fields of a case: first what the call is given, then what it answers.
     question, deep      file, c, d, length of the work memory; number, side, value, zeros
     compare             first, second, signature, lengths of the result and the work memory; number, side, result, zeros
     station             first, second, signature; the text
+    lines               first, second, the signatures; the text of the program `sheet`
     sheet               first, second, how many signatures, the signatures, how many rows, length of the work memory; number,
                         side, the rows filled (each chosen, left, right, share, of two bytes), zeros
     signatures          n, m, steps; n, m, the bytes of the first places, a place more, its byte
@@ -45,6 +46,9 @@ PLACES = 1072
 # A rewritten file is shorter. An output of more bytes is lent with this many, so that the program needs no more room;
 # what is answered is the same.
 MOST_OUTPUT = 40000
+
+# How many bytes of work memory the programs lend.
+PROGRAM_WORK = 65536
 
 # How many bytes a case may have.
 ROOM = 65536
@@ -135,6 +139,30 @@ def file_bytes(words):
 
     words = re.sub(r"each (\S+) \((.*?)\)", repeated, words).replace("ELT", "45 4C 54")
     return b"".join(value.to_bytes(digits(word) // 2, "little") for word in words.split() for value in span(word, 16))
+
+
+def lines(folder):
+    """What the program `sheet` prints for the vectors of the sheet. It counts the signatures by their bytes, and lends 64 rows and
+    PROGRAM_WORK bytes, so vectors with another count, or refused for what they lend, are left out."""
+    cases = []
+    for row in map(json.loads, (folder / "sheet.jsonl").read_text().splitlines()):
+        first, second, signatures = (bytes.fromhex(row[key]) for key in ("first", "second", "sigs"))
+        _, _, n, m, _ = release.check(first)
+        held = len(signatures) // (n + m) if n + m else 0
+        if row["number"] in (0, 32) and needed(first) > PROGRAM_WORK:
+            row.update(number=32, side=0)
+        elif row["number"] in (32, 43):
+            continue
+        if row["q"] == held:
+            cases.append([first, second, signatures, text(sheet_text(row))])
+    return cases
+
+
+def sheet_text(row):
+    if row["number"] != 0:
+        return f"refused {row['number']} side {row['side']}\n"
+    return "".join(f"branch {branch} chosen {chosen} left {left} right {right} share {share}\n"
+                   for branch, (chosen, left, right, share) in enumerate(row["rows"]))
 
 
 def refusals():
@@ -276,6 +304,7 @@ def main():
     DATA.mkdir(parents=True, exist_ok=True)
     for family in VECTORS:
         write(family, vectors(folder, family))
+    write("lines", lines(folder))
     write("refusals", refusals())
     write("shows", shows())
     write("rewrites", rewrites())

@@ -1,11 +1,11 @@
 // Tries outside examples on the public calls: a line for each family of cases, with how many there
 // were and how many came out differently, and before it a line for each difference.
 //
-// The data files are made by tools/vectors.py: `check` and `show` from vectors, the others from the
-// tables of their names in tools/.
+// The data files are made by tools/vectors.py, from vectors and from the tables in tools/.
 mod cases;
 mod check;
 mod compare;
+mod lines;
 mod memory;
 mod print;
 mod questions;
@@ -32,4 +32,5 @@ fn main() {
     run::family(Call::Rewrite, b"rewrite");
     run::family(Call::Rewrite, b"rewrites");
     run::family(Call::Sheet, b"sheet");
+    run::family(Call::Lines, b"lines");
 }

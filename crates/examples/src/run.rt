@@ -3,6 +3,7 @@
 use crate::cases;
 use crate::check;
 use crate::compare;
+use crate::lines;
 use crate::print;
 use crate::questions;
 use crate::rewrite;
@@ -24,6 +25,7 @@ pub enum Call {
     Station,
     Rewrite,
     Sheet,
+    Lines,
 }
 
 // What one turn of reading and trying came to.
@@ -104,6 +106,7 @@ fn judge(call: Call, case: &[u8]) -> Verdict {
         Call::Station => station::judge(case),
         Call::Rewrite => rewrite::judge(case),
         Call::Sheet => sheets::judge(case),
+        Call::Lines => lines::judge(case),
     }
 }
 
@@ -118,5 +121,6 @@ fn fields_of(call: Call) -> usize {
         Call::Station => station::FIELDS,
         Call::Rewrite => rewrite::FIELDS,
         Call::Sheet => sheets::FIELDS,
+        Call::Lines => lines::FIELDS,
     }
 }
