@@ -1,6 +1,6 @@
 """What checking a release file, showing an axiom, rewriting a release and building a signature answer by document 01
-and requests 1 and 4: written apart from the library, to confirm the tables refusals.txt, shows.txt, rewrites.txt and
-signatures.txt."""
+and requests 1 and 4, and which refusal a question, a comparison and a sheet meet: written apart from the library, to
+confirm the tables refusals.txt, shows.txt, rewrites.txt, signatures.txt, questions.txt, comparisons.txt and sheets.txt."""
 from typing import NamedTuple
 
 KINDS_WITH_NAMES, KINDS_WITH_ROLE = (1, 2), (3, 4)
@@ -152,3 +152,66 @@ def signature(n, m, steps):
     names = {number for kind, number in steps if kind == "n" and number < n}
     roles = {n + number for kind, number in steps if kind == "r" and number < m}
     return n, m, names | roles
+
+
+def concept_end(text, at, width, n, m):
+    """The place after the concept that starts at `at`; None where none does."""
+    kind = text[at] if at < len(text) else None
+    if kind == 0:
+        return at + 1
+    if kind == 1:
+        end = at + 1 + width
+        return end if end <= len(text) and int.from_bytes(text[at + 1:end], "little") < n else None
+    if kind == 2:
+        middle = concept_end(text, at + 1, width, n, m)
+        return middle and concept_end(text, middle, width, n, m)
+    if kind == 3 and at + 1 < len(text) and text[at + 1] < m:
+        return concept_end(text, at + 2, width, n, m)
+    return None
+
+
+def question(file, below, above, work):
+    """Number and side of the refusal that a question meets; 0 and 0 where it meets none."""
+    number, side, n, m, _ = check(file)
+    if number:
+        return number, side
+    width = header(file)[0].width
+    for side, text in ((1, below), (2, above)):
+        if len(text) > 255 or concept_end(text, 0, width, n, m) != len(text):
+            return 19, side
+    return (32, 0) if work < 4 * (n + 1) ** 2 else (0, 0)
+
+
+def agreed(first, second):
+    """Number and side of the refusal by the releases of a comparison, and n and m of the first."""
+    for side, file in ((1, first), (2, second)):
+        number = check(file)[0]
+        if number:
+            return number, side, 0, 0
+    (_, _, n, m, _), other = check(first), check(second)
+    return (0, 0, n, m) if (n, m) == other[2:4] else (16, 0, n, m)
+
+
+def first_of(conditions):
+    """The number of the first condition that holds, with side 0."""
+    return next(((number, 0) for number, holds in conditions if holds), (0, 0))
+
+
+def comparison(first, second, signature, result, work):
+    number, side, n, m = agreed(first, second)
+    return (number, side) if number else first_of((
+        (17, len(signature) != n + m), (18, any(byte > 1 for byte in signature)),
+        (31, result < n), (32, work < 4 * (n + 1) ** 2)))
+
+
+def sheet(first, second, count, signatures, lent, work):
+    number, side, n, m = agreed(first, second)
+    return (number, side) if number else first_of((
+        (42, count > 64), (17, len(signatures) != count * (n + m)), (18, any(byte > 1 for byte in signatures)),
+        (43, lent < count), (32, work < 4 * (n + 1) ** 2)))
+
+
+def chosen(first, count, signatures):
+    """How many names each of the signatures has chosen."""
+    _, _, n, m, _ = check(first)
+    return [sum(signatures[i * (n + m):i * (n + m) + n]) for i in range(count)]

@@ -4,8 +4,9 @@
 usage: tools/vectors.py FOLDER
 
 FOLDER holds vectors, NAME.jsonl, one JSON object a line with bytes in hex. The cases of the families `refusals`,
-`shows`, `rewrites` and `signatures` come from the tables of that name beside this script, and release.py confirms these.
-Those of the family `deep` are made here, and those of the family `lines` of the vectors `sheet`.
+`shows`, `rewrites`, `signatures`, `questions`, `comparisons` and `sheets` come from the tables of that name beside this
+script; release.py confirms these, of the last three which are refused and how many names are chosen. Those of the family
+`deep` are made here, and those of the family `lines` of the vectors `sheet`.
 
 A data file is a case after the other. A case is a length of four bytes and that many bytes: its fields, one after the
 other, each again a length of four bytes and that many bytes. A number is a field of one to eight bytes. Numbers and
@@ -16,11 +17,12 @@ The fields of a case: first what the call is given, then what it answers.
     check, refusals     file; number, side, n, m, a
     show, shows         first, second, side, name; file that holds the part, its start, the part
     rewrite, rewrites   file, wanted version, length of the output; number, side, the rewritten file
-    question, deep      file, c, d, length of the work memory; number, side, value, zeros
-    compare             first, second, signature, lengths of the result and the work memory; number, side, result, zeros
+    question, questions, deep    file, c, d, length of the work memory; number, side, value, zeros
+    compare, comparisons         first, second, signature, lengths of the result and the work memory; number, side, result,
+                        zeros
     station             first, second, signature; the text
     lines               first, second, the signatures; the text of the program `sheet`
-    sheet               first, second, how many signatures, the signatures, how many rows, length of the work memory; number,
+    sheet, sheets       first, second, how many signatures, the signatures, how many rows, length of the work memory; number,
                         side, the rows filled (each chosen, left, right, share, of two bytes), zeros
     signatures          n, m, steps; n, m, the bytes of the first places, a place more, its byte
 
@@ -224,6 +226,72 @@ def signatures():
     return cases
 
 
+def expected(words):
+    """Number, side and, of what is not refused, the rest of the words."""
+    if words[0] == "refused":
+        return int(words[1]), int(words[2]), None
+    return 0, 0, words[1:] if words[0] == "ok" else words
+
+
+def confirmed(name, line, answer, refusal):
+    """Stops where release.py refuses another way than the table says."""
+    if answer != refusal:
+        sys.exit(f"{name}.txt: {line}: {refusal}")
+
+
+def questions():
+    cases = []
+    for line in table("questions"):
+        asked, answer = line.split("=")
+        *texts, work = asked.split("|")
+        file, below, above = map(file_bytes, texts)
+        number_, side, words = expected(answer.split())
+        confirmed("questions", line, (number_, side), release.question(file, below, above, int(work)))
+        cases.append(answered(file, below, above, int(work), int(words[0])) if words else
+                     refused(file, below, above, int(work), number_, side))
+    return cases
+
+
+def comparisons():
+    cases = []
+    for line in table("comparisons"):
+        asked, answer = line.split("=")
+        *files, lengths = asked.split("|")
+        first, second, signature = map(file_bytes, files)
+        result, work = map(int, lengths.split())
+        number_, side, words = expected(answer.split())
+        confirmed("comparisons", line, (number_, side), release.comparison(first, second, signature, result, work))
+        cases.append([first, second, signature, number(result), number(work), number(number_), number(side),
+                      file_bytes(" ".join(words or [])), number(0 if words is None else needed(first))])
+    return cases
+
+
+def row_values(words):
+    """The rows of `3 1 2 666`, or of `64 * 3 1 2 666`, which stands for so many."""
+    times, star, row = words.rpartition("*")
+    return [tuple(map(int, row.split()))] * (int(times) if star else 1)
+
+
+def sheets():
+    cases = []
+    for line in table("sheets"):
+        asked, answer = line.split("=")
+        first, second, count, signatures, lengths = asked.split("|")
+        first, second, signatures = map(file_bytes, (first, second, signatures))
+        lent, work = lengths.split()
+        parts = answer.split(",")
+        number_, side, words = expected(parts[0].split())
+        filled = [] if words is None else [row for part in parts[1:] for row in row_values(part)]
+        for length in span(lent, 10):
+            refusal = release.sheet(first, second, int(count), signatures, length, int(work))
+            confirmed("sheets", line, (number_, side), refusal)
+            if words is not None and [row[0] for row in filled] != release.chosen(first, int(count), signatures):
+                sys.exit(f"sheets.txt: {line}: {release.chosen(first, int(count), signatures)}")
+            cases.append([first, second, number(int(count)), signatures, number(length), number(int(work)), number(number_),
+                          number(side), rows(filled), number(0 if words is None else needed(first))])
+    return cases
+
+
 def circle(kind, version=1, names=127):
     """A release with one role in which each name is, by this kind, ∃ of the next, and the last of the first."""
     def written(number):
@@ -309,6 +377,9 @@ def main():
     write("shows", shows())
     write("rewrites", rewrites())
     write("signatures", signatures())
+    write("questions", questions())
+    write("comparisons", comparisons())
+    write("sheets", sheets())
     write("deep", deep(1) + deep(2) + wide())
 
 

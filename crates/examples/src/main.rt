@@ -26,11 +26,14 @@ fn main() {
     run::family(Call::Show, b"shows");
     run::family(Call::Signatures, b"signatures");
     run::family(Call::Question, b"question");
+    run::family(Call::Question, b"questions");
     run::family(Call::Question, b"deep");
     run::family(Call::Compare, b"compare");
+    run::family(Call::Compare, b"comparisons");
     run::family(Call::Station, b"station");
     run::family(Call::Rewrite, b"rewrite");
     run::family(Call::Rewrite, b"rewrites");
     run::family(Call::Sheet, b"sheet");
+    run::family(Call::Sheet, b"sheets");
     run::family(Call::Lines, b"lines");
 }

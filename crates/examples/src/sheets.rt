@@ -1,6 +1,8 @@
 // Cases of the sheet: first, second, how many signatures, the signatures, how many rows, length of the
 // work memory; number, side, the rows filled, each four numbers of two bytes, and how many bytes of the
 // work memory are then zero. Each row is also held to a single comparison over its signature.
+ghost use Prim.Native.Nat.{_≤_};
+ghost use Rattle.branches.specs.Sheets.{mostBranches};
 use crate::cases::byte;
 use crate::cases::field;
 use crate::cases::value;
@@ -12,9 +14,8 @@ use crate::verdict::same;
 use crate::verdict::same_refusal;
 use branches::judging::Sheet;
 use branches::row::Row;
-use branches::steps::begin;
 use branches::values::Filled;
-use branches::values::fill_rows;
+use branches::values::fill_part;
 use meanings::Comparison;
 use meanings::compare_releases;
 use release::Release;
@@ -36,23 +37,9 @@ pub fn judge(case: &[u8]) -> Verdict {
     with_work(case, &mut work[..length])
 }
 
-// A case that lends fewer rows than there are signatures is refused before any row is looked at.
 fn with_work(case: &[u8], work: &mut [u8]) -> Verdict {
     memory::mark(work);
-    let count = value(case, 2);
-    let rows = value(case, 4);
-    if rows < count {
-        let answer = begin(
-            field(case, 0),
-            field(case, 1),
-            field(case, 3),
-            count,
-            rows,
-            work,
-        );
-        return answered(case, answer).and(memory::zero_start(work, value(case, 9)));
-    }
-    let filled = fill(case, count, work);
+    let filled = fill(case, work, lent(value(case, 4)));
     let answer = filled.answer;
     answered(case, answer)
         .and(memory::zero_start(work, value(case, 9)))
@@ -60,20 +47,34 @@ fn with_work(case: &[u8], work: &mut [u8]) -> Verdict {
         .and(single_rows(case, filled))
 }
 
-fn fill(case: &[u8], count: usize, work: &mut [u8]) -> Filled {
+// How many rows are lent: a sheet has no use for more than there can be branches.
+fn lent(rows: usize) -> usize
+    ensures { λ r. ⌜ r ≤ mostBranches ⌝ }
+{
+    if Sheet::BRANCHES < rows {
+        return Sheet::BRANCHES;
+    }
+    rows
+}
+
+// Fills as many rows as are lent; the others are there to be seen unchanged.
+fn fill(case: &[u8], work: &mut [u8], lent: usize) -> Filled
+    requires { ⌜ lent ≤ mostBranches ⌝ }
+{
     let row = Row {
         chosen: MARK,
         left: MARK,
         right: MARK,
         share: MARK,
     };
-    fill_rows(
+    fill_part(
         field(case, 0),
         field(case, 1),
         field(case, 3),
-        count,
+        value(case, 2),
         work,
         [row; Sheet::BRANCHES],
+        lent,
     )
 }
 
