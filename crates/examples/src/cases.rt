@@ -10,7 +10,7 @@ struct Span {
 }
 
 // How many fields the case has; 0 where its bytes are not a whole number of fields.
-pub fn fields(case: &[u8]) -> usize {
+pub(crate) fn fields(case: &[u8]) -> usize {
     let mut count: usize = 0;
     let mut at: usize = 0;
     while at < case.len() {
@@ -25,7 +25,7 @@ pub fn fields(case: &[u8]) -> usize {
 }
 
 // The bytes of the case's field of this number, counted from 0; none where there is no such field.
-pub fn field(case: &[u8], number: usize) -> &[u8] {
+pub(crate) fn field(case: &[u8], number: usize) -> &[u8] {
     let mut at: usize = 0;
     let mut left = number;
     while 0 < left {
@@ -39,12 +39,12 @@ pub fn field(case: &[u8], number: usize) -> &[u8] {
 }
 
 // The number that the case's field of this number holds.
-pub fn value(case: &[u8], number: usize) -> usize {
+pub(crate) fn value(case: &[u8], number: usize) -> usize {
     number_at(field(case, number), 0)
 }
 
 // Eight bytes from `at` on as a number, low byte first, where a missing byte counts 0.
-pub fn number_at(bytes: &[u8], at: usize) -> usize
+pub(crate) fn number_at(bytes: &[u8], at: usize) -> usize
     requires { ⌜ at < 4096 ⌝ }
 {
     let low = four(bytes, at);

@@ -11,7 +11,7 @@ use release::Counts;
 
 pub const FIELDS: usize = 6;
 
-pub fn judge(case: &[u8]) -> Verdict {
+pub(crate) fn judge(case: &[u8]) -> Verdict {
     let got = release::check_release(field(case, 0));
     match got {
         Checked::Accepted(counts) => accepted(case, counts),

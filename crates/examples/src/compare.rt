@@ -12,7 +12,7 @@ use meanings::Comparison;
 
 pub const FIELDS: usize = 9;
 
-pub fn judge(case: &[u8]) -> Verdict {
+pub(crate) fn judge(case: &[u8]) -> Verdict {
     let mut result = [0u8; ROOM];
     let length = value(case, 3);
     if ROOM < length {

@@ -8,7 +8,7 @@ use crate::verdict::same_bytes;
 
 pub const FIELDS: usize = 4;
 
-pub fn judge(case: &[u8]) -> Verdict {
+pub(crate) fn judge(case: &[u8]) -> Verdict {
     let mut work = [0u8; WORK];
     memory::mark(&mut work);
     let mut output = [0u8; OUTPUT];

@@ -9,7 +9,7 @@ const MARK: u8 = 165;
 // How much memory a case can lend.
 pub const ROOM: usize = 360448;
 
-pub fn mark(memory: &mut [u8]) {
+pub(crate) fn mark(memory: &mut [u8]) {
     let mut i: usize = 0;
     while i < memory.len() {
         memory[i] = MARK;
@@ -18,7 +18,7 @@ pub fn mark(memory: &mut [u8]) {
 }
 
 // Whether the first bytes are the expected ones, and all later ones as they were.
-pub fn same_start(memory: &[u8], expected: &[u8]) -> Verdict {
+pub(crate) fn same_start(memory: &[u8], expected: &[u8]) -> Verdict {
     let mut i: usize = 0;
     while i < memory.len() {
         let got = wide(memory[i]);
@@ -39,7 +39,7 @@ fn expected_at(expected: &[u8], at: usize) -> u8 {
 }
 
 // Whether the first `zeros` bytes are 0, and all later ones as they were.
-pub fn zero_start(memory: &[u8], zeros: usize) -> Verdict {
+pub(crate) fn zero_start(memory: &[u8], zeros: usize) -> Verdict {
     let mut i: usize = 0;
     while i < memory.len() {
         let got = wide(memory[i]);

@@ -5,7 +5,7 @@ use crate::verdict::What;
 use libc::STDOUT_FILENO;
 
 // A line with the family's name and counts.
-pub fn counts(name: &[u8], cases: u64, differences: u64) {
+pub(crate) fn counts(name: &[u8], cases: u64, differences: u64) {
     text(name);
     text(b": ");
     number(cases);
@@ -15,7 +15,7 @@ pub fn counts(name: &[u8], cases: u64, differences: u64) {
 }
 
 // A line that says that the family's data file is missing, or ends inside a case.
-pub fn broken(name: &[u8]) {
+pub(crate) fn broken(name: &[u8]) {
     text(name);
     text(b": the data file is missing or broken\n");
 }

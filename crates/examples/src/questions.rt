@@ -13,7 +13,7 @@ use question::Asked;
 
 pub const FIELDS: usize = 8;
 
-pub fn judge(case: &[u8]) -> Verdict {
+pub(crate) fn judge(case: &[u8]) -> Verdict {
     let mut work = [0u8; ROOM];
     let length = value(case, 3);
     if ROOM < length {

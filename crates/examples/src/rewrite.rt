@@ -14,7 +14,7 @@ pub const FIELDS: usize = 6;
 // How much output a case can lend.
 const OUTPUT: usize = 40000;
 
-pub fn judge(case: &[u8]) -> Verdict {
+pub(crate) fn judge(case: &[u8]) -> Verdict {
     let mut output = [0u8; OUTPUT];
     let length = value(case, 2);
     if OUTPUT < length {

@@ -36,7 +36,7 @@ enum Turn {
 }
 
 // Tries every case of the data file of this name, prints each difference, and then the counts.
-pub fn family(call: Call, name: &[u8]) {
+pub(crate) fn family(call: Call, name: &[u8]) {
     let file = os::open_read(name);
     if file < 0 {
         print::broken(name);

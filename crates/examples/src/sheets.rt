@@ -28,7 +28,7 @@ const ROW: usize = 8;
 // What each number of a row holds before the call: no answer has it.
 const MARK: u32 = 4294967295;
 
-pub fn judge(case: &[u8]) -> Verdict {
+pub(crate) fn judge(case: &[u8]) -> Verdict {
     let mut work = [0u8; ROOM];
     let length = value(case, 5);
     if ROOM < length {

@@ -10,7 +10,7 @@ use release::ConceptName;
 
 pub const FIELDS: usize = 7;
 
-pub fn judge(case: &[u8]) -> Verdict {
+pub(crate) fn judge(case: &[u8]) -> Verdict {
     let first = field(case, 0);
     let second = field(case, 1);
     let side = value(case, 2);

@@ -15,7 +15,7 @@ use signature::Signature;
 
 pub const FIELDS: usize = 8;
 
-pub fn judge(case: &[u8]) -> Verdict {
+pub(crate) fn judge(case: &[u8]) -> Verdict {
     let built = build(value(case, 0), value(case, 1), field(case, 2));
     same(What::Names, built.names as usize, value(case, 3)).and(same(
             What::Roles,

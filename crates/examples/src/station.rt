@@ -11,7 +11,7 @@ pub const WORK: usize = 65536;
 
 pub const OUTPUT: usize = 4096;
 
-pub fn judge(case: &[u8]) -> Verdict {
+pub(crate) fn judge(case: &[u8]) -> Verdict {
     let mut work = [0u8; WORK];
     memory::mark(&mut work);
     let mut output = [0u8; OUTPUT];

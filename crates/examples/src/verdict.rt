@@ -28,7 +28,7 @@ pub enum Verdict {
 
 impl Verdict {
     // The first difference of the two.
-    pub fn and(self, other: Verdict) -> Verdict {
+    pub(crate) fn and(self, other: Verdict) -> Verdict {
         match self {
             Verdict::Same => other,
             Verdict::Differs(_, _, _) => self,
@@ -36,7 +36,7 @@ impl Verdict {
     }
 }
 
-pub fn same(what: What, got: usize, expected: usize) -> Verdict {
+pub(crate) fn same(what: What, got: usize, expected: usize) -> Verdict {
     if got == expected {
         return Verdict::Same;
     }
@@ -44,7 +44,7 @@ pub fn same(what: What, got: usize, expected: usize) -> Verdict {
 }
 
 // Compares a refusal with the expected number, 0 where none is expected, and side.
-pub fn same_refusal(refusal: Refusal, number: usize, side: usize) -> Verdict {
+pub(crate) fn same_refusal(refusal: Refusal, number: usize, side: usize) -> Verdict {
     same(What::Accepted, 0, truth(number == 0)).and(same(
             What::Number,
             wide(refusal.number),
@@ -54,7 +54,7 @@ pub fn same_refusal(refusal: Refusal, number: usize, side: usize) -> Verdict {
 }
 
 // Compares the lengths, and then byte by byte.
-pub fn same_bytes(got: &[u8], expected: &[u8]) -> Verdict {
+pub(crate) fn same_bytes(got: &[u8], expected: &[u8]) -> Verdict {
     if got.len() != expected.len() {
         return Verdict::Differs(What::Length, got.len(), expected.len());
     }
@@ -71,6 +71,6 @@ pub fn same_bytes(got: &[u8], expected: &[u8]) -> Verdict {
 }
 
 // 1 for true and 0 for false.
-pub fn truth(x: bool) -> usize {
+pub(crate) fn truth(x: bool) -> usize {
     if x { 1 } else { 0 }
 }
