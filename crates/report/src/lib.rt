@@ -42,7 +42,8 @@ fn refused(number: u8) -> Written
 
 // Writes the report of a comparison whose result is the first `names` bytes of `result`.
 pub fn write_report(names: u16, roles: u8, result: &[u8], output: &mut [u8]) -> Written
-    ensures { λ r. ⌜ WrittenAs (reportAnswer names roles (now (result .entry)) (now (output .entry))) (reportText names roles (now (result .entry))) (now (output .entry)) (now (output .exit)) r ⌝ }
+    ensures { λ r. ⌜ WrittenAs (reportAnswer names roles (now (result .entry)) (now (output .entry)))
+        (reportText names roles (now (result .entry))) (now (output .entry)) (now (output .exit)) r ⌝ }
 {
     let name_count = names as usize;
     let role_count = wide(roles);
@@ -62,7 +63,8 @@ pub fn write_report(names: u16, roles: u8, result: &[u8], output: &mut [u8]) -> 
 
 // Writes the line of a refused comparison.
 pub fn write_refusal(refusal: Refusal, output: &mut [u8]) -> Written
-    ensures { λ r. ⌜ WrittenAs (fitted (refusalLine (refusal .number) (refusal .side)) (now (output .entry))) (refusalLine (refusal .number) (refusal .side)) (now (output .entry)) (now (output .exit)) r ⌝ }
+    ensures { λ r. ⌜ WrittenAs (fitted (refusalLine (refusal .number) (refusal .side)) (now (output .entry)))
+        (refusalLine (refusal .number) (refusal .side)) (now (output .entry)) (now (output .exit)) r ⌝ }
 {
     let number = wide(refusal.number);
     let side = wide(refusal.side);
