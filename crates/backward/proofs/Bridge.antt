@@ -32,7 +32,8 @@ use Rattle.layout.specs.Findings.{Handed}
 use Rattle.layout.specs.Comparing.{Comparing}
 use Rattle.layout.proofs.Findings.{name-handed}
 use Rattle.layout.proofs.Comparing.{chosen-below}
-use Rattle.backward.specs.Rules.{PlainColumn, ColumnPart, RowPart, Filled, PartnerLost, of-filler, of-nothing, RoleLost, RowLost, by-top, by-parts, by-role, Defined, by-part, by-row, Own, by-definition, by-name, Quiet}
+use Rattle.backward.specs.Rules.{PlainColumn, ColumnPart, RowPart, Filled, PartnerLost, of-filler, of-nothing, RoleLost, RowLost, by-top, by-parts, by-role, Defined, by-part}
+use Rattle.backward.specs.Rules.{by-row, Own, by-definition, by-name, Quiet}
 use Rattle.backward.specs.Backward.{columnAt}
 use Rattle.backward.proofs.Columns.{column-last, column-name, last-or-name, named-column, by-column, saysColumn, said-column, column-marked}
 use Rattle.backward.proofs.Defined.{joins-2, found-2, found-4, not-joined, not-2, plain-node-at, fills-filled, filled-by}
@@ -72,7 +73,9 @@ module _ {names edges g s t a b : List ℕ} {l : Layout} {w : List ℕ} (handed 
   filler-said p everything e f h m = absurd (omega arith)
   filler-said p (named z) e f h m = said p (named z) e f m
 
-  partner-there : {x y : ℕ} (f : Found s a n x) → isConjunction (f .it) ≡ false → y ≤ n → PartnerLost b l v y (roleAt a x) (fillerAt a x) → Partner (axiomsOf t) (roleOf (f .it)) (columnAt n y) (partner (axiomsOf t) (roleOf (f .it)) (columnAt n y)) → saysColumn (markSquare l) v (fillerOf (f .it)) (partner (axiomsOf t) (roleOf (f .it)) (columnAt n y)) ≡ true
+  partner-there : {x y : ℕ} (f : Found s a n x) → isConjunction (f .it) ≡ false → y ≤ n → PartnerLost b l v y (roleAt a x) (fillerAt a x)
+      → Partner (axiomsOf t) (roleOf (f .it)) (columnAt n y) (partner (axiomsOf t) (roleOf (f .it)) (columnAt n y))
+      → saysColumn (markSquare l) v (fillerOf (f .it)) (partner (axiomsOf t) (roleOf (f .it)) (columnAt n y)) ≡ true
   partner-there {x} {y} f k y-in (of-filler filled small m) (filler {b = d} d-in e fills q) =
       let p = named-column n y (d .left) y-in e in
       let o = own (c .second-release) (c .second-names) d-in in
@@ -81,7 +84,8 @@ module _ {names edges g s t a b : List ℕ} {l : Layout} {w : List ℕ} (handed 
   partner-there {x} {y} f k y-in (of-filler filled small m) (none d q) =
       let o = found-4 (c .second-release) (c .second-names) y (filled .is-name) (filled .kind) in
       let role : roleAt b y ≡ roleOf (f .it) = filled .role ∙ role-is f k in
-      absurd (d (o .it) (o .member) (ap (λ z. node (named z)) (o .left) ∙ sym (column-name n y (filled .is-name))) (filled-by (c .second-release) (c .second-names) (record { is-name = filled .is-name; kind = filled .kind; role = role }) o))
+      absurd (d (o .it) (o .member) (ap (λ z. node (named z)) (o .left) ∙ sym (column-name n y (filled .is-name)))
+      (filled-by (c .second-release) (c .second-names) (record { is-name = filled .is-name; kind = filled .kind; role = role }) o))
   partner-there {x} {y} f k y-in (of-nothing not-filled m) (filler {b = d} d-in e fills q) =
       let p = named-column n y (d .left) y-in e in
       let h : Filled b n (d .left) (roleAt a x) = rw (← role-is f k) at (fills-filled (c .second-release) (c .second-names) d-in fills) in
@@ -95,11 +99,14 @@ module _ {names edges g s t a b : List ℕ} {l : Layout} {w : List ℕ} (handed 
     row-backward plain (by-parts h e p) =
         let f = found-2 (c .first-release) (c .first-names) x h e in
         let d = defined-conjunction f e in
-        of-parts (plain-there y-in plain) (f .member) (name-is f h) (record { is-defined = d .1; is-conjunction = d .0 }) (record { at = λ z z-in. let q = part-at f (d .0) z-in in said-column (named z) refl y-in (rw (q .is) at (p .at (q .at) (q .inside) .marked)) })
+        of-parts (plain-there y-in plain) (f .member) (name-is f h) (record { is-defined = d .1; is-conjunction = d .0 })
+        (record { at = λ z z-in. let q = part-at f (d .0) z-in in said-column (named z) refl y-in (rw (q .is) at (p .at (q .at) (q .inside) .marked)) })
     row-backward plain (by-role h e p) =
         let f = found-4 (c .first-release) (c .first-names) x h e in
         let d = defined-restriction f e in
-        of-role (plain-there y-in plain) (plain-node-at (c .first-release) (c .first-names) h (λ z. omega arith)) (f .member) (name-is f h) (record { is-defined = d .1; is-restriction = d .0; role = refl }) (rw (← role-is f (d .0)) (handed .found .flag x h .tells .sound (p .has-edge) .chosen-role)) (partner-there f (d .0) y-in (p .partner) (partner-is (axiomsOf t) (roleOf (f .it)) (columnAt n y)))
+        of-role (plain-there y-in plain) (plain-node-at (c .first-release) (c .first-names) h (λ z. omega arith)) (f .member) (name-is f h)
+        (record { is-defined = d .1; is-restriction = d .0; role = refl }) (rw (← role-is f (d .0)) (handed .found .flag x h .tells .sound (p .has-edge) .chosen-role))
+        (partner-there f (d .0) y-in (p .partner) (partner-is (axiomsOf t) (roleOf (f .it)) (columnAt n y)))
 
     pub step-backward : Defined edges s t a b l v x y → Rule (nodeAt n x) (columnAt n y)
     step-backward (by-row p) = row-backward (p .plain) (p .row)
@@ -107,7 +114,8 @@ module _ {names edges g s t a b : List ℕ} {l : Layout} {w : List ℕ} (handed 
         let p = o .part in
         let f = found-2 (c .second-release) (c .second-names) y (o .is-name) (o .kind) in
         let d = defined-conjunction f (o .kind) in
-        of-part (f .member) (ap (λ z. node (named z)) (f .left) ∙ sym (column-name n y (o .is-name))) (record { is-defined = d .1; is-conjunction = d .0 }) (part-in f (d .0) (p .it) (p .below)) (said (nodeAt n x) (named (partAt t b y (p .it))) (number-at n x x-in) refl (p .holds .marked))
+        of-part (f .member) (ap (λ z. node (named z)) (f .left) ∙ sym (column-name n y (o .is-name))) (record { is-defined = d .1; is-conjunction = d .0 })
+        (part-in f (d .0) (p .it) (p .below)) (said (nodeAt n x) (named (partAt t b y (p .it))) (number-at n x x-in) refl (p .holds .marked))
 
   -- and back
   said-filler : (p q : Node) {x y : ℕ} → nodeNumber n p ≡ x → nodeNumber n q ≡ y → IsNode n q → saysColumn (markSquare l) v p (node q) ≡ true → (y < n) × Marked (markSquare l) v x y
@@ -117,7 +125,8 @@ module _ {names edges g s t a b : List ℕ} {l : Layout} {w : List ℕ} (handed 
       by-node : {y : ℕ} → IsNode n (named z) → z ≡ y → y < n
       by-node (name-node h) e = omega arith
 
-  partner-back : {y r : ℕ} {o : Axiom} → In (axiomsOf s) o → isConjunction o ≡ false → y ≤ n → Partner (axiomsOf t) r (columnAt n y) (partner (axiomsOf t) r (columnAt n y)) → saysColumn (markSquare l) v (fillerOf o) (partner (axiomsOf t) r (columnAt n y)) ≡ true → PartnerLost b l v y r (nodeNumber n (fillerOf o))
+  partner-back : {y r : ℕ} {o : Axiom} → In (axiomsOf s) o → isConjunction o ≡ false → y ≤ n → Partner (axiomsOf t) r (columnAt n y) (partner (axiomsOf t) r (columnAt n y))
+      → saysColumn (markSquare l) v (fillerOf o) (partner (axiomsOf t) r (columnAt n y)) ≡ true → PartnerLost b l v y r (nodeNumber n (fillerOf o))
   partner-back {y} {r} {o} o-in k y-in (filler {b = d} d-in e fills q) m =
       let p = named-column n y (d .left) y-in e in
       let f = own (c .second-release) (c .second-names) d-in in
@@ -143,26 +152,37 @@ module _ {names edges g s t a b : List ℕ} {l : Layout} {w : List ℕ} (handed 
       marked-row plain lost = marked-by (by-row (record { plain = plain-back plain; row = lost }))
 
       marked-above : {d : ℕ} → d < n → Own names edges s t a b l v d y → Marked (firstSquare l) v d (nodeNumber n x) → saysColumn (markSquare l) v x (columnAt n y) ≡ true
-      marked-above {d} d-in own-step below-x = said-column x refl y-in (quiet .handed .at d (omega arith) .each (nodeNumber n x) (number-small n x x-in) below-x .marked y y-in (at-cell (omega arith) own-step))
+      marked-above {d} d-in own-step below-x = said-column x refl y-in
+          (quiet .handed .at d (omega arith) .each (nodeNumber n x) (number-small n x x-in) below-x .marked y y-in (at-cell (omega arith) own-step))
 
       cell-closed : Rule x (columnAt n y) → saysColumn (markSquare l) v x (columnAt n y) ≡ true
       cell-closed (of-part {b = d} {z = z} d-in e joins z-in m) =
           let p = named-column n y (d .left) y-in e in
           let f = own (c .second-release) (c .second-names) d-in in
           let q = part-at f (joins .is-conjunction) z-in in
-          let some : SomeBelow (ColumnPart t b l v (nodeNumber n x) (d .left)) (countAt t b (d .left)) = record { it = q .at; below = q .inside; holds = record { marked = rw (q .is) (marked x (named z) refl refl m) } } in
+          let some : SomeBelow (ColumnPart t b l v (nodeNumber n x) (d .left)) (countAt t b (d .left)) = record
+          { it = q .at; below = q .inside; holds = record { marked = rw (q .is) (marked x (named z) refl refl m) } } in
           marked-by (by-part (record { is-name = p .0; kind = rw (← p .1) (joins-2 (c .second-release) (c .second-names) d-in joins); part = rw (p .1) at some }))
       cell-closed (of-everything plain e) = marked-row plain (by-top (ap (nodeNumber n) e))
       cell-closed (of-parts {a = o} plain o-in e joins every) =
           let f = own (c .first-release) (c .first-names) o-in in
-          let each : EachBelow (RowPart s a l v (o .left) y) (countAt s a (o .left)) = record { at = λ i h. record { marked = column-marked (named (partAt s a (o .left) i)) refl y-in (every .at (partAt s a (o .left) i) (part-in f (joins .is-conjunction) i h)) } } in
+          let each : EachBelow (RowPart s a l v (o .left) y) (countAt s a (o .left)) = record {
+            at = λ i h. record {
+              marked = column-marked (named (partAt s a (o .left) i)) refl y-in (every .at (partAt s a (o .left) i) (part-in f (joins .is-conjunction) i h));
+            };
+          } in
           marked-row plain (rw (← e) (by-parts (formed (c .first-release) (c .first-names) .left-in o-in) (joins-2 (c .first-release) (c .first-names) o-in joins) each))
-      cell-closed (of-name {b = d} plain x-plain over below-x not-below) = marked-above (chosen-below l g d over) (by-name (record { chosen-name = name-handed handed d ∙ over; not-second = under-not y-in not-below })) (marked (named d) x refl refl below-x)
+      cell-closed (of-name {b = d} plain x-plain over below-x not-below) = marked-above (chosen-below l g d over)
+          (by-name (record { chosen-name = name-handed handed d ∙ over; not-second = under-not y-in not-below })) (marked (named d) x refl refl below-x)
       cell-closed (of-role {a = o} {r = r} plain x-plain o-in e fills over m) =
           let f = own (c .first-release) (c .first-names) o-in in
           let h = fills-filled (c .first-release) (c .first-names) o-in fills in
           let p = partner-back o-in (fills .is-restriction) y-in (partner-is (axiomsOf t) r (columnAt n y)) m in
-          let lost : RoleLost edges a b l v (o .left) y = record { has-edge = handed .found .flag (o .left) (h .is-name) .tells .complete (record { is-restriction = restriction-restricts f (fills .is-restriction); chosen-role = rw (h .role) over }); partner = rw (h .role, ← filler-is f (fills .is-restriction)) p } in
+          let lost : RoleLost edges a b l v (o .left) y = record {
+            has-edge = handed .found .flag (o .left) (h .is-name) .tells .complete
+                (record { is-restriction = restriction-restricts f (fills .is-restriction); chosen-role = rw (h .role) over });
+            partner = rw (h .role, ← filler-is f (fills .is-restriction)) p;
+          } in
           marked-row plain (rw (← e) (by-role (h .is-name) (h .kind) lost))
 
     not-at-top : Rule x (node everything) → ⊥

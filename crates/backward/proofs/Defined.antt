@@ -38,7 +38,8 @@ module _ {s t : List ℕ} {n : ℕ} (r : Release s t) (names : n ≡ namesOf s) 
   plain-node-at {x} l k = rw (at-name n x l) (plain-name (not-joined k))
 
   pub fills-filled : {q : ℕ} {a : Axiom} → In (axiomsOf s) a → Fills q a → Filled t n (a .left) q
-  fills-filled a-in fills = let f = own r names a-in in record { is-name = formed r names .left-in a-in; kind = is-4 f (fills .is-restriction) (fills .is-defined); role = role-is f (fills .is-restriction) ∙ sym (fills .role) }
+  fills-filled a-in fills = let f = own r names a-in in record
+      { is-name = formed r names .left-in a-in; kind = is-4 f (fills .is-restriction) (fills .is-defined); role = role-is f (fills .is-restriction) ∙ sym (fills .role) }
 
   pub filled-by : {x q : ℕ} → Filled t n x q → (f : Found s t n x) → Fills q (f .it)
   filled-by h f = let d = defined-restriction f (h .kind) in record { is-defined = d .1; is-restriction = d .0; role = sym (h .role) ∙ role-is f (d .0) }

@@ -35,7 +35,8 @@ use Rattle.backward.specs.Backward.{columnAt, Backwarded}
 use Rattle.backward.proofs.Columns.{column-last, column-name, last-or-name, column-in, by-column, saysColumn, column-marked}
 use Rattle.backward.proofs.Bridge.{step-backward, rows-closed}
 
-module _ {names edges g s t a b : List ℕ} {l : Layout} {w v : List ℕ} (handed : Handed g a (l .names) (l .roles) names edges) (c : Comparing s t a b l w) (closed : Closed (Step names edges s t a b l) (markSquare l) (Quiet names edges s t a b l) w v) where
+module _ {names edges g s t a b : List ℕ} {l : Layout} {w v : List ℕ} (handed : Handed g a (l .names) (l .roles) names edges) (c : Comparing s t a b l w)
+    (closed : Closed (Step names edges s t a b l) (markSquare l) (Quiet names edges s t a b l) w v) where
   abbrev n : ℕ
   n = l .names
 
@@ -44,7 +45,8 @@ module _ {names edges g s t a b : List ℕ} {l : Layout} {w v : List ℕ} (hande
 
   module _ {u : List ℕ} {x y : ℕ} (frame : Frame (markSquare l) w u) (x-in : x ≤ n) (y-in : y ≤ n) where
     defined-sound : AllGood (markSquare l) Means u → Defined edges s t a b l u x y → Means x y
-    defined-sound good step = backward-sound (comparable c g) (first-table-by c frame) (second-table-by c frame) (saysColumn (markSquare l) u) good-said (nodeAt n x) (columnAt n y) (at-node n x x-in) (column-in n y y-in) (step-backward handed c u x-in y-in step)
+    defined-sound good step = backward-sound (comparable c g) (first-table-by c frame) (second-table-by c frame) (saysColumn (markSquare l) u) good-said (nodeAt n x)
+        (columnAt n y) (at-node n x x-in) (column-in n y y-in) (step-backward handed c u x-in y-in step)
       where
         good-said : (p : Node) (q : Column) → IsNode n p → IsColumn n q → saysColumn (markSquare l) u p q ≡ true → LostBelow (chosen l g) (axiomsOf s) (axiomsOf t) p q
         good-said p q i j h = elim (by-column n q j) [
@@ -92,6 +94,8 @@ module _ {names edges g s t a b : List ℕ} {l : Layout} {w v : List ℕ} (hande
         frame = frame;
         marked = record {
           sound = grows-good step-sound (unmarked-good (c .unmarked)) (closed .grows) .good;
-          kept = λ x y x-in y-in k d over p. below-kept (comparable c g) (first-table-by c frame) (second-table-by c frame) (saysColumn (markSquare l) v) (λ o q i j rule. rows-closed handed c v (closed .done) o i q j rule) d over (nodeAt n x) (columnAt n y) (at-node n x x-in) (column-in n y y-in) (unsaid x y x-in y-in k) p;
+          kept = λ x y x-in y-in k d over p. below-kept (comparable c g) (first-table-by c frame) (second-table-by c frame) (saysColumn (markSquare l) v)
+              (λ o q i j rule. rows-closed handed c v (closed .done) o i q j rule) d over (nodeAt n x) (columnAt n y) (at-node n x x-in) (column-in n y y-in)
+              (unsaid x y x-in y-in k) p;
         };
       }

@@ -19,7 +19,8 @@ use Rattle.branches.specs.Sheets.{judged, sheet}
 use Rattle.branches.specs.Steps.{Begun}
 use Rattle.branches.proofs.Refusals.{Enough, known}
 
-module _ {s t a b : List ℕ} {x y : Checked} (first : ReleaseRead s a x) (second : ReleaseRead t b y) (gs : List ℕ) (q rows work : ℕ) (answer : Comparison) (is : answer ≡ judged x y gs q rows work) where
+module _ {s t a b : List ℕ} {x y : Checked} (first : ReleaseRead s a x) (second : ReleaseRead t b y) (gs : List ℕ) (q rows work : ℕ) (answer : Comparison)
+    (is : answer ≡ judged x y gs q rows work) where
   is-sheet : answer ≡ sheet s t gs q rows work
   is-sheet = is ∙ rw (first .answer, second .answer)
 
@@ -30,7 +31,8 @@ module _ {s t a b : List ℕ} {x y : Checked} (first : ReleaseRead s a x) (secon
     pub small-names : c .names ≤ marks.mostNames
     small-names = omega (arith, few-counts (facts .0) .0)
 
-module _ {s t a b : List ℕ} {x y : Checked} (first : ReleaseRead s a x) (second : ReleaseRead t b y) (gs : List ℕ) (q rows : ℕ) (w : List ℕ) (answer : Comparison) (is : answer ≡ judged x y gs q rows (length w)) where
+module _ {s t a b : List ℕ} {x y : Checked} (first : ReleaseRead s a x) (second : ReleaseRead t b y) (gs : List ℕ) (q rows : ℕ) (w : List ℕ) (answer : Comparison)
+    (is : answer ≡ judged x y gs q rows (length w)) where
   pub refuses : (k : Refusal) → answer ≡ Refused k → Begun s t gs q rows w w answer
   refuses k e = record { answer = is-sheet first second gs q rows (length w) answer is; refused = λ z. refl; prepared = λ z. not-refused (sym e ∙ z) }
 
@@ -43,7 +45,17 @@ module _ {s t a b : List ℕ} {x y : Checked} (first : ReleaseRead s a x) (secon
 
     pub both-given : BothGiven s t a b (c .names) w
     unfolding size
-    both-given = record { first = release-read first (agreement .first); second = release-read second (agreement .second); first-names = agreement .first-names; second-names = agreement .second-names; room = lent .work }
+    both-given = record {
+      first = release-read first (agreement .first);
+      second = release-read second (agreement .second);
+      first-names = agreement .first-names;
+      second-names = agreement .second-names;
+      room = lent .work;
+    }
 
     pub begins : {z : ℕ} → z ≡ size (c .names) → {v : List ℕ} → Prepared s t (c .names) z w v → Begun s t gs q rows w v (Accepted c)
-    begins is-size prepared = record { answer = sym e ∙ is-sheet first second gs q rows (length w) answer is; refused = λ y. not-refused (sym y); prepared = λ y. rw (← agreement .first-names, ← is-size) prepared }
+    begins is-size prepared = record {
+      answer = sym e ∙ is-sheet first second gs q rows (length w) answer is;
+      refused = λ y. not-refused (sym y);
+      prepared = λ y. rw (← agreement .first-names, ← is-size) prepared;
+    }

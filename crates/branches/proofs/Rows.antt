@@ -101,7 +101,13 @@ module _ {s t a b : List ℕ} {x y : Checked} (first : ReleaseRead s a x) (secon
     pub given-part : Given part s t a b (c .names) (c .roles) w
     unfolding size
     given-part = record {
-      both = record { first = release-read first (agreement .first); second = release-read second (agreement .second); first-names = agreement .first-names; second-names = agreement .second-names; room = rw (agreement .first-names) (turn .fits .work) };
+      both = record {
+        first = release-read first (agreement .first);
+        second = release-read second (agreement .second);
+        first-names = agreement .first-names;
+        second-names = agreement .second-names;
+        room = rw (agreement .first-names) (turn .fits .work);
+      };
       signature = rw part-is (one-signature (c .names) (c .roles) (turn .count) gs i (turn .inside) in-all);
     }
 
@@ -113,4 +119,6 @@ module _ {s t a b : List ℕ} {x y : Checked} (first : ReleaseRead s a x) (secon
 
     pub row-is : {v : Row} → v ≡ row (c .names) (c .roles) part → v ≡ rowAt s t gs i
     unfolding rowAt
-    row-is h = h ∙ (ap (row (c .names) (c .roles)) part-is ∙ (ap (λ (n : ℕ). row n (c .roles) (signatureAt n (c .roles) gs i)) (agreement .first-names) ∙ ap (λ (m : ℕ). row (namesOf s) m (signatureAt (namesOf s) m gs i)) (agreement .first-roles)))
+    row-is h = h ∙ (ap (row (c .names) (c .roles)) part-is ∙
+        (ap (λ (n : ℕ). row n (c .roles) (signatureAt n (c .roles) gs i)) (agreement .first-names) ∙ ap (λ (m : ℕ). row (namesOf s) m (signatureAt (namesOf s) m gs i))
+        (agreement .first-roles)))

@@ -187,7 +187,10 @@ pub refused-end : {r : Comparison} {w : List ℕ} {k : Refusal} → r ≡ Refuse
 refused-end e = record { refused = λ z. refl; accepted = λ z. not-refused (sym e ∙ z) }
 
 pub accepted-end : {r : Comparison} {w v : List ℕ} {c : Compared} → r ≡ Accepted c → {k : ℕ} → k ≡ size (c .names) → Zeroed (4 * k) w v → Ended r w v
-accepted-end {w = w} {v = v} {c = c} e is z = record { refused = λ y. not-refused (sym y ∙ e); accepted = λ {c = d} y. let f : c ≡ d = same-counts (sym e ∙ y) in subst (λ (x : ℕ). Zeroed (4 * x) w v) (is ∙ ap (λ (x : Compared). size (x .names)) f) z }
+accepted-end {w = w} {v = v} {c = c} e is z = record {
+  refused = λ y. not-refused (sym y ∙ e);
+  accepted = λ {c = d} y. let f : c ≡ d = same-counts (sym e ∙ y) in subst (λ (x : ℕ). Zeroed (4 * x) w v) (is ∙ ap (λ (x : Compared). size (x .names)) f) z;
+}
   where
     same-counts : {c d : Compared} → Accepted c ≡ Accepted d → c ≡ d
     same-counts h = cc

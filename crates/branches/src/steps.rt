@@ -81,7 +81,9 @@ fn row_of(
 ) -> Row
     requires { ⌜ Given (now signature) (now first) (now second) (now «first_table») (now «second_table») names roles (now work) ⌝ }
     requires { ⌜ Ready (now first) (now second) names (size names) (now work) ⌝ }
-    ensures { λ r. ⌜ (r ≡ rowOf (take names (now (signature .entry))) (comparisonBytes names (signatureOf names roles (now (signature .entry))) (axiomsOf (now (first .entry))) (axiomsOf (now (second .entry))))) × (now (work .exit) ≡ now (work .entry)) ⌝ }
+    ensures { λ r. ⌜ (r ≡ rowOf (take names (now (signature .entry)))
+        (comparisonBytes names (signatureOf names roles (now (signature .entry))) (axiomsOf (now (first .entry))) (axiomsOf (now (second .entry)))))
+        × (now (work .exit) ≡ now (work .entry)) ⌝ }
 {
     let mut result = [0u8; Release::NAMES];
     compare_prepared(

@@ -22,7 +22,8 @@ use Rattle.marks.specs.Passes.{Below}
 use Rattle.classification.specs.Inclusions.{nodeAt, says}
 use Rattle.classification.specs.Steps.{PartMarked, Gathers, Fills, Step, to-itself, to-top, to-part, to-gathered, to-filled, through, Row}
 use Rattle.classification.proofs.Nodes.{at-top, at-name, number-at, number-small, said, marked}
-use Rattle.classification.proofs.AxiomRows.{is-conjunction, is-restriction, conjunction-joins, restriction-restricts, defined-conjunction, defined-restriction, is-2, is-4, role-is, name-is, filler-is, part-in, part-at, formed, own, find, joined, restricted}
+use Rattle.classification.proofs.AxiomRows.{is-conjunction, is-restriction, conjunction-joins, restriction-restricts, defined-conjunction, defined-restriction, is-2, is-4}
+use Rattle.classification.proofs.AxiomRows.{role-is, name-is, filler-is, part-in, part-at, formed, own, find, joined, restricted}
 
 -- by a node between
 pub record Through (q : Square) (w : List ℕ) (x y : ℕ) : Type 0 where
@@ -45,14 +46,19 @@ module _ {s t : List ℕ} {q : Square} (r : Release s t) (names : q .names ≡ n
     step-includes (to-gathered yn g) =
         let f = find r names y yn (λ z. omega (arith, g .kind)) in
         let k = defined-conjunction f (g .kind) in
-        inl (by-parts (f .member) (name-is f yn) (record { is-defined = k .1; is-conjunction = k .0 }) (record { at = λ z i. let p = part-at f (k .0) i in said (nodeAt (q .names) x) (named z) (number-at (q .names) x h) refl (rw (p .is) at (g .parts .at (p .at) (p .inside) .is)) }))
+        inl (by-parts (f .member) (name-is f yn) (record { is-defined = k .1; is-conjunction = k .0 })
+        (record {
+          at = λ z i. let p = part-at f (k .0) i in said (nodeAt (q .names) x) (named z) (number-at (q .names) x h) refl
+              (rw (p .is) at (g .parts .at (p .at) (p .inside) .is));
+        }))
     step-includes (to-filled b bn j m yn g) =
         let f = find r names y yn (λ z. omega (arith, g .kind)) in
         let k = defined-restriction f (g .kind) in
         let c = restricted r names b bn j in
         let i = is-restriction c j in
         let fills : el.Fills (roleOf (c .it)) (f .it) = record { is-defined = k .1; is-restriction = k .0; role = sym (role-is c i) ∙ (g .role ∙ role-is f (k .0)) } in
-        let link : Link (says q w) (nodeAt (q .names) x) (roleOf (c .it)) (c .it) = record { above = said (nodeAt (q .names) x) (named (c .it .left)) (number-at (q .names) x h) (c .left) m; is-restriction = i; role = refl } in
+        let link : Link (says q w) (nodeAt (q .names) x) (roleOf (c .it)) (c .it) = record
+        { above = said (nodeAt (q .names) x) (named (c .it .left)) (number-at (q .names) x h) (c .left) m; is-restriction = i; role = refl } in
         inl (by-filler (f .member) (name-is f yn) fills (c .member) link (said (fillerOf (c .it)) (fillerOf (f .it)) (filler-is c i) (filler-is f (k .0)) (g .filler)))
     step-includes (through c cn m k) = inr (record { it = c; inside = cn; first = m; second = k })
 
@@ -72,7 +78,8 @@ module _ {s t : List ℕ} {q : Square} (r : Release s t) (names : q .names ≡ n
         said a b refl (ap (nodeNumber (q .names)) (sym e)) (rw (o .is) at (d .at (o .at) (o .inside) .is))
     rows-closed (by-parts {a = p} k e j every) =
         let f = own r names k in
-        let parts : Below (PartMarked s t q (nodeNumber (q .names) a) (p .left)) (countAt s t (p .left)) v = record { at = λ z l. record { is = marked a (named (partAt s t (p .left) z)) refl refl (every .at (partAt s t (p .left) z) (part-in f (j .is-conjunction) z l)) } } in
+        let parts : Below (PartMarked s t q (nodeNumber (q .names) a) (p .left)) (countAt s t (p .left)) v = record
+        { at = λ z l. record { is = marked a (named (partAt s t (p .left) z)) refl refl (every .at (partAt s t (p .left) z) (part-in f (j .is-conjunction) z l)) } } in
         let g : Gathers s t q (nodeNumber (q .names) a) (p .left) v = record { kind = is-2 f (j .is-conjunction) (j .is-defined); parts = parts } in
         said a b refl (ap (nodeNumber (q .names)) (sym e)) (row-of .looked .at (p .left) (formed r names .left-in k) .gathered g)
     rows-closed (by-filler {a = p} {b = c} k e j l link m) =

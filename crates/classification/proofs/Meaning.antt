@@ -34,10 +34,16 @@ Means s n x y = Included (axiomsOf s) (nodeAt n x) (nodeAt n y)
 
 -- good marks, said of nodes
 good-says : (s : List ℕ) (q : Square) (w : List ℕ) → AllGood q (Means s (q .names)) w → (a b : Node) → IsNode (q .names) a → IsNode (q .names) b → says q w a b ≡ true → Included (axiomsOf s) a b
-good-says s q w g a b i j h = rw (at-number (q .names) a i, at-number (q .names) b j) at (g .good (nodeNumber (q .names) a) (nodeNumber (q .names) b) (number-small (q .names) a i) (number-small (q .names) b j) (marked a b refl refl h))
+good-says s q w g a b i j h = rw (at-number (q .names) a i, at-number (q .names) b j)
+    at (g .good (nodeNumber (q .names) a) (nodeNumber (q .names) b) (number-small (q .names) a i) (number-small (q .names) b j) (marked a b refl refl h))
 
 pub setting : {s t : List ℕ} {q : Square} {w : List ℕ} → Unclassified s t q w → Setting s t q w
-setting {s} u = record { shaped = ranges (u .release) (u .names); room = u .area .room; area = u .area; few = omega (arith, u .names, header-sound s (no-header-fault s (u .release .accepted)) .names) }
+setting {s} u = record {
+  shaped = ranges (u .release) (u .names);
+  room = u .area .room;
+  area = u .area;
+  few = omega (arith, u .names, header-sound s (no-header-fault s (u .release .accepted)) .names);
+}
 
 module _ {s t : List ℕ} {q : Square} (r : Release s t) (names : q .names ≡ namesOf s) where
   step-sound : (w : List ℕ) (x y : ℕ) → AllGood q (Means s (q .names)) w → x ≤ q .names → y ≤ q .names → Step s t q w x y → Means s (q .names) x y
@@ -47,12 +53,17 @@ module _ {s t : List ℕ} {q : Square} (r : Release s t) (names : q .names ≡ n
   ]
 
   rows-complete : (v : List ℕ) → Below (Row s t q) (suc (q .names)) v → (x y : ℕ) → x ≤ q .names → y ≤ q .names → Means s (q .names) x y → Marked q v x y
-  rows-complete v rows x y h l p = marked (nodeAt (q .names) x) (nodeAt (q .names) y) (number-at (q .names) x h) (number-at (q .names) y l) (includes-complete (formed r names) (says q v) (λ a b i j k. rows-closed r names rows a b i k) (nodeAt (q .names) x) (nodeAt (q .names) y) (at-node (q .names) x h) (at-node (q .names) y l) p)
+  rows-complete v rows x y h l p = marked (nodeAt (q .names) x) (nodeAt (q .names) y) (number-at (q .names) x h) (number-at (q .names) y l)
+      (includes-complete (formed r names) (says q v) (λ a b i j k. rows-closed r names rows a b i k) (nodeAt (q .names) x) (nodeAt (q .names) y) (at-node (q .names) x h)
+      (at-node (q .names) y l) p)
 
 pub classified : {s t : List ℕ} {q : Square} {w v : List ℕ} → Unclassified s t q w → Closed (Step s t q) q (Below (Settled s t q) (suc (q .names))) w v → Classified s q w v
 classified {v = v} u c = record {
   frame = grows-frame (c .grows);
-  inclusions = record { sound = grows-good (λ z x y g k h l o. step-sound (u .release) (u .names) z x y k h l o) (unmarked-good (u .unmarked)) (c .grows) .good; complete = rows-complete (u .release) (u .names) v (rows-settled (setting u .shaped) (c .done)) };
+  inclusions = record {
+    sound = grows-good (λ z x y g k h l o. step-sound (u .release) (u .names) z x y k h l o) (unmarked-good (u .unmarked)) (c .grows) .good;
+    complete = rows-complete (u .release) (u .names) v (rows-settled (setting u .shaped) (c .done));
+  };
 }
 
 -- a square apart from the one that changed keeps them
@@ -65,7 +76,9 @@ module _ {s : List ℕ} {q : Square} {w : List ℕ} (m : Inclusions s q w) where
   says-sound {a} {b} i j h = good-says s q w (record { good = m .sound }) a b i j h
 
   pub says-complete : {a b : Node} → IsNode (q .names) a → IsNode (q .names) b → Included (axiomsOf s) a b → says q w a b ≡ true
-  says-complete {a} {b} i j p = said a b refl refl (m .complete (nodeNumber (q .names) a) (nodeNumber (q .names) b) (number-small (q .names) a i) (number-small (q .names) b j) (rw (at-number (q .names) a i, at-number (q .names) b j) p))
+  says-complete {a} {b} i j p = said a b refl refl
+      (m .complete (nodeNumber (q .names) a) (nodeNumber (q .names) b) (number-small (q .names) a i) (number-small (q .names) b j)
+      (rw (at-number (q .names) a i, at-number (q .names) b j) p))
 
   abbrev pub table-by : {n : ℕ} → n ≡ q .names → Table n (axiomsOf s)
   table-by e = record { says = says q w; sound = λ i j h. says-sound (rw e at i) (rw e at j) h; complete = λ i j p. says-complete (rw e at i) (rw e at j) p }

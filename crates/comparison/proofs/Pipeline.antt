@@ -38,7 +38,8 @@ use Rattle.forward.specs.Rules.{Beneath}
 use Rattle.forward.specs.Forward.{ForwardMarked, Forwarded, ForwardFrom}
 use Rattle.backward.specs.Backward.{BackwardFrom}
 use Rattle.comparison.specs.Bytes.{Readable, Written}
-use Rattle.comparison.specs.Compared.{IsSize, SecondTurned, forwardLayout, backwardLayout, squareAt, BothGiven, Given, BothIncluded, Ready, Prepared, AllMarked, ZeroedBetween, Marking, Compared, ComparedAgain}
+use Rattle.comparison.specs.Compared.{IsSize, SecondTurned, forwardLayout, backwardLayout, squareAt, BothGiven, Given, BothIncluded, Ready, Prepared, AllMarked, ZeroedBetween}
+use Rattle.comparison.specs.Compared.{Marking, Compared, ComparedAgain}
 use Rattle.comparison.proofs.Rows.{two-spans, RowsSame, same-marked, marked-same}
 use Rattle.comparison.proofs.Bytes.{is-byte}
 
@@ -70,7 +71,12 @@ module _ {s t a b : List ℕ} {n : ℕ} {w : List ℕ} (given : BothGiven s t a 
 
       module _ {w2 : List ℕ} (c : Classified s (squareAt n 0) w1 w2) where
         pub second-asks : Unclassified t b (squareAt n k) w2
-        second-asks = record { release = given .second; names = given .second-names; area = area-at k (omega arith) w2 (c .frame .long ∙ z .long); unmarked = frame-unmarked (c .frame) (inr (omega (arith, span-size n, e .is))) (unmarked-at k (omega arith)) }
+        second-asks = record {
+          release = given .second;
+          names = given .second-names;
+          area = area-at k (omega arith) w2 (c .frame .long ∙ z .long);
+          unmarked = frame-unmarked (c .frame) (inr (omega (arith, span-size n, e .is))) (unmarked-at k (omega arith));
+        }
 
         module _ {w3 : List ℕ} (d : Classified t (squareAt n k) w2 w3) where
           pub both-included : BothIncluded s t n k w w3
@@ -92,7 +98,10 @@ module _ {s t : List ℕ} {n k : ℕ} {w v u : List ℕ} (e : IsSize n k) (b : B
     long = r .extends .frame .long ∙ b .long;
     past = λ i h. r .extends .frame .past i (omega (arith, e .is)) ∙ b .past i h;
     first = record { sound = λ x y h l m. b .first .sound x y h l (r .marks x y h l m); complete = λ x y h l p. r .extends .stays x y (b .first .complete x y h l p) };
-    second = record { sound = λ x y h l m. b .second .sound x y h l (marked-same (after k (omega arith)) h l m); complete = λ x y h l p. same-marked (after k (omega arith)) h l (b .second .complete x y h l p) };
+    second = record {
+      sound = λ x y h l m. b .second .sound x y h l (marked-same (after k (omega arith)) h l m);
+      complete = λ x y h l p. same-marked (after k (omega arith)) h l (b .second .complete x y h l p);
+    };
     zero = λ i h l. r .extends .frame .past i (omega (arith, e .is)) ∙ b .zero i h l;
   }
 
@@ -110,7 +119,11 @@ below-names n k is = rw is refl
 
 module _ {n k : ℕ} {w : List ℕ} (few : n ≤ mostNames) (e : IsSize n k) (long : 4 * k ≤ length w) (some : 0 < n) where
   pub second-area : Area (squareAt n k) w
-  second-area = record { room = record { small = record { few = omega arith; near = omega (arith, e .small) }; fits = omega (arith, span-size n, e .is) }; lent = omega (arith, e .is); near = omega (arith, e .is, e .small) }
+  second-area = record {
+    room = record { small = record { few = omega arith; near = omega (arith, e .small) }; fits = omega (arith, span-size n, e .is) };
+    lent = omega (arith, e .is);
+    near = omega (arith, e .is, e .small);
+  }
 
   module _ {p : Square} (is : p ≡ behind (squareAt n k) 1) where
     pub below-room : Room p w
@@ -140,8 +153,14 @@ module _ {s t : List ℕ} {n k : ℕ} {w v u : List ℕ} (b : BothIncluded s t n
     long = r .long ∙ b .long;
     past = λ i h. r .past i (omega arith) ∙ b .past i h;
     ready = record {
-      first = record { sound = λ x y h l m. b .first .sound x y h l (marked-same (still 0 (omega arith)) h l m); complete = λ x y h l p. same-marked (still 0 (omega arith)) h l (b .first .complete x y h l p) };
-      second = record { sound = λ x y h l m. b .second .sound x y h l (marked-same (still k (omega arith)) h l m); complete = λ x y h l p. same-marked (still k (omega arith)) h l (b .second .complete x y h l p) };
+      first = record {
+        sound = λ x y h l m. b .first .sound x y h l (marked-same (still 0 (omega arith)) h l m);
+        complete = λ x y h l p. same-marked (still 0 (omega arith)) h l (b .first .complete x y h l p);
+      };
+      second = record {
+        sound = λ x y h l m. b .second .sound x y h l (marked-same (still k (omega arith)) h l m);
+        complete = λ x y h l p. same-marked (still k (omega arith)) h l (b .second .complete x y h l p);
+      };
       turned = r .turned;
       zero = λ i h l. r .past i h ∙ b .zero i h l;
     };
@@ -164,7 +183,10 @@ module _ {g s t a b : List ℕ} {n m k : ℕ} {w : List ℕ} (given : Given g s 
   -- marks
   module _ (ready : Ready s t n k w) where
     unmarked : (base : ℕ) → 2 * k ≤ base → base ≤ 3 * k → Unmarked (squareAt n base) w
-    unmarked base h l = record { none = λ x y i j m. zero-unmarked (ready .zero (place (squareAt n base) x y) (omega (arith, place-from (squareAt n base) x y)) (omega (arith, place-below (squareAt n base) x y i j, span-size n, e .is))) m }
+    unmarked base h l = record {
+      none = λ x y i j m. zero-unmarked
+          (ready .zero (place (squareAt n base) x y) (omega (arith, place-from (squareAt n base) x y)) (omega (arith, place-below (squareAt n base) x y i j, span-size n, e .is))) m;
+    }
 
     comparing : Comparing s t a b (forwardLayout n m k) w
     comparing = record {
@@ -187,7 +209,11 @@ module _ {g s t a b : List ℕ} {n m k : ℕ} {w : List ℕ} (given : Given g s 
     forward-asks f = setting comparing (found-edges f)
 
     pub forward-below : 1 ≤ n → Beneath (forwardLayout n m k) w
-    forward-below some = record { room = below-room (few (given .both)) e (omega (arith, given .both .room, e .is)) some refl; turned = ready .turned some; apart = omega (arith, e .is, two-spans n some) }
+    forward-below some = record {
+      room = below-room (few (given .both)) e (omega (arith, given .both .room, e .is)) some refl;
+      turned = ready .turned some;
+      apart = omega (arith, e .is, two-spans n some);
+    }
 
     module _ {names edges w2 : List ℕ} (handed : Handed g a n m names edges) (f : ForwardFrom names edges a b (forwardLayout n m k) w w2) where
       abbrev forth : Forwarded g s t (forwardLayout n m k) w w2
@@ -204,7 +230,11 @@ module _ {g s t a b : List ℕ} {n m k : ℕ} {w : List ℕ} (given : Given g s 
             first-room = room-at (given .both) e 0 (omega arith) w2 long;
             second-room = room-at (given .both) e k (omega arith) w2 long;
             room = room-at (given .both) e (3 * k) (omega arith) w2 long;
-            areas = record { first = area-at (given .both) e 0 (omega arith) w2 long; second = area-at (given .both) e k (omega arith) w2 long; marks = area-at (given .both) e (3 * k) (omega arith) w2 long };
+            areas = record {
+              first = area-at (given .both) e 0 (omega arith) w2 long;
+              second = area-at (given .both) e k (omega arith) w2 long;
+              marks = area-at (given .both) e (3 * k) (omega arith) w2 long;
+            };
             first-inclusions = inclusions-stay (forth .frame) (inl (omega (arith, span-size n, e .is))) (ready .first);
             second-inclusions = inclusions-stay (forth .frame) (inl (omega (arith, span-size n, e .is))) (ready .second);
             unmarked = frame-unmarked (forth .frame) (inr (omega (arith, span-size n, e .is))) (unmarked (3 * k) (omega arith) (omega arith));
@@ -226,7 +256,12 @@ module _ {g s t a b : List ℕ} {n m k : ℕ} {w : List ℕ} (given : Given g s 
   -- the result
   module _ {v : List ℕ} (marked : AllMarked g s t n m k w v) where
     pub readable : Readable g (forwardLayout n m k) (backwardLayout n m k) v
-    readable = record { signature = long-enough; same-names = refl; forward = room-at (given .both) e (2 * k) (omega arith) v (marked .long); backward = room-at (given .both) e (3 * k) (omega arith) v (marked .long) }
+    readable = record {
+      signature = long-enough;
+      same-names = refl;
+      forward = room-at (given .both) e (2 * k) (omega arith) v (marked .long);
+      backward = room-at (given .both) e (3 * k) (omega arith) v (marked .long);
+    }
 
     pub marking : {r p : List ℕ} → Written g (forwardLayout n m k) (backwardLayout n m k) v n r p → Marking g s t n m k r p w v
     marking written = record {
@@ -238,7 +273,16 @@ module _ {g s t a b : List ℕ} {n m k : ℕ} {w : List ℕ} (given : Given g s 
 
 -- what a comparison asks of memory is its length
 pub given-in : {g s t a b : List ℕ} {n m : ℕ} {w v : List ℕ} → length v ≡ length w → Given g s t a b n m w → Given g s t a b n m v
-given-in long given = record { both = record { first = given .both .first; second = given .both .second; first-names = given .both .first-names; second-names = given .both .second-names; room = omega (arith, given .both .room) }; signature = given .signature }
+given-in long given = record {
+  both = record {
+    first = given .both .first;
+    second = given .both .second;
+    first-names = given .both .first-names;
+    second-names = given .both .second-names;
+    room = omega (arith, given .both .room);
+  };
+  signature = given .signature;
+}
 
 -- what the comparison gives
 module _ {g s t : List ℕ} {n m k : ℕ} {r p w v : List ℕ} (e : IsSize n k) where
@@ -250,7 +294,8 @@ module _ {g s t : List ℕ} {n m k : ℕ} {r p w v : List ℕ} (e : IsSize n k) 
   }
 
   pub compared-again : {u : List ℕ} → Ready s t n k w → Marking g s t n m k r p w v → ZeroedBetween (2 * k) (4 * k) v u → ComparedAgain g s t n m r p w u
-  compared-again {u} ready marks unmarks = record { reported = marks .reported; same = ext-getD 0 u w (unmarks .long ∙ marks .long) (λ i l. by-place i (which (ltb i (2 * k))) (which (ltb i (4 * k)))) }
+  compared-again {u} ready marks unmarks = record
+      { reported = marks .reported; same = ext-getD 0 u w (unmarks .long ∙ marks .long) (λ i l. by-place i (which (ltb i (2 * k))) (which (ltb i (4 * k)))) }
     where
       by-place : (i : ℕ) → (ltb i (2 * k) ≡ true) ⊎ (ltb i (2 * k) ≡ false) → (ltb i (4 * k) ≡ true) ⊎ (ltb i (4 * k) ≡ false) → getD u i 0 ≡ getD w i 0
       by-place i (inl h) _ = let l = ltb-true i (2 * k) h in unmarks .before i l ∙ marks .before i l

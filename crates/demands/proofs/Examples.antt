@@ -10,7 +10,8 @@ use borrow.Author.Tests.{eqb-true}
 use Rattle.el.specs.Lists.{pick, all, Every}
 use Rattle.el.specs.Answers.{comparisonBytes, isIncluded}
 use Rattle.el.proofs.Tests.{tells-all, tells-true, and-left, and-right}
-use Rattle.release.specs.Files.{number, numbers, widthOf, namesOf, rolesOf, countOf, axiomsOf, fault, headerFault, partsFault, conjunctionFault, restrictionFault, tailFault, axiomFault, axiomAt, axiomsFault, axiomsFrom, conjunctDefined}
+use Rattle.release.specs.Files.{number, numbers, widthOf, namesOf, rolesOf, countOf, axiomsOf, fault, headerFault, partsFault, conjunctionFault, restrictionFault, tailFault}
+use Rattle.release.specs.Files.{axiomFault, axiomAt, axiomsFault, axiomsFrom, conjunctDefined}
 use Rattle.signature.specs.Bytes.{signatureFault}
 use Rattle.concept.specs.Bytes.{conceptOk}
 use Rattle.demands.specs.Inputs.{chosen, Accepted, textOk, AcceptedQuestion, conceptIn}
@@ -25,7 +26,9 @@ sameBytes (x ∷ xs) [] = false
 sameBytes (x ∷ xs) (y ∷ ys) = eqb x y && sameBytes xs ys
 
 abbrev pub passes : Example → Bool
-passes (compared s t g r) = eqb (fault s) 0 && (eqb (fault t) 0 && (eqb (namesOf s) (namesOf t) && (eqb (rolesOf s) (rolesOf t) && (eqb (signatureFault (namesOf s) (rolesOf s) g) 0 && sameBytes (comparisonBytes (namesOf s) (chosen s g) (axiomsOf s) (axiomsOf t)) r))))
+passes (compared s t g r) = eqb (fault s) 0 &&
+    (eqb (fault t) 0 && (eqb (namesOf s) (namesOf t) &&
+    (eqb (rolesOf s) (rolesOf t) && (eqb (signatureFault (namesOf s) (rolesOf s) g) 0 && sameBytes (comparisonBytes (namesOf s) (chosen s g) (axiomsOf s) (axiomsOf t)) r))))
 passes (asked s c d v) = eqb (fault s) 0 && (textOk s c && (textOk s d && eqb (pick (isIncluded (namesOf s) (axiomsOf s) (conceptIn s c) (conceptIn s d)) 1 0) v))
 
 same-bytes : (xs ys : List ℕ) → sameBytes xs ys ≡ true → xs ≡ ys
@@ -62,7 +65,8 @@ passes-holds (asked s c d v) h =
     record { accepted = given; answer = rw e at (question-answer given) }
 
 all-pass : all passes examples ≡ true
-unfolding number numbers widthOf namesOf rolesOf countOf fault headerFault partsFault conjunctionFault restrictionFault tailFault axiomFault axiomAt axiomsFault axiomsFrom conjunctDefined signatureFault conceptOk
+unfolding number numbers widthOf namesOf rolesOf countOf fault headerFault partsFault conjunctionFault restrictionFault tailFault axiomFault axiomAt axiomsFault axiomsFrom
+    conjunctDefined signatureFault conceptOk
 all-pass = refl
 
 -- the whole table

@@ -54,7 +54,8 @@ told true t = record { small = omega arith; derivable = (λ e. t .sound refl, λ
 told false t = record { small = omega arith; derivable = (λ e. absurd (omega arith), λ p. absurd (false≢true (t .complete p))) }
 
 pub question-answer : {s c d : List ℕ} → AcceptedQuestion s c d → IsAnswer (axiomsOf s) (conceptIn s c) (conceptIn s d) (pick (isIncluded (namesOf s) (axiomsOf s) (conceptIn s c) (conceptIn s d)) 1 0)
-question-answer {s} {c} {d} given = told _ (tells-included (formed s (given .release)) (terminology s (given .release)) (conceptIn s c) (conceptIn s d) (scoped c (given .below)) (scoped d (given .above)))
+question-answer {s} {c} {d} given = told _
+    (tells-included (formed s (given .release)) (terminology s (given .release)) (conceptIn s c) (conceptIn s d) (scoped c (given .below)) (scoped d (given .above)))
   where
     scoped : (c : List ℕ) → textOk s c ≡ true → Scoped (namesOf s) (conceptIn s c)
     scoped c h = within-scoped (namesOf s) (rolesOf s) (conceptIn s c) (accepted-is-text (widthOf s) (namesOf s) (rolesOf s) c h .within)

@@ -23,7 +23,8 @@ use Rattle.el.proofs.Derivations.{_▹_, Fills}
 use Rattle.el.proofs.Nodes.{IsColumn, no-column, node-column, in-below, tells-node, tells-column, node-axis, column-axis}
 use Rattle.el.proofs.Saturation.{Closed, Keeps, Marks, saturated}
 use Rattle.el.proofs.Classification.{tells-joins, tells-fills, Table, part-node}
-use Rattle.el.proofs.PlainNodes.{Plain, tells-plain, is-everything, is-joined, is-plain, kind, to-part-of, from-parts-of, from-filler-of, FilledBy, part-plain, top-below-plain, both-below-plain, some-below-plain}
+use Rattle.el.proofs.PlainNodes.{Plain, tells-plain, is-everything, is-joined, is-plain, kind, to-part-of, from-parts-of, from-filler-of, FilledBy, part-plain}
+use Rattle.el.proofs.PlainNodes.{top-below-plain, both-below-plain, some-below-plain}
 
 abbrev pub Below : List Axiom → Concept → Column → Type 0
 Below al c nothing = ⊥
@@ -46,7 +47,8 @@ pub data Backward (sig : Signature) (t u : List Axiom) (in-t in-u : Test Node No
   of-everything : PlainColumn u y → x ≡ everything → Backward sig t u in-t in-u f x y
   of-parts : {a : Axiom} → PlainColumn u y → In t a → named (a .left) ≡ x → Joins a → Every (partsOf a) (λ z. f (named z) y ≡ true) → Backward sig t u in-t in-u f x y
   of-name : {b : ℕ} → PlainColumn u y → Plain t x → sig .has-name b ≡ true → in-t (named b) x ≡ true → nameUnder in-u b y ≡ false → Backward sig t u in-t in-u f x y
-  of-role : {a : Axiom} {r : ℕ} → PlainColumn u y → Plain t x → In t a → named (a .left) ≡ x → Fills r a → sig .has-role r ≡ true → f (fillerOf a) (partner u r y) ≡ true → Backward sig t u in-t in-u f x y
+  of-role : {a : Axiom} {r : ℕ} → PlainColumn u y → Plain t x → In t a → named (a .left) ≡ x → Fills r a → sig .has-role r ≡ true → f (fillerOf a) (partner u r y) ≡ true
+      → Backward sig t u in-t in-u f x y
 
 abbrev pub BackwardMarks : {n : ℕ} (sig : Signature) {t u : List Axiom} → Table n t → Table n u → Type 0
 BackwardMarks {n} sig {t} {u} first-table second-table = Marks (IsNode n) (IsColumn n) (LostBelow sig t u) (Backward sig t u (first-table .says) (second-table .says))
@@ -90,14 +92,16 @@ tells-plain-column al (node y) = tells-as (λ k. plain-node k) node-plain (tells
     node-plain : PlainColumn al (node y) → Plain al y
     node-plain (plain-node k) = k
 
-pub tells-backward : {n : ℕ} (sig : Signature) → NamesBelow n sig → (t u : List Axiom) (in-t in-u : Test Node Node) (f : Test Node Column) (x : Node) (y : Column) → Tells (backward n sig t u in-t in-u f x y) (Backward sig t u in-t in-u f x y)
+pub tells-backward : {n : ℕ} (sig : Signature) → NamesBelow n sig → (t u : List Axiom) (in-t in-u : Test Node Node) (f : Test Node Column) (x : Node) (y : Column)
+    → Tells (backward n sig t u in-t in-u f x y) (Backward sig t u in-t in-u f x y)
 tells-backward {n} sig names-in t u in-t in-u f x y = tells-as there back (tells-or
     (tells-any _ u (λ b h. tells-and (tells-column (node (named (b .left))) y) (λ _. tells-and (tells-joins b) (λ _. tells-any _ (partsOf b) (λ z i. tells-true (f x (node (named z))))))))
     (tells-and (tells-plain-column u y) (λ _. tells-or (tells-node x everything) (tells-or
     (tells-any _ t (λ a h. tells-and (tells-node (named (a .left)) x) (λ _. tells-and (tells-joins a) (λ _. tells-all _ (partsOf a) (λ z i. tells-true (f (named z) y))))))
     (tells-and (tells-plain t x) (λ _. tells-or
     (tells-any _ (below n) (λ b h. tells-and (tells-true (sig .has-name b)) (λ _. tells-and (tells-true (in-t (named b) x)) (λ _. tells-false (nameUnder in-u b y)))))
-    (tells-any _ t (λ a h. tells-and (tells-node (named (a .left)) x) (λ _. tells-and (tells-fills (roleOf a) a) (λ _. tells-and (tells-true (sig .has-role (roleOf a))) (λ _. tells-true (f (fillerOf a) (partner u (roleOf a) y)))))))))))))
+    (tells-any _ t (λ a h. tells-and (tells-node (named (a .left)) x)
+    (λ _. tells-and (tells-fills (roleOf a) a) (λ _. tells-and (tells-true (sig .has-role (roleOf a))) (λ _. tells-true (f (fillerOf a) (partner u (roleOf a) y)))))))))))))
   where
     PlainCases : Type 0
     PlainCases = Some (below n) (λ b. (sig .has-name b ≡ true) × ((in-t (named b) x ≡ true) × (nameUnder in-u b y ≡ false)))
@@ -139,7 +143,8 @@ module _ {n : ℕ} {sig : Signature} {t u : List Axiom} (given : Comparable n si
 
   tells-under : {b : ℕ} → sig .has-name b ≡ true → (y : Column) → IsColumn n y → Tells (nameUnder in-u b y) (Below u (name b) y)
   tells-under over nothing no-column = never (λ p. p)
-  tells-under {b} over (node y) (node-column y-in) = record { sound = λ h. second-table .sound (name-node (given .names-in b over)) y-in h; complete = λ p. second-table .complete (name-node (given .names-in b over)) y-in p }
+  tells-under {b} over (node y) (node-column y-in) = record
+      { sound = λ h. second-table .sound (name-node (given .names-in b over)) y-in h; complete = λ p. second-table .complete (name-node (given .names-in b over)) y-in p }
 
   -- ⊤ is lost below a plain column, and so is a conjunction of what is lost
   top-lost : (y : Column) → PlainColumn u y → Below u top y → ⊥
@@ -190,7 +195,8 @@ module _ {n : ℕ} {sig : Signature} {t u : List Axiom} (given : Comparable n si
       }
 
   abbrev pub some-backward-marks : BackwardMarks sig first-table second-table
-  some-backward-marks = saturated (node-axis n) (column-axis n) (LostBelow sig t u) (Backward sig t u in-t in-u) (backward n sig t u in-t in-u) (tells-backward sig (given .names-in) t u in-t in-u) backward-sound
+  some-backward-marks = saturated (node-axis n) (column-axis n) (LostBelow sig t u) (Backward sig t u in-t in-u) (backward n sig t u in-t in-u)
+      (tells-backward sig (given .names-in) t u in-t in-u) backward-sound
 
   -- for any closed marks
   module _ (f : Test Node Column) (closed : Closed (IsNode n) (IsColumn n) (Backward sig t u in-t in-u) f) where
@@ -203,7 +209,8 @@ module _ {n : ℕ} {sig : Signature} {t u : List Axiom} (given : Comparable n si
       kept-plain-column x y y-plain x-in y-in free p = elim (kind t x) [
         | is-everything e ↦ absurd (not-both (closed x y x-in y-in (of-everything y-plain e)) free)
         | is-joined {a = a} a-in a-is-x joins ↦ elim (either (λ z. which-not (f (named z) y)) (partsOf a)) [
-          | inl s ↦ plain-kept (named (s .it)) y (part-plain (given .first-terms) a-in (s .member)) y-plain (part-node (given .first-formed) a-in (s .member)) y-in (s .holds) (to-part-of a-in a-is-x (s .member) p)
+          | inl s ↦ plain-kept (named (s .it)) y (part-plain (given .first-terms) a-in (s .member)) y-plain (part-node (given .first-formed) a-in (s .member)) y-in (s .holds)
+              (to-part-of a-in a-is-x (s .member) p)
           | inr all-marked ↦ absurd (not-both (closed x y x-in y-in (of-parts y-plain a-in a-is-x joins (record { at = all-marked }))) free)
         ]
         | is-plain x-plain ↦ plain-kept x y x-plain y-plain x-in y-in free p
@@ -215,7 +222,9 @@ module _ {n : ℕ} {sig : Signature} {t u : List Axiom} (given : Comparable n si
         | is-everything e ↦ rw e to-top
         | is-joined {a = b} b-in b-is-y joins ↦ elim (either (λ z. which (f x (node (named z)))) (partsOf b)) [
           | inl s ↦ absurd (not-both (closed x (node y) x-in y-in (of-part b-in (ap node b-is-y) joins (s .member) (s .holds))) free)
-          | inr all-free ↦ from-parts-of b-in b-is-y joins (λ z z-in. kept-plain-column x (node (named z)) (plain-node (part-plain (given .second-terms) b-in z-in)) x-in (node-column (part-node (given .second-formed) b-in z-in)) (all-free z z-in) p)
+          | inr all-free ↦ from-parts-of b-in b-is-y joins
+              (λ z z-in. kept-plain-column x (node (named z)) (plain-node (part-plain (given .second-terms) b-in z-in)) x-in
+              (node-column (part-node (given .second-formed) b-in z-in)) (all-free z z-in) p)
         ]
         | is-plain y-plain ↦ kept-plain-column x (node y) (plain-node y-plain) x-in y-in free p
       ]
@@ -240,7 +249,8 @@ module _ {n : ℕ} {sig : Signature} {t u : List Axiom} (given : Comparable n si
         let a = s .it in
         elim (which (f (fillerOf a) (partner u r y))) [
           | inl h ↦ absurd (not-both (closed x y x-in y-in (of-role y-plain x-plain (s .member) (s .holds .0) (s .holds .1 .0) (and-left (sig .has-role r) _ over) h)) free)
-          | inr h ↦ partner-below u r c y (kept-all c (kept-plain c (and-right (sig .has-role r) _ over)) (fillerOf a) (partner u r y) (given .first-formed .filler-in (s .member)) (partner-column (given .second-formed) r y) h (s .holds .1 .1))
+          | inr h ↦ partner-below u r c y (kept-all c (kept-plain c (and-right (sig .has-role r) _ over)) (fillerOf a) (partner u r y) (given .first-formed .filler-in (s .member))
+              (partner-column (given .second-formed) r y) h (s .holds .1 .1))
         ]
 
     pub below-kept : (c : Concept) → isOver sig c ≡ true → (x : Node) (y : Column) → IsNode n x → IsColumn n y → f x y ≡ false → Derives t c (conceptOf x) → Below u c y

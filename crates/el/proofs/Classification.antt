@@ -42,20 +42,23 @@ pub data Includes (al : List Axiom) (m : Test Node Node) (x y : Node) : Type 0 w
 
 -- the tests of specs/Answers tell of these
 pub tells-link : (m : Test Node Node) (x : Node) (r : ℕ) (a : Axiom) → Tells (isLink m x r a) (Link m x r a)
-tells-link m x r a = tells-as (λ w. record { above = w .0; is-restriction = w .1 .0; role = w .1 .1 }) (λ l. (l .above, (l .is-restriction, l .role))) (tells-and (tells-true (m x (named (a .left)))) (λ _. tells-and (tells-false (isConjunction a)) (λ _. tells-eq (roleOf a) r)))
+tells-link m x r a = tells-as (λ w. record { above = w .0; is-restriction = w .1 .0; role = w .1 .1 }) (λ l. (l .above, (l .is-restriction, l .role)))
+    (tells-and (tells-true (m x (named (a .left)))) (λ _. tells-and (tells-false (isConjunction a)) (λ _. tells-eq (roleOf a) r)))
 
 pub tells-joins : (a : Axiom) → Tells (isJoin a) (Joins a)
 tells-joins a = tells-as (λ w. record { is-defined = w .0; is-conjunction = w .1 }) (λ j. (j .is-defined, j .is-conjunction)) (tells-and (tells-true (a .defined)) (λ _. tells-true (isConjunction a)))
 
 pub tells-fills : (r : ℕ) (a : Axiom) → Tells (isFill r a) (Fills r a)
-tells-fills r a = tells-as (λ w. record { is-defined = w .0; is-restriction = w .1 .0; role = w .1 .1 }) (λ f. (f .is-defined, (f .is-restriction, f .role))) (tells-and (tells-true (a .defined)) (λ _. tells-and (tells-false (isConjunction a)) (λ _. tells-eq r (roleOf a))))
+tells-fills r a = tells-as (λ w. record { is-defined = w .0; is-restriction = w .1 .0; role = w .1 .1 }) (λ f. (f .is-defined, (f .is-restriction, f .role)))
+    (tells-and (tells-true (a .defined)) (λ _. tells-and (tells-false (isConjunction a)) (λ _. tells-eq r (roleOf a))))
 
 pub tells-includes : (al : List Axiom) (m : Test Node Node) (x y : Node) → Tells (includes al m x y) (Includes al m x y)
 tells-includes al m x y = tells-as there back (tells-or (tells-node x y) (tells-or (tells-node y everything) (tells-or
     (tells-any _ al (λ a h. tells-and (tells-true (m x (named (a .left)))) (λ _. tells-any _ (partsOf a) (λ z i. tells-node (named z) y))))
     (tells-or
     (tells-any _ al (λ a h. tells-and (tells-node (named (a .left)) y) (λ _. tells-and (tells-joins a) (λ _. tells-all _ (partsOf a) (λ z i. tells-true (m x (named z)))))))
-    (tells-any _ al (λ a h. tells-and (tells-node (named (a .left)) y) (λ _. tells-any _ al (λ b k. tells-and (tells-fills (roleOf b) a) (λ _. tells-and (tells-link m x (roleOf b) b) (λ _. tells-true (m (fillerOf b) (fillerOf a))))))))))))
+    (tells-any _ al (λ a h. tells-and (tells-node (named (a .left)) y)
+    (λ _. tells-any _ al (λ b k. tells-and (tells-fills (roleOf b) a) (λ _. tells-and (tells-link m x (roleOf b) b) (λ _. tells-true (m (fillerOf b) (fillerOf a))))))))))))
   where
     Cases : Type 0
     Cases = (x ≡ y)
@@ -107,7 +110,9 @@ module _ {n : ℕ} {al : List Axiom} (formed : Formed n al) where
   includes-sound m good x y x-in y-in (to-everything e) = rw e to-top
   includes-sound m good x y x-in y-in (by-part a-in above z-in z-is-y) = rw (← z-is-y) (good x _ x-in (left-node a-in) above ▹ to-part a-in z-in)
   includes-sound m good x y x-in y-in (by-parts a-in a-is-y joins all-above) = rw (← a-is-y) (from-parts a-in joins (λ z z-in. good x (named z) x-in (part-node a-in z-in) (all-above .at z z-in)))
-  includes-sound m good x y x-in y-in (by-filler a-in a-is-y fills b-in link marked) = rw (← a-is-y) (good x _ x-in (left-node b-in) (link .above) ▹ to-filler b-in (link-restricts link) ▹ from-filler a-in fills (good _ _ (formed .filler-in b-in) (formed .filler-in a-in) marked))
+  includes-sound m good x y x-in y-in (by-filler a-in a-is-y fills b-in link marked) = rw (← a-is-y)
+      (good x _ x-in (left-node b-in) (link .above) ▹ to-filler b-in (link-restricts link) ▹ from-filler a-in fills
+      (good _ _ (formed .filler-in b-in) (formed .filler-in a-in) marked))
 
   abbrev pub some-inclusions : Inclusions n al
   some-inclusions = saturated (node-axis n) (node-axis n) (Included al) (Includes al) (includes al) (tells-includes al) includes-sound
@@ -140,7 +145,8 @@ module _ {n : ℕ} {al : List Axiom} (formed : Formed n al) where
       | inr k ↦ (
           let t : sat (finite n al m) x (some (roleOf a) (conceptOf (fillerOf a))) = rw (right-restriction a k) at s in
           let b = t .1 in
-          by-filler a-in refl (record { is-defined = d; is-restriction = k; role = refl }) (b .member) (b .holds .0) (rw (b .holds .1) (holds-node (t .0) (fillerOf a) (formed .filler-in a-in) (t .2))))
+          by-filler a-in refl (record { is-defined = d; is-restriction = k; role = refl }) (b .member) (b .holds .0)
+          (rw (b .holds .1) (holds-node (t .0) (fillerOf a) (formed .filler-in a-in) (t .2))))
     ])
 
     pub includes-complete : (x y : Node) → IsNode n x → IsNode n y → Included al x y → m x y ≡ true
@@ -154,7 +160,11 @@ pub record Table (n : ℕ) (al : List Axiom) : Type 0 where
   pub complete : {x y : Node} → IsNode n x → IsNode n y → Included al x y → says x y ≡ true
 
 abbrev pub table-of : {n : ℕ} {al : List Axiom} → Formed n al → Inclusions n al → Table n al
-table-of formed marks = record { says = marks .mark; sound = λ x-in y-in h. marks .good _ _ x-in y-in h; complete = λ x-in y-in p. includes-complete formed (marks .mark) (marks .closed) _ _ x-in y-in p }
+table-of formed marks = record {
+  says = marks .mark;
+  sound = λ x-in y-in h. marks .good _ _ x-in y-in h;
+  complete = λ x-in y-in p. includes-complete formed (marks .mark) (marks .closed) _ _ x-in y-in p;
+}
 
 abbrev pub some-table : {n : ℕ} {al : List Axiom} → Formed n al → Table n al
 some-table formed = table-of formed (some-inclusions formed)
@@ -173,4 +183,12 @@ module _ {n : ℕ} {al : List Axiom} (formed : Formed n al) (table : Table n al)
     where
       by-edge : (e : Concept) → Edge al r (conceptOf y) e → Derives al e d → Some al (λ b. Link (table .says) y r b × Derives al (conceptOf (fillerOf b)) d)
       by-edge e (written w) p = absurd (not-within y w)
-      by-edge e (implied {a = a} a-in restricts above) p = record { it = a; member = a-in; holds = (record { above = table .complete y-in (left-node formed a-in) above; is-restriction = restricts .is-restriction; role = restricts .role }, rw (restricts .filler) p) }
+      by-edge e (implied {a = a} a-in restricts above) p = record {
+        it = a;
+        member = a-in;
+        holds = (
+          record
+              { above = table .complete y-in (left-node formed a-in) above; is-restriction = restricts .is-restriction; role = restricts .role },
+          rw (restricts .filler) p,
+        );
+      }

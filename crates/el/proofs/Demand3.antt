@@ -80,7 +80,10 @@ module _ {n : ℕ} {sig : Signature} {t u : List Axiom} (given : Comparable n si
   left-kept f a a-in free = record { keeps = λ d over p. above-kept given first-table second-table (f .mark) (f .closed) d over (named a) (named a) (name-node a-in) (name-node a-in) free p }
 
   pub right-kept : (g : BackwardMarks sig first-table second-table) (a : ℕ) → a < n → g .mark (named a) (node (named a)) ≡ false → KeptBelow sig t u a
-  right-kept g a a-in free = record { keeps = λ c over p. below-kept given first-table second-table (g .mark) (g .closed) c over (named a) (node (named a)) (name-node a-in) (node-column (name-node a-in)) free p }
+  right-kept g a a-in free = record {
+    keeps = λ c over p. below-kept given first-table second-table (g .mark) (g .closed) c over (named a) (node (named a)) (name-node a-in)
+        (node-column (name-node a-in)) free p;
+  }
 
   pub left-exact : (f : ForwardMarks sig first-table second-table) (a : ℕ) → a < n → (f .mark (named a) (named a) ≡ true) ↔ LeftWitness sig t u a
   left-exact f a a-in = (
@@ -94,7 +97,8 @@ module _ {n : ℕ} {sig : Signature} {t u : List Axiom} (given : Comparable n si
     λ w. elim (which (g .mark (named a) (node (named a)))) [ inl h ↦ h | inr h ↦ absurd (w .not-second (right-kept g a a-in h .keeps (w .below) (w .over) (w .first))) ],
   )
 
-  pub the-byte : (f : ForwardMarks sig first-table second-table) (g : BackwardMarks sig first-table second-table) (a : ℕ) → a < n → IsByte sig t u a (pick (sig .has-name a) (byteOf (f .mark (named a) (named a)) (g .mark (named a) (node (named a)))) 0)
+  pub the-byte : (f : ForwardMarks sig first-table second-table) (g : BackwardMarks sig first-table second-table) (a : ℕ) → a < n
+      → IsByte sig t u a (pick (sig .has-name a) (byteOf (f .mark (named a) (named a)) (g .mark (named a) (node (named a)))) 0)
   the-byte f g a a-in = elim (which (sig .has-name a)) [
     | inl chosen ↦ record {
       outside = λ z. absurd (not-both chosen z);
@@ -132,8 +136,10 @@ module _ {n : ℕ} {sig : Signature} {t u : List Axiom} (given : Comparable n si
   ]
 
 -- where all names are kept, so is every inclusion
-module _ (sig : Signature) {t u : List Axiom} (first-terms : Terminology t) (above : (a : ℕ) → sig .has-name a ≡ true → KeptAbove sig t u a) (below : (a : ℕ) → sig .has-name a ≡ true → KeptBelow sig t u a) where
-  some-kept : (r : ℕ) (d : Concept) → isOver sig (some r d) ≡ true → ((c : Concept) → isOver sig c ≡ true → Derives t c d → Derives u c d) → (c : Concept) → isOver sig c ≡ true → Derives t c (some r d) → Derives u c (some r d)
+module _ (sig : Signature) {t u : List Axiom} (first-terms : Terminology t) (above : (a : ℕ) → sig .has-name a ≡ true → KeptAbove sig t u a)
+    (below : (a : ℕ) → sig .has-name a ≡ true → KeptBelow sig t u a) where
+  some-kept : (r : ℕ) (d : Concept) → isOver sig (some r d) ≡ true → ((c : Concept) → isOver sig c ≡ true → Derives t c d → Derives u c d) → (c : Concept) → isOver sig c ≡ true
+      → Derives t c (some r d) → Derives u c (some r d)
   some-kept r d d-over keep top c-over p = absurd (top-below-some first-terms p)
   some-kept r d d-over keep (name b) c-over p = above b c-over .keeps (some r d) d-over p
   some-kept r d d-over keep (both c e) c-over p = elim (both-below-some first-terms .0 p) [

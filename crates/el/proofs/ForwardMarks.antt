@@ -39,10 +39,13 @@ ForwardMarks {n} sig {t} {u} first-table second-table = Marks (IsNode n) (IsNode
 link-decided : (m : Test Node Node) (x : Node) (r : ℕ) (b : Axiom) → Dec (Link m x r b)
 link-decided m x r b = decided (tells-link m x r b)
 
-pub tells-forward : {n : ℕ} (sig : Signature) → NamesBelow n sig → (t u : List Axiom) (in-t in-u f : Test Node Node) (x y : Node) → Tells (forward n sig t u in-t in-u f x y) (Forward sig t u in-t in-u f x y)
+pub tells-forward : {n : ℕ} (sig : Signature) → NamesBelow n sig → (t u : List Axiom) (in-t in-u f : Test Node Node) (x y : Node)
+    → Tells (forward n sig t u in-t in-u f x y) (Forward sig t u in-t in-u f x y)
 tells-forward {n} sig names-in t u in-t in-u f x y = tells-as there back (tells-or
     (tells-any _ (below n) (λ b h. tells-and (tells-true (sig .has-name b)) (λ _. tells-and (tells-true (in-t x (named b))) (λ _. tells-false (in-u y (named b))))))
-    (tells-any _ t (λ a h. tells-and (tells-link in-t x (roleOf a) a) (λ _. tells-and (tells-true (sig .has-role (roleOf a))) (λ _. tells-all _ u (λ b k. tells-if (tells-link in-u y (roleOf a) b) (tells-true (f (fillerOf a) (fillerOf b)))))))))
+    (tells-any _ t (λ a h. tells-and (tells-link in-t x (roleOf a) a)
+    (λ _. tells-and (tells-true (sig .has-role (roleOf a)))
+    (λ _. tells-all _ u (λ b k. tells-if (tells-link in-u y (roleOf a) b) (tells-true (f (fillerOf a) (fillerOf b)))))))))
   where
     Cases : Type 0
     Cases = Some (below n) (λ b. (sig .has-name b ≡ true) × ((in-t x (named b) ≡ true) × (in-u y (named b) ≡ false)))
@@ -63,7 +66,8 @@ record AboveNone (sig : Signature) (t u : List Axiom) (x : Node) (L : Axiom → 
   by-first : Derives t (conceptOf x) it
   none : (b : Axiom) → In bs b → L b → Derives u (conceptOf (fillerOf b)) it → ⊥
 
-above-none : (sig : Signature) (t u : List Axiom) (x : Node) (L : Axiom → Type 0) → ((b : Axiom) → Dec (L b)) → (bs : List Axiom) → ((b : Axiom) → In bs b → L b → LostAbove sig t u x (fillerOf b)) → AboveNone sig t u x L bs
+above-none : (sig : Signature) (t u : List Axiom) (x : Node) (L : Axiom → Type 0) → ((b : Axiom) → Dec (L b)) → (bs : List Axiom)
+    → ((b : Axiom) → In bs b → L b → LostAbove sig t u x (fillerOf b)) → AboveNone sig t u x L bs
 above-none sig t u x L d [] f = record { it = top; over = refl; by-first = to-top; none = λ b h. elim h [ ] }
 above-none sig t u x L d (b ∷ bs) f = with-head (d b) (above-none sig t u x L d bs (λ c h. f c (later h)))
   where
@@ -91,7 +95,8 @@ module _ {n : ℕ} {sig : Signature} {t u : List Axiom} (given : Comparable n si
     not-second = λ p. not-both (second-table .complete y-in (name-node (given .names-in b over)) p) not-above-y;
   }
   forward-sound f good x y x-in y-in (by-role {a = a} {r = r} a-in link over all-marked) =
-      let c = above-none sig t u (fillerOf a) (Link in-u y r) (link-decided in-u y r) u (λ b b-in l. good (fillerOf a) (fillerOf b) (given .first-formed .filler-in a-in) (given .second-formed .filler-in b-in) (all-marked .at b b-in l)) in
+      let c = above-none sig t u (fillerOf a) (Link in-u y r) (link-decided in-u y r) u
+      (λ b b-in l. good (fillerOf a) (fillerOf b) (given .first-formed .filler-in a-in) (given .second-formed .filler-in b-in) (all-marked .at b b-in l)) in
       record {
         it = some r (c .it);
         over = and-both over (c .over);
@@ -100,7 +105,8 @@ module _ {n : ℕ} {sig : Signature} {t u : List Axiom} (given : Comparable n si
       }
 
   abbrev pub some-forward-marks : ForwardMarks sig first-table second-table
-  some-forward-marks = saturated (node-axis n) (node-axis n) (LostAbove sig t u) (Forward sig t u in-t in-u) (forward n sig t u in-t in-u) (tells-forward sig (given .names-in) t u in-t in-u) forward-sound
+  some-forward-marks = saturated (node-axis n) (node-axis n) (LostAbove sig t u) (Forward sig t u in-t in-u) (forward n sig t u in-t in-u)
+      (tells-forward sig (given .names-in) t u in-t in-u) forward-sound
 
   -- for any closed marks
   module _ (f : Test Node Node) (closed : Closed (IsNode n) (IsNode n) (Forward sig t u in-t in-u) f) where
@@ -119,11 +125,14 @@ module _ {n : ℕ} {sig : Signature} {t u : List Axiom} (given : Comparable n si
           | inl h ↦ second-table .sound y-in b-in h
           | inr h ↦ absurd (not-both (closed x y x-in y-in (by-name over (first-table .complete x-in b-in p) h)) free)
         ]
-    above-kept (both c d) over x y x-in y-in free p = meet (above-kept c (and-left (isOver sig c) _ over) x y x-in y-in free (p ▹ one)) (above-kept d (and-right (isOver sig c) _ over) x y x-in y-in free (p ▹ other))
+    above-kept (both c d) over x y x-in y-in free p = meet (above-kept c (and-left (isOver sig c) _ over) x y x-in y-in free (p ▹ one))
+        (above-kept d (and-right (isOver sig c) _ over) x y x-in y-in free (p ▹ other))
     above-kept (some r d) over x y x-in y-in free p =
         let s = links (given .first-formed) first-table x-in p in
         let a = s .it in
         elim (either (free-or-marked y r a) u) [
-          | inl w ↦ linked (given .second-formed) second-table y-in (w .member) (w .holds .0) (above-kept d (and-right (sig .has-role r) _ over) (fillerOf a) (fillerOf (w .it)) (given .first-formed .filler-in (s .member)) (given .second-formed .filler-in (w .member)) (w .holds .1) (s .holds .1))
+          | inl w ↦ linked (given .second-formed) second-table y-in (w .member) (w .holds .0)
+              (above-kept d (and-right (sig .has-role r) _ over) (fillerOf a) (fillerOf (w .it)) (given .first-formed .filler-in (s .member))
+              (given .second-formed .filler-in (w .member)) (w .holds .1) (s .holds .1))
           | inr all-marked ↦ absurd (not-both (closed x y x-in y-in (by-role (s .member) (s .holds .0) (and-left (sig .has-role r) _ over) (record { at = all-marked }))) free)
         ]

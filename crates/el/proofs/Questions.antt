@@ -35,12 +35,15 @@ module _ {n : ℕ} {al : List Axiom} (formed : Formed n al) (terms : Terminology
   tells-node-below top d-in x x-in = always to-top
   tells-node-below (name b) d-in x x-in = tells-nodes x-in (name-node d-in)
   tells-node-below (both d e) d-in x x-in = tells-iff both-above (tells-and (tells-node-below d (d-in .0) x x-in) (λ _. tells-node-below e (d-in .1) x x-in))
-  tells-node-below (some r d) d-in x x-in = tells-as (λ s. linked formed table x-in (s .member) (s .holds .0) (s .holds .1)) (λ p. links formed table x-in p) (tells-any _ al (λ b b-in. tells-and (tells-link (table .says) x r b) (λ _. tells-node-below d d-in (fillerOf b) (formed .filler-in b-in))))
+  tells-node-below (some r d) d-in x x-in = tells-as (λ s. linked formed table x-in (s .member) (s .holds .0) (s .holds .1)) (λ p. links formed table x-in p)
+      (tells-any _ al (λ b b-in. tells-and (tells-link (table .says) x r b) (λ _. tells-node-below d d-in (fillerOf b) (formed .filler-in b-in))))
 
   -- from plain nodes to all
-  tells-by-plain : {c : Concept} (p : Node → Bool) → ((y : Node) → IsNode n y → Plain al y → Tells (p y) (Derives al c (conceptOf y))) → (y : Node) → IsNode n y → Tells (byPlain al p y) (Derives al c (conceptOf y))
+  tells-by-plain : {c : Concept} (p : Node → Bool) → ((y : Node) → IsNode n y → Plain al y → Tells (p y) (Derives al c (conceptOf y))) → (y : Node) → IsNode n y
+      → Tells (byPlain al p y) (Derives al c (conceptOf y))
   tells-by-plain {c} p tells y y-in = tells-as there back (tells-or (tells-node y everything) (tells-or
-      (tells-any {P = Split} _ al (λ a a-in. tells-and (tells-node (named (a .left)) y) (λ _. tells-and (tells-joins a) (λ _. tells-all _ (partsOf a) (λ z z-in. tells (named z) (part-node formed a-in z-in) (part-plain terms a-in z-in))))))
+      (tells-any {P = Split} _ al (λ a a-in. tells-and (tells-node (named (a .left)) y)
+      (λ _. tells-and (tells-joins a) (λ _. tells-all _ (partsOf a) (λ z z-in. tells (named z) (part-node formed a-in z-in) (part-plain terms a-in z-in))))))
       (tells-and (tells-plain al y) (λ plain. tells y y-in plain))))
     where
       Split : Axiom → Type 0
@@ -62,9 +65,12 @@ module _ {n : ℕ} {al : List Axiom} (formed : Formed n al) (terms : Terminology
   tells-below-plain top c-in y y-in plain = never (top-below-plain terms plain)
   tells-below-plain (name b) c-in y y-in plain = tells-nodes (name-node c-in) y-in
   tells-below-plain (both c d) c-in y y-in plain = tells-iff (both-below-plain terms plain) (tells-or (tells-below-plain c (c-in .0) y y-in plain) (tells-below-plain d (c-in .1) y y-in plain))
-  tells-below-plain (some r c) c-in y y-in plain = tells-iff (some-below-plain terms plain) (tells-any _ al (λ a a-in. tells-and (tells-node (named (a .left)) y) (λ _. tells-and (tells-fills r a) (λ _. tells-by-plain (belowPlain al (table .says) c) (tells-below-plain c c-in) (fillerOf a) (formed .filler-in a-in)))))
+  tells-below-plain (some r c) c-in y y-in plain = tells-iff (some-below-plain terms plain)
+      (tells-any _ al (λ a a-in. tells-and (tells-node (named (a .left)) y)
+      (λ _. tells-and (tells-fills r a) (λ _. tells-by-plain (belowPlain al (table .says) c) (tells-below-plain c c-in) (fillerOf a) (formed .filler-in a-in)))))
 
-  tells-below-some : (r : ℕ) (d : Concept) → Scoped n d → (p : Concept → Bool) → ((c : Concept) → Scoped n c → Tells (p c) (Derives al c d)) → (c : Concept) → Scoped n c → Tells (belowSome al (table .says) r d p c) (Derives al c (some r d))
+  tells-below-some : (r : ℕ) (d : Concept) → Scoped n d → (p : Concept → Bool) → ((c : Concept) → Scoped n c → Tells (p c) (Derives al c d)) → (c : Concept) → Scoped n c
+      → Tells (belowSome al (table .says) r d p c) (Derives al c (some r d))
   tells-below-some r d d-in p tells top c-in = never (top-below-some terms)
   tells-below-some r d d-in p tells (name b) c-in = tells-node-below (some r d) d-in (named b) (name-node c-in)
   tells-below-some r d d-in p tells (both c e) c-in = tells-iff (both-below-some terms) (tells-or (tells-below-some r d d-in p tells c (c-in .0)) (tells-below-some r d d-in p tells e (c-in .1)))

@@ -17,7 +17,8 @@ use Rattle.el.specs.Terminologies.{Joins, Terminology}
 use Rattle.el.proofs.Tests.{which, not-both}
 use Rattle.el.proofs.Derivations.{_▹_, Serves, Fills, Restricts, right-conjunction, right-restriction, fills-by, to-part, to-filler, from-filler, has-part}
 use Rattle.el.proofs.Soundness.{sound}
-use Rattle.el.proofs.CanonicalModel.{Within, itself, in-one, in-other, within-derives, within-one, within-other, within-some, Edge, written, implied, edge-derives, canonical, names-hold, hold-names, within-holds, derives-holds, inversion}
+use Rattle.el.proofs.CanonicalModel.{Within, itself, in-one, in-other, within-derives, within-one, within-other, within-some, Edge, written, implied, edge-derives, canonical}
+use Rattle.el.proofs.CanonicalModel.{names-hold, hold-names, within-holds, derives-holds, inversion}
 
 -- no axiom defines x by a conjunction
 pub record NotJoined (al : List Axiom) (x : ℕ) : Type 0 where
@@ -120,7 +121,8 @@ module _ (al : List Axiom) (c : Concept) where
     filled-up : {a : Axiom} → In al a → Fills (roleOf a) a → (y : Spot) → spotEdge al c (roleOf a) star y → sat (starred al c) y (conceptOf (fillerOf a)) → OneBelow al c (a .left)
     filled-up a-in fills star g s = absurd g
     filled-up a-in fills (point f) (own w) s = some-below a-in fills refl w (point-derives f _ s)
-    filled-up a-in fills (point f) (put b-in restricts l) s = on-to-filled b-in restricts a-in fills (point-derives f _ s) (one-of-not-joined l (restricted-plain terms b-in (restricts .is-restriction)))
+    filled-up a-in fills (point f) (put b-in restricts l) s = on-to-filled b-in restricts a-in fills (point-derives f _ s)
+        (one-of-not-joined l (restricted-plain terms b-in (restricts .is-restriction)))
 
     star-up : {a : Axiom} → In al a → a .defined ≡ true → sat (starred al c) star (rightOf a) → PartsBelow al c (a .left)
     star-up {a} a-in d s = elim (which (isConjunction a)) [

@@ -21,7 +21,8 @@ use lib.Seq.{getD-set-same, getD-set-other}
 use lib.Bits.{bitOr}
 use Rattle.el.proofs.Tests.{Tells, always, never}
 use Rattle.marks.specs.declared.Square.{Square}
-use Rattle.marks.specs.Squares.{bit, width, span, place, behind, Area, Lent, Small, mostNames, mostCells, farthest, Place, Room, Marked, Unmarked, Apart, Behind, Touches, Frame, Extends, Put, Hints, Kept, NextMarked, NextUnmarked}
+use Rattle.marks.specs.Squares.{bit, width, span, place, behind, Area, Lent, Small, mostNames, mostCells, farthest, Place, Room, Marked, Unmarked, Apart, Behind, Touches}
+use Rattle.marks.specs.Squares.{Frame, Extends, Put, Hints, Kept, NextMarked, NextUnmarked}
 use Rattle.marks.specs.Memory.{size, Zeroed}
 use Rattle.marks.proofs.Bits.{bit-same, bit-other, high-bits, bit-of-zero, orAt, or-stays, or-has, or-only, or-fewer, or-less}
 
@@ -164,7 +165,8 @@ module _ (q : Square) where
       by-row r = add-left (place q a 0) (y / 8) i (ap (λ (z : ℕ). place q z 0 + y / 8) (sym r) ∙ place-column x y ∙ e)
 
   -- a byte of row `to` with more bits: those of m
-  pub or-row : (w : List ℕ) (to i target m : ℕ) → Room q w → to ≤ n → i ≤ n / 8 → target ≡ place q to 0 → Extends q w (orAt w (target + i) m) × ((x y : ℕ) → x ≤ n → y ≤ n → Marked q (orAt w (target + i) m) x y → Marked q w x y ⊎ ((x ≡ to) × (y / 8 ≡ i) × (bit m (y % 8) ≡ 1)))
+  pub or-row : (w : List ℕ) (to i target m : ℕ) → Room q w → to ≤ n → i ≤ n / 8 → target ≡ place q to 0
+      → Extends q w (orAt w (target + i) m) × ((x y : ℕ) → x ≤ n → y ≤ n → Marked q (orAt w (target + i) m) x y → Marked q w x y ⊎ ((x ≡ to) × (y / 8 ≡ i) × (bit m (y % 8) ≡ 1)))
   or-row w to i target m room t l g = (or-extends w (target + i) m lower upper inside, new)
     where
       lower : q .base ≤ target + i
@@ -183,7 +185,9 @@ module _ (q : Square) where
       ]
 
   -- a byte of row `from` handed on to row `to`
-  pub hand-byte : (w : List ℕ) (from to i source target : ℕ) → Room q w → from ≤ n → to ≤ n → i ≤ n / 8 → source ≡ place q from 0 → target ≡ place q to 0 → Extends q w (orAt w (target + i) (getD w (source + i) 0)) × ((x y : ℕ) → x ≤ n → y ≤ n → Marked q (orAt w (target + i) (getD w (source + i) 0)) x y → Marked q w x y ⊎ ((x ≡ to) × Marked q w from y))
+  pub hand-byte : (w : List ℕ) (from to i source target : ℕ) → Room q w → from ≤ n → to ≤ n → i ≤ n / 8 → source ≡ place q from 0 → target ≡ place q to 0
+      → Extends q w (orAt w (target + i) (getD w (source + i) 0))
+      × ((x y : ℕ) → x ≤ n → y ≤ n → Marked q (orAt w (target + i) (getD w (source + i) 0)) x y → Marked q w x y ⊎ ((x ≡ to) × Marked q w from y))
   hand-byte w from to i source target room f t l s g =
       let b = or-row w to i target (getD w (source + i) 0) room t l g in
       (b .0, λ x y h k m. elim (b .1 x y h k m) [ inl z ↦ inl z | inr z ↦ inr (z .0, record { is = rw (← source-place y (z .1)) (z .2) }) ])
@@ -215,7 +219,10 @@ lent-behind {q} k l h lent = record { same = refl; after = omega (arith, mul-le-
 
 pub lent-room : {q : Square} {w : List ℕ} (k : ℕ) → k ≤ 4 → Lent q w → Room (behind q k) w
 unfolding behind
-lent-room {q} k h lent = record { small = record { few = lent .area .room .small .few; near = omega (arith, mul-le-mul-right (span (q .names)) h, lent .roomy, lent .area .near) }; fits = omega (arith, mul-le-mul-right (span (q .names)) h, lent .roomy, lent .area .lent) }
+lent-room {q} k h lent = record {
+  small = record { few = lent .area .room .small .few; near = omega (arith, mul-le-mul-right (span (q .names)) h, lent .roomy, lent .area .near) };
+  fits = omega (arith, mul-le-mul-right (span (q .names)) h, lent .roomy, lent .area .lent);
+}
 
 span-small : (n : ℕ) → n ≤ mostNames → span n ≤ mostCells
 unfolding size
@@ -344,7 +351,11 @@ module _ {q p : Square} {w v : List ℕ} (behind : Behind q p) (hints : Hints p 
 
   pub hints-extend : Extends q w v
   hints-extend = record {
-    frame = record { long = hints .touches .long; before = λ i h. hints .touches .before i (omega (arith, behind .after)); past = λ i h. hints .touches .past i (omega (arith, behind .inside, hint-span)) };
+    frame = record {
+      long = hints .touches .long;
+      before = λ i h. hints .touches .before i (omega (arith, behind .after));
+      past = λ i h. hints .touches .past i (omega (arith, behind .inside, hint-span));
+    };
     stays = λ x y m. record { is = hints .stays _ _ (m .is) };
     fewer = hints .fewer;
   }
@@ -360,7 +371,11 @@ kept-same = record { extends = extends-same; marks = λ x y h l m. m }
 
 pub kept-further : {q : Square} {u w v : List ℕ} → Kept q u w → Kept q w v → Kept q u v
 kept-further f g = record {
-  extends = record { frame = frame-further (f .extends .frame) (g .extends .frame); stays = λ x y m. g .extends .stays x y (f .extends .stays x y m); fewer = omega (arith, f .extends .fewer, g .extends .fewer) };
+  extends = record {
+    frame = frame-further (f .extends .frame) (g .extends .frame);
+    stays = λ x y m. g .extends .stays x y (f .extends .stays x y m);
+    fewer = omega (arith, f .extends .fewer, g .extends .fewer);
+  };
   marks = λ x y h l m. f .marks x y h l (g .marks x y h l m);
 }
 
@@ -384,7 +399,8 @@ pub rows-none : {q : Square} {w : List ℕ} → RowsZero q w w 0
 rows-none = record { touches = touches-same; zero = λ j h l. absurd (omega arith) }
 
 pub rows-more : {q : Square} {w v : List ℕ} {i : ℕ} → Room q w → i < span (q .names) → RowsZero q w v i → RowsZero q w (set v (q .base + i) 0) (i + 1)
-rows-more {q} {w} {v} {i} room l z = record { touches = touches-further (z .touches) (set-touches v (q .base + i) 0 (omega arith) (omega arith)); zero = λ j h k. by-place j h k (ℕ-discrete j (q .base + i)) }
+rows-more {q} {w} {v} {i} room l z = record
+    { touches = touches-further (z .touches) (set-touches v (q .base + i) 0 (omega arith) (omega arith)); zero = λ j h k. by-place j h k (ℕ-discrete j (q .base + i)) }
   where
     by-place : (j : ℕ) → q .base ≤ j → j < q .base + (i + 1) → Dec (j ≡ q .base + i) → getD (set v (q .base + i) 0) j 0 ≡ 0
     by-place j h k (yes e) = rw e (getD-set-same v (q .base + i) 0 0 (omega (arith, room .fits, z .touches .long)))
@@ -395,7 +411,11 @@ pub zeroed-none : {w : List ℕ} → Zeroed 0 w w
 zeroed-none = record { long = refl; zero = λ i h. absurd (omega arith); past = λ i h. refl }
 
 pub zeroed-more : {k : ℕ} {w v : List ℕ} → k < length v → Zeroed k w v → Zeroed (k + 1) w (set v k 0)
-zeroed-more {k} {w} {v} l z = record { long = length-set v k 0 ∙ z .long; zero = λ i h. by-place i h (ℕ-discrete i k); past = λ i h. getD-set-other v k i 0 0 (λ e. omega arith) ∙ z .past i (omega arith) }
+zeroed-more {k} {w} {v} l z = record {
+  long = length-set v k 0 ∙ z .long;
+  zero = λ i h. by-place i h (ℕ-discrete i k);
+  past = λ i h. getD-set-other v k i 0 0 (λ e. omega arith) ∙ z .past i (omega arith);
+}
   where
     by-place : (i : ℕ) → i < k + 1 → Dec (i ≡ k) → getD (set v k 0) i 0 ≡ 0
     by-place i h (yes e) = rw e (getD-set-same v k 0 0 l)

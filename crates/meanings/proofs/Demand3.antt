@@ -25,7 +25,21 @@ turned given = record { first = given .second; second = given .first; names = sy
 
 pub not-refused : {s t g : List ℕ} (o w : ℕ) → Accepted s t g → Enough s o w → comparison s t g o w ≡ Is.Accepted (record { names = namesOf s; roles = rolesOf s })
 unfolding checked agreed sameCounts lent judged
-not-refused {s} {t} o w given enough = simp (checked, given .first, given .second, agreed, sameCounts, lent, judged, eq-eqb _ _ (given .names), eq-eqb _ _ (given .roles), eq-eqb _ _ (given .signature), le-leb _ _ (enough .result), le-leb _ _ (enough .work))
+not-refused {s} {t} o w given enough = simp (
+  checked,
+  given .first,
+  given .second,
+  agreed,
+  sameCounts,
+  lent,
+  judged,
+  eq-eqb _ _ (given .names),
+  eq-eqb _ _ (given .roles),
+  eq-eqb _ _ (given .signature),
+  le-leb _ _
+      (enough .result),
+  le-leb _ _ (enough .work),
+)
 
 pub result-of : {s t g o w : List ℕ} → Accepted s t g → Enough s (length o) (length w) → (c : Compares s t g o w) → Result s t g o (c .result) w (c .memory)
 result-of {o = o} {w = w} given enough c = c .says .accepted (c .says .answer ∙ not-refused (length o) (length w) given enough)
@@ -36,7 +50,8 @@ none-reported {sig = sig} {t = t} {u = u} {bs = bs} are = (
   λ zero a l. subst (λ (b : ℕ). IsByte sig t u a b) (zero a l) (are .each a l),
 )
 
-pub demand3 : (s t g : List ℕ) {o w o′ w′ : List ℕ} → Accepted s t g → Enough s (length o) (length w) → Enough s (length o′) (length w′) → (forth : Compares s t g o w) (back : Compares t s g o′ w′) → Demand3 s t g forth back
+pub demand3 : (s t g : List ℕ) {o w o′ w′ : List ℕ} → Accepted s t g → Enough s (length o) (length w) → Enough s (length o′) (length w′)
+    → (forth : Compares s t g o w) (back : Compares t s g o′ w′) → Demand3 s t g forth back
 demand3 s t g {o} {w} {o′} {w′} given enough enough′ forth back =
     let enough-back : Enough t (length o′) (length w′) = record { result = rw (given .names) at (enough′ .result); work = rw (given .names) at (enough′ .work) } in
     let forth-are = result-of given enough forth .bytes in

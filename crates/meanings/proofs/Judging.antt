@@ -39,7 +39,8 @@ pub same-counts : (a b : Counts) (c : Compared) → sameCounts a b ≡ Accepted 
 unfolding sameCounts
 same-counts a b c h = by-test (eqb (a .names) (b .names) && eqb (a .roles) (b .roles)) refl h
   where
-    by-test : (p : Bool) → (eqb (a .names) (b .names) && eqb (a .roles) (b .roles)) ≡ p → pick p (Accepted (record { names = a .names; roles = a .roles })) (refused 16 0) ≡ Accepted c → SameCounts a b c
+    by-test : (p : Bool) → (eqb (a .names) (b .names) && eqb (a .roles) (b .roles)) ≡ p
+        → pick p (Accepted (record { names = a .names; roles = a .roles })) (refused 16 0) ≡ Accepted c → SameCounts a b c
     by-test false e z = not-refused z
     by-test true e z =
         let y : record { names = a .names; roles = a .roles } ≡ c = cc in

@@ -40,7 +40,8 @@ lent-enough : (g : List ℕ) (o w : ℕ) (d c : Compared) → lent g o w d ≡ A
 unfolding lent
 lent-enough g o w d c h = by-tests (eqb (signatureFault (d .names) (d .roles) g) 0) (leb (d .names) o) (leb (workLength (d .names)) w) refl refl refl h
   where
-    by-tests : (q u v : Bool) → eqb (signatureFault (d .names) (d .roles) g) 0 ≡ q → leb (d .names) o ≡ u → leb (workLength (d .names)) w ≡ v → pick q (pick u (pick v (Accepted d) (refused 32 0)) (refused 31 0)) (refused (signatureFault (d .names) (d .roles) g) 0) ≡ Accepted c → (d ≡ c) × LentEnough g o w d
+    by-tests : (q u v : Bool) → eqb (signatureFault (d .names) (d .roles) g) 0 ≡ q → leb (d .names) o ≡ u → leb (workLength (d .names)) w ≡ v
+        → pick q (pick u (pick v (Accepted d) (refused 32 0)) (refused 31 0)) (refused (signatureFault (d .names) (d .roles) g) 0) ≡ Accepted c → (d ≡ c) × LentEnough g o w d
     by-tests false u v f i j z = not-refused z
     by-tests true false v f i j z = not-refused z
     by-tests true true false f i j z = not-refused z
@@ -79,7 +80,14 @@ agree s t c h = by-faults (fault s) (fault t) refl refl h
     by-faults zero (suc y) e f z = not-refused z
     by-faults zero zero e f z =
         let v = same-counts _ _ c z in
-        record { first = e; second = f; first-names = sym (v .counts-names); second-names = sym (v .counts-names) ∙ v .names; first-roles = sym (v .counts-roles); second-roles = sym (v .counts-roles) ∙ v .roles }
+        record {
+          first = e;
+          second = f;
+          first-names = sym (v .counts-names);
+          second-names = sym (v .counts-names) ∙ v .names;
+          first-roles = sym (v .counts-roles);
+          second-roles = sym (v .counts-roles) ∙ v .roles;
+        }
 
 -- they have few names and roles
 pub few-counts : {s t : List ℕ} {c : Compared} → Agree s t c → (c .names ≤ mostNames) × (c .roles ≤ mostRoles)
@@ -108,7 +116,16 @@ module _ {s t a b : List ℕ} {x y : Checked} (first : ReleaseRead s a x) (secon
     unfolding size
     given =
         let k = known .0 in
-        record { both = record { first = release-read first (k .first); second = release-read second (k .second); first-names = k .first-names; second-names = k .second-names; room = known .1 .work }; signature = known .1 .signature }
+        record {
+          both = record {
+            first = release-read first (k .first);
+            second = release-read second (k .second);
+            first-names = k .first-names;
+            second-names = k .second-names;
+            room = known .1 .work;
+          };
+          signature = known .1 .signature;
+        }
 
     pub room : c .names ≤ length o
     room = known .1 .result

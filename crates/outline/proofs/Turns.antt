@@ -89,7 +89,9 @@ module _ {w n m : ℕ} {c : Concept} {s : List ℕ} {at roots count : ℕ} {owne
     has-role (state (onto e st) text (one (is-some filler) within rest) below reads written) p = next s (at + 1) (next s at text .then) .inside
 
     -- ∃: the filler is pending, a new root
-    pub turn-some : {pending : ℕ} → State w n m c s at pending roots count owners atoms → 0 < pending → 1 ≤ roots → pending ≤ length owners → 3 * count + 3 ≤ length atoms → State w n m c s (at + 2) pending (roots + 1) (count + 1) (set owners (pending - 1) roots) (putAtom atoms count (number 1 (drop (at + 1) s)) (getD owners (pending - 1) 0) roots)
+    pub turn-some : {pending : ℕ} → State w n m c s at pending roots count owners atoms → 0 < pending → 1 ≤ roots → pending ≤ length owners → 3 * count + 3 ≤ length atoms
+        → State w n m c s (at + 2) pending (roots + 1) (count + 1) (set owners (pending - 1) roots)
+        (putAtom atoms count (number 1 (drop (at + 1) s)) (getD owners (pending - 1) 0) roots)
     turn-some (state bottom text await below reads written) p g h l = absurd (omega arith)
     turn-some (state (onto e st) text (one is-top within rest) below reads written) p g h l = absurd (not0 (next s at text .byte))
     turn-some (state (onto e st) text (one (is-name long is after) within rest) below reads written) p g h l = absurd (not1 (next s at text .byte))
@@ -122,7 +124,8 @@ module _ {w n m : ℕ} {c : Concept} {s : List ℕ} {at roots count : ℕ} {owne
   turn-top (state (onto e st) text (one (is-both first second) within rest) below reads written) p k = absurd (omega (arith, next s at text .byte))
   turn-top (state (onto e st) text (one (is-some filler) within rest) below reads written) p k = absurd (omega (arith, next s at text .byte))
 
-  pub turn-name : {pending : ℕ} → State w n m c s at pending roots count owners atoms → 0 < pending → 1 ≤ roots → getD s at 0 ≡ 1 → 3 * count + 3 ≤ length atoms → State w n m c s (at + (1 + w)) (pending - 1) roots (count + 1) owners (putAtom atoms count (number w (drop (at + 1) s)) (getD owners (pending - 1) 0) 0)
+  pub turn-name : {pending : ℕ} → State w n m c s at pending roots count owners atoms → 0 < pending → 1 ≤ roots → getD s at 0 ≡ 1 → 3 * count + 3 ≤ length atoms
+      → State w n m c s (at + (1 + w)) (pending - 1) roots (count + 1) owners (putAtom atoms count (number w (drop (at + 1) s)) (getD owners (pending - 1) 0) 0)
   turn-name (state bottom text await below reads written) p g k l = absurd (omega arith)
   turn-name (state (onto e st) text (one is-top within rest) below reads written) p g k l = absurd (omega (arith, next s at text .byte))
   turn-name (state (onto {i = i} e st) text (one {o = o} {t = t} (is-name {x = x} long is after) within rest) below reads written) p g k l =
@@ -142,7 +145,8 @@ module _ {w n m : ℕ} {c : Concept} {s : List ℕ} {at roots count : ℕ} {owne
   turn-name (state (onto e st) text (one (is-some filler) within rest) below reads written) p g k l = absurd (omega (arith, next s at text .byte))
 
   -- ⊓: two concepts of one owner
-  pub turn-both : {pending : ℕ} → State w n m c s at pending roots count owners atoms → 0 < pending → getD s at 0 ≡ 2 → pending < length owners → State w n m c s (at + 1) (pending + 1) roots count (set owners pending (getD owners (pending - 1) 0)) atoms
+  pub turn-both : {pending : ℕ} → State w n m c s at pending roots count owners atoms → 0 < pending → getD s at 0 ≡ 2 → pending < length owners
+      → State w n m c s (at + 1) (pending + 1) roots count (set owners pending (getD owners (pending - 1) 0)) atoms
   turn-both (state bottom text await below reads written) p k l = absurd (omega arith)
   turn-both (state (onto e st) text (one is-top within rest) below reads written) p k l = absurd (omega (arith, next s at text .byte))
   turn-both (state (onto e st) text (one (is-name long is after) within rest) below reads written) p k l = absurd (omega (arith, next s at text .byte))
@@ -159,7 +163,8 @@ module _ {w n m : ℕ} {c : Concept} {s : List ℕ} {at roots count : ℕ} {owne
   turn-both (state (onto e st) text (one (is-some filler) within rest) below reads written) p k l = absurd (omega (arith, next s at text .byte))
 
 -- the same for the text that outlining is asked for
-module _ {w : ℕ} {s : List ℕ} {at pending roots count : ℕ} {owners atoms stack room : List ℕ} (states : States w s at pending roots count owners atoms) (given : Outlinable w s stack room) (p : 0 < pending) where
+module _ {w : ℕ} {s : List ℕ} {at pending roots count : ℕ} {owners atoms stack room : List ℕ} (states : States w s at pending roots count owners atoms)
+    (given : Outlinable w s stack room) (p : 0 < pending) where
   pub byte-there : at < length s
   byte-there = has-byte (states .of _ _ _ (given .text)) p
 
@@ -172,9 +177,14 @@ module _ {w : ℕ} {s : List ℕ} {at pending roots count : ℕ} {owners atoms s
 -- the start, and the end
 pub starts : (w : ℕ) (s owners atoms : List ℕ) → 256 ≤ length owners → States w s 0 1 1 0 (set owners 0 0) atoms
 unfolding atomsFrom
-starts w s owners atoms h = record { of = λ n m c text. state (onto (getD-set-same owners 0 0 0 (omega arith)) bottom) refl (one (text .bytes) (text .within) nothing) (omega arith, tt) (λ rest q. q) written-none }
+starts w s owners atoms h = record {
+  of = λ n m c text. state (onto (getD-set-same owners 0 0 0 (omega arith)) bottom) refl (one (text .bytes) (text .within) nothing)
+      (omega arith, tt) (λ rest q. q) written-none;
+}
 
-pub ends : (w : ℕ) (s : List ℕ) (at pending roots count : ℕ) (owners atoms : List ℕ) → Numbers s at pending roots count owners atoms → States w s at pending roots count owners atoms → pending ≤ 0 → (n m : ℕ) (c : Concept) → IsTextOf w n m c s → (k : ℕ) → k ≡ roots → Outlined n c atoms (record { atoms = count; roots = k })
+pub ends : (w : ℕ) (s : List ℕ) (at pending roots count : ℕ) (owners atoms : List ℕ) → Numbers s at pending roots count owners atoms
+    → States w s at pending roots count owners atoms → pending ≤ 0 → (n m : ℕ) (c : Concept) → IsTextOf w n m c s → (k : ℕ) → k ≡ roots
+    → Outlined n c atoms (record { atoms = count; roots = k })
 ends w s at pending roots count owners atoms numbers all p n m c text k e = by-state (all .of n m c text) p
   where
     by-state : {i : ℕ} → State w n m c s at i roots count owners atoms → i ≤ 0 → Outlined n c atoms (record { atoms = count; roots = k })
@@ -187,21 +197,42 @@ ends w s at pending roots count owners atoms numbers all p n m c text k e = by-s
         }
 
 -- a turn that puts an atom, with the loop's numbers
-module _ (w : ℕ) (s : List ℕ) (at pending roots count : ℕ) (owners atoms after : List ℕ) (numbers : Numbers s at pending roots count owners atoms) (states : States w s at pending roots count owners atoms) (p : 0 < pending) where
+module _ (w : ℕ) (s : List ℕ) (at pending roots count : ℕ) (owners atoms after : List ℕ) (numbers : Numbers s at pending roots count owners atoms)
+    (states : States w s at pending roots count owners atoms) (p : 0 < pending) where
   pub name-turn : IsWidth w → at + 1 + w ≤ length s → getD s at 0 ≡ 1 → {x : ℕ} → x ≡ number w (drop (at + 1) s) → after ≡ putAtom atoms count x (getD owners (pending - 1) 0) 0
       → Numbers s (at + (1 + w)) (pending - 1) roots (count + 1) owners after × (length after ≡ length atoms) × States w s (at + (1 + w)) (pending - 1) roots (count + 1) owners after
   name-turn width more k is e =
       let long : length after ≡ length atoms = ap length e ∙ put-length atoms count _ _ _ in (
-        record { short = numbers .short; inside = omega arith; high = omega arith; few = omega (arith, width); some-root = numbers .some-root; roots-few = omega arith; stack = numbers .stack; room = omega arith },
+        record {
+          short = numbers .short;
+          inside = omega arith;
+          high = omega arith;
+          few = omega (arith, width);
+          some-root = numbers .some-root;
+          roots-few = omega arith;
+          stack = numbers .stack;
+          room = omega arith;
+        },
         long,
         record { of = λ n m c t. rw (e, is) (turn-name (states .of n m c t) p (numbers .some-root) k (omega arith)) },
       )
 
-  pub some-turn : at + 1 < length s → (getD s at 0 ≡ 0 → ⊥) → (getD s at 0 ≡ 1 → ⊥) → (getD s at 0 ≡ 2 → ⊥) → {x : ℕ} → x ≡ number 1 (drop (at + 1) s) → after ≡ putAtom atoms count x (getD owners (pending - 1) 0) roots
-      → Numbers s (at + 2) pending (roots + 1) (count + 1) (set owners (pending - 1) roots) after × (length after ≡ length atoms) × States w s (at + 2) pending (roots + 1) (count + 1) (set owners (pending - 1) roots) after
+  pub some-turn : at + 1 < length s → (getD s at 0 ≡ 0 → ⊥) → (getD s at 0 ≡ 1 → ⊥) → (getD s at 0 ≡ 2 → ⊥) → {x : ℕ} → x ≡ number 1 (drop (at + 1) s)
+      → after ≡ putAtom atoms count x (getD owners (pending - 1) 0) roots
+      → Numbers s (at + 2) pending (roots + 1) (count + 1) (set owners (pending - 1) roots) after × (length after ≡ length atoms) × States w s (at + 2) pending (roots + 1)
+      (count + 1) (set owners (pending - 1) roots) after
   some-turn more not0 not1 not2 is e =
       let long : length after ≡ length atoms = ap length e ∙ put-length atoms count _ _ _ in (
-        record { short = numbers .short; inside = omega arith; high = omega arith; few = omega arith; some-root = omega arith; roots-few = omega arith; stack = simp length-set (numbers .stack); room = omega arith },
+        record {
+          short = numbers .short;
+          inside = omega arith;
+          high = omega arith;
+          few = omega arith;
+          some-root = omega arith;
+          roots-few = omega arith;
+          stack = simp length-set (numbers .stack);
+          room = omega arith;
+        },
         long,
         record { of = λ n m c t. rw (e, is) (turn-some not0 not1 not2 (states .of n m c t) p (numbers .some-root) (omega arith) (omega arith)) },
       )

@@ -129,7 +129,8 @@ accepted {s} read is = accepted-by is (fault s) refl (read .answer)
 pub names-few : {s t : List ℕ} {q : Checked} {counts : Counts} → ReleaseRead s t q → q ≡ checks.Accepted counts → counts .names < mostNodes
 names-few {s} read is = let a = accepted read is in omega (arith, a .names, few-names s (a .ok))
 
-tested : {s : List ℕ} {counts : Counts} {width : ℕ} → IsAccepted s counts → width ≡ widthOf s → (b : List ℕ) {y v : Bool} → y ≡ conceptOk width (counts .names) (counts .roles) b → y ≡ v → textOk s b ≡ v
+tested : {s : List ℕ} {counts : Counts} {width : ℕ} → IsAccepted s counts → width ≡ widthOf s → (b : List ℕ) {y v : Bool} → y ≡ conceptOk width (counts .names) (counts .roles) b
+    → y ≡ v → textOk s b ≡ v
 tested a width-is b e z = rw (← width-is, ← a .names, ← a .roles, ← e) z
 
 module _ {s t : List ℕ} {q : Checked} {counts : Counts} (read : ReleaseRead s t q) (is-accepted : q ≡ checks.Accepted counts) (c d w : List ℕ) {width : ℕ} (width-is : width ≡ widthOf s) where
@@ -155,7 +156,15 @@ module _ {s t : List ℕ} {q : Checked} {counts : Counts} (read : ReleaseRead s 
 
         module _ (h : 4 * cells ≤ length w) where
           pub to-answer : ToAnswer s t width c d w (counts .names) cells
-          to-answer = record { release = record { accepted = a .ok; decoded = read .decoded (a .ok) }; width-is = width-is; names = a .names; below = tested a width-is c below z; above = tested a width-is d above e; cells-are = size-is; room = h }
+          to-answer = record {
+            release = record { accepted = a .ok; decoded = read .decoded (a .ok) };
+            width-is = width-is;
+            names = a .names;
+            below = tested a width-is c below z;
+            above = tested a width-is d above e;
+            cells-are = size-is;
+            room = h;
+          }
 
           none-refused : refusalNumber s c d w ≡ 0
           unfolding refusalNumber

@@ -62,7 +62,8 @@ module _ {al : List Axiom} (o : List ℕ) where
   own-atom j zero i h l = absurd (omega arith)
   own-atom j (suc left) i h l = by-place (ℕ-discrete j i) (λ h l. own-atom (suc j) left i h l)
     where
-      by-place : Dec (j ≡ i) → (suc j ≤ i → i < suc j + left → Derives al (rootOf (atomsFrom o (suc j) left) (ownerAt o i)) (atomOf o (suc j + left) i)) → Derives al (rootOf (atomsFrom o j (suc left)) (ownerAt o i)) (atomOf o (j + suc left) i)
+      by-place : Dec (j ≡ i) → (suc j ≤ i → i < suc j + left → Derives al (rootOf (atomsFrom o (suc j) left) (ownerAt o i)) (atomOf o (suc j + left) i))
+          → Derives al (rootOf (atomsFrom o j (suc left)) (ownerAt o i)) (atomOf o (j + suc left) i)
       by-place (yes e) f =
           let z : j + suc left - suc j ≡ left = omega arith in
           rw (← e, z, root-own o j left (ownerAt o j) refl) one
@@ -109,7 +110,8 @@ module _ {n : ℕ} {o : List ℕ} {r : Extent} (shape : Shape n o r) where
       rw (z, atom-whole i h) at (own-atom {al = al} o 0 (r .atoms) i (omega arith) (omega arith))
 
 -- the rows of root j of D, which is d
-module _ {s t : List ℕ} {q : Square} {w : List ℕ} (world : World s t q w) {o : List ℕ} {r : Extent} (shape : Shape (q .names) o r) {ln l : List ℕ} {j : ℕ} {d : Concept} (nodes : KeptRow (axiomsOf s) (nodePoint (q .names)) (suc (q .names)) ln j d) (roots : KeptRow (axiomsOf s) (rootPoint o r) (r .roots) l j d) where
+module _ {s t : List ℕ} {q : Square} {w : List ℕ} (world : World s t q w) {o : List ℕ} {r : Extent} (shape : Shape (q .names) o r) {ln l : List ℕ} {j : ℕ} {d : Concept}
+    (nodes : KeptRow (axiomsOf s) (nodePoint (q .names)) (suc (q .names)) ln j d) (roots : KeptRow (axiomsOf s) (rootPoint o r) (r .roots) l j d) where
   abbrev al : List Axiom
   al = axiomsOf s
 
@@ -147,7 +149,8 @@ module _ {s t : List ℕ} {q : Square} {w : List ℕ} (world : World s t q w) {o
       let inside : found .at < r .atoms = omega (arith, found .inside) in
       record { by = found .at; is-atom = inside; owner = found .owner; reaches = atom-reaches-complete (found .at) role inside (rw (z, atom-whole shape (found .at) inside) at (found .below)) }
 
-  module _ {a p : List ℕ} {i : ℕ} (above : Above s t a (q .names) (atomsFrom o 0 (r .atoms))) (is-child : j ≡ childAt p i) (named-in : childAt p i ≡ 0 → valueAt p i < q .names) (k : ℕ) (few : k < mostRoots) where
+  module _ {a p : List ℕ} {i : ℕ} (above : Above s t a (q .names) (atomsFrom o 0 (r .atoms))) (is-child : j ≡ childAt p i) (named-in : childAt p i ≡ 0 → valueAt p i < q .names)
+      (k : ℕ) (few : k < mostRoots) where
     pub root-under-sound : RootBelowAtom s t q w o (r .atoms) a p ln l i k → Derives (axiomsOf s) (rootPoint o r k) (atomConcept (childAt p i) (valueAt p i) d)
     root-under-sound (root-below-name c m) =
         let small = named-in c in

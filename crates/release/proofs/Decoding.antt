@@ -29,8 +29,10 @@ unfolding entryAt entryOf
 row-holds n s t q h = by-kind (joins (getD s (q + widthOf s) 0)) refl
   where
     by-kind : (b : Bool) → joins (getD s (q + widthOf s) 0) ≡ b → Holds n s t q
-    by-kind true e = let r : Row t (entryAt n s q) = h in record { kind = rw (e, entryOf) at (r .kind); tail = rw (e, entryOf) at (r .tail); role = λ z. absurd (true≢false (sym e ∙ z)); filler = λ z. absurd (true≢false (sym e ∙ z)) }
-    by-kind false e = let r : Row t (entryAt n s q) = h in record { kind = rw (e, entryOf) at (r .kind); tail = rw (e, entryOf) at (r .tail); role = λ z. rw (e, entryOf) at (r .role); filler = λ z. rw (e, entryOf) at (r .filler) }
+    by-kind true e = let r : Row t (entryAt n s q) = h in record
+        { kind = rw (e, entryOf) at (r .kind); tail = rw (e, entryOf) at (r .tail); role = λ z. absurd (true≢false (sym e ∙ z)); filler = λ z. absurd (true≢false (sym e ∙ z)) }
+    by-kind false e = let r : Row t (entryAt n s q) = h in record
+        { kind = rw (e, entryOf) at (r .kind); tail = rw (e, entryOf) at (r .tail); role = λ z. rw (e, entryOf) at (r .role); filler = λ z. rw (e, entryOf) at (r .filler) }
 
 pub both-none : (j k : ℕ) → firstOf j k ≡ 0 → (j ≡ 0) × (k ≡ 0)
 both-none zero k h = (refl, h)
@@ -39,8 +41,10 @@ both-none (suc j) k h = absurd (omega arith)
 -- each of the axioms read without fault is sound
 pub stands-sound : (n m : ℕ) (c least : ℕ) (s : List ℕ) (p q : ℕ) → axiomsFault (widthOf s) n m c least s p ≡ 0 → Stands c s p q → Sound (widthOf s) n m 0 s q × (least ≤ number (widthOf s) s q)
 unfolding axiomsFault
-stands-sound n m (suc c) least s p q h here = let f = both-none _ _ h .0 in let v = axiom-sound (widthOf s) n m least s p f in (record { left = v .left; rises = omega arith; tail = v .tail }, v .rises)
-stands-sound n m (suc c) least s p q h (there i) = let z = both-none _ _ h in let r = stands-sound n m c (suc (number (widthOf s) s p)) s (p + axiomLength (widthOf s) s p) q (z .1) i in (r .0, omega (arith, r .1, axiom-sound (widthOf s) n m least s p (z .0) .rises))
+stands-sound n m (suc c) least s p q h here = let f = both-none _ _ h .0 in let v = axiom-sound (widthOf s) n m least s p f in
+    (record { left = v .left; rises = omega arith; tail = v .tail }, v .rises)
+stands-sound n m (suc c) least s p q h (there i) = let z = both-none _ _ h in let r = stands-sound n m c (suc (number (widthOf s) s p)) s (p + axiomLength (widthOf s) s p) q
+    (z .1) i in (r .0, omega (arith, r .1, axiom-sound (widthOf s) n m least s p (z .0) .rises))
 
 -- the conjuncts of the axiom at q, in the table and in the file
 module _ {n c : ℕ} {s t : List ℕ} (d : Decoded n c s t) where
@@ -74,10 +78,12 @@ module _ (m : ℕ) {n c : ℕ} {s t : List ℕ} (d : Decoded n c s t) (none : ax
       by-tail (joined j k) = k
       by-tail (restricted j r k) = absurd (true≢false (sym (rw (holds d i .kind) at e) ∙ j))
 
-  shaped-inside : {q : ℕ} → Stands c s (firstPlace s) q → joins (kindAt t (number (widthOf s) s q)) ≡ true → tailAt t (number (widthOf s) s q) + 1 + widthOf s * countAt s t (number (widthOf s) s q) ≤ length s
+  shaped-inside : {q : ℕ} → Stands c s (firstPlace s) q → joins (kindAt t (number (widthOf s) s q)) ≡ true
+      → tailAt t (number (widthOf s) s q) + 1 + widthOf s * countAt s t (number (widthOf s) s q) ≤ length s
   shaped-inside i e = rw (count-is d i, holds d i .tail) (conjuncts i e .parts .within)
 
-  shaped-part : {q : ℕ} → Stands c s (firstPlace s) q → (j : ℕ) → joins (kindAt t (number (widthOf s) s q)) ≡ true → j < countAt s t (number (widthOf s) s q) → partAt s t (number (widthOf s) s q) j < n
+  shaped-part : {q : ℕ} → Stands c s (firstPlace s) q → (j : ℕ) → joins (kindAt t (number (widthOf s) s q)) ≡ true → j < countAt s t (number (widthOf s) s q)
+      → partAt s t (number (widthOf s) s q) j < n
   shaped-part {q} i j e l = rw (part-is d i j) (conjuncts i e .parts .each j (omega (arith, l, count-is d i)))
 
   pub shaped : firstPlace s ≤ length s → Shaped n s t

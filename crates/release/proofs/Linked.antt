@@ -17,7 +17,8 @@ use Rattle.el.specs.Lists.{In, pick}
 use Rattle.el.specs.Concepts.{everything}
 use Rattle.el.specs.Axioms.{Axiom, isConjunction, partsOf, roleOf, fillerOf}
 use Rattle.el.specs.Terminologies.{Terminology, IsNode, top-node, name-node, Formed}
-use Rattle.release.specs.Files.{number, widthOf, firstPlace, namesOf, rolesOf, countOf, joins, restricts, defines, isFiller, topNumber, fillerNode, headerFault, axiomFault, axiomsFault, axiomLength, axiomAt, axiomsOf, conjunctDefined, fault, firstOf, kindOf}
+use Rattle.release.specs.Files.{number, widthOf, firstPlace, namesOf, rolesOf, countOf, joins, restricts, defines, isFiller, topNumber, fillerNode, headerFault, axiomFault}
+use Rattle.release.specs.Files.{axiomsFault, axiomLength, axiomAt, axiomsOf, conjunctDefined, fault, firstOf, kindOf}
 use Rattle.release.specs.Tables.{kindAt, Stands, here, there, blank, of-axiom, Shaped, Release, AxiomRow, NameRow, no-axiom, has-axiom}
 use Rattle.release.specs.Entries.{nodeNumber}
 use Rattle.release.proofs.Sound.{Sound, Tail, joined, restricted}
@@ -169,23 +170,31 @@ module _ (s : List ℕ) (ok : fault s ≡ 0) where
   }
 
   -- left names rise, so a name has one axiom at most
-  pub rises : (c least p j : ℕ) → axiomsFault (widthOf s) (namesOf s) (rolesOf s) (suc c) least s p ≡ 0 → Stands c s (p + axiomLength (widthOf s) s p) j → number (widthOf s) s p < number (widthOf s) s j
+  pub rises : (c least p j : ℕ) → axiomsFault (widthOf s) (namesOf s) (rolesOf s) (suc c) least s p ≡ 0 → Stands c s (p + axiomLength (widthOf s) s p) j
+      → number (widthOf s) s p < number (widthOf s) s j
   unfolding axiomsFault
-  rises c least p j h k = stands-sound (namesOf s) (rolesOf s) c (suc (number (widthOf s) s p)) s (p + axiomLength (widthOf s) s p) j (both-none (axiomFault (widthOf s) (namesOf s) (rolesOf s) least s p) _ h .1) k .1
+  rises c least p j h k = stands-sound (namesOf s) (rolesOf s) c (suc (number (widthOf s) s p)) s (p + axiomLength (widthOf s) s p) j
+      (both-none (axiomFault (widthOf s) (namesOf s) (rolesOf s) least s p) _ h .1) k .1
 
   one-place : (c least p q j : ℕ) → axiomsFault (widthOf s) (namesOf s) (rolesOf s) c least s p ≡ 0 → Stands c s p q → Stands c s p j → number (widthOf s) s q ≡ number (widthOf s) s j → q ≡ j
   unfolding axiomsFault
   one-place (suc c) least p q j h here here e = refl
   one-place (suc c) least p q j h here (there k) e = absurd (omega (arith, rises c least p j h k))
   one-place (suc c) least p q j h (there i) here e = absurd (omega (arith, rises c least p q h i))
-  one-place (suc c) least p q j h (there i) (there k) e = one-place c (suc (number (widthOf s) s p)) (p + axiomLength (widthOf s) s p) q j (both-none (axiomFault (widthOf s) (namesOf s) (rolesOf s) least s p) _ h .1) i k e
+  one-place (suc c) least p q j h (there i) (there k) e = one-place c (suc (number (widthOf s) s p)) (p + axiomLength (widthOf s) s p) q j
+      (both-none (axiomFault (widthOf s) (namesOf s) (rolesOf s) least s p) _ h .1) i k e
 
   pub terminology : Terminology (axiomsOf s)
   terminology = record {
     one-axiom = λ i k e.
         let p = in-stands (countOf s) s (firstPlace s) i in
         let q = in-stands (countOf s) s (firstPlace s) k in
-        let z = one-place (countOf s) 0 (firstPlace s) (p .at) (q .at) (no-axiom-fault s ok) (p .stands) (q .stands) (sym (axiom-left (widthOf s) s (p .at)) ∙ (ap (λ (a : Axiom). a .left) (p .is) ∙ (e ∙ (ap (λ (a : Axiom). a .left) (sym (q .is)) ∙ axiom-left (widthOf s) s (q .at))))) in
+        let z = one-place (countOf s) 0 (firstPlace s) (p .at) (q .at) (no-axiom-fault s ok) (p .stands) (q .stands)
+        (sym (axiom-left (widthOf s) s (p .at)) ∙
+        (ap (λ (a : Axiom). a .left) (p .is) ∙ (e ∙ (ap (λ (a : Axiom). a .left) (sym (q .is)) ∙ axiom-left (widthOf s) s (q .at))))) in
         sym (p .is) ∙ (ap (axiomAt (widthOf s) s) z ∙ q .is);
-    plain-parts = λ {a} {b} i k j h. true≢false (sym (tells-listed (axiomsOf s) .complete (record { it = a; member = i; holds = record { it = b .left; member = h; holds = record { it = b; member = k; holds = (refl, (j .is-defined, j .is-conjunction)) } } })) ∙ no-conjunct-defined s ok);
+    plain-parts = λ {a} {b} i k j h. true≢false
+        (sym (tells-listed (axiomsOf s) .complete
+        (record { it = a; member = i; holds = record { it = b .left; member = h; holds = record { it = b; member = k; holds = (refl, (j .is-defined, j .is-conjunction)) } } })) ∙
+        no-conjunct-defined s ok);
   }

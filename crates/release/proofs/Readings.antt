@@ -32,7 +32,9 @@ module _ (w n m left kind : ℕ) (s : List ℕ) (p : ℕ) where
     unfolding tailReading
     joined-refused k e z = reading-refused _ k _ _ (joined-fault ∙ e) z
 
-    pub joined-axiom : (count : ℕ) → count ≡ getD s p 0 → conjunctionFault w n s p ≡ 0 → Axiom (record { left = record { 0 = left }; kind = kind; role = record { 0 = 0 }; filler = 0; tail = p }) (record { at = p + (1 + w * count) }) ≡ tailReading w n m left kind s p
+    pub joined-axiom : (count : ℕ) → count ≡ getD s p 0 → conjunctionFault w n s p ≡ 0
+        → Axiom (record { left = record { 0 = left }; kind = kind; role = record { 0 = 0 }; filler = 0; tail = p }) (record { at = p + (1 + w * count) }) ≡ tailReading w n m left
+        kind s p
     unfolding tailReading entryOf
     joined-axiom count e z =
         let i : record { left = record { 0 = left }; kind = kind; role = record { 0 = 0 }; filler = 0; tail = p } ≡ entryOf w n left kind s p = simp (entryOf, j) in
@@ -49,10 +51,13 @@ module _ (w n m left kind : ℕ) (s : List ℕ) (p : ℕ) where
     unfolding tailReading
     restricted-refused k e z = reading-refused _ k _ _ (restricted-fault ∙ e) z
 
-    pub restricted-axiom : (role number-read filler : ℕ) → role ≡ getD s p 0 → number-read ≡ number w s (p + 1) → filler ≡ nodeNumber n (fillerNode w number-read) → restrictionFault w n m s p ≡ 0 → Axiom (record { left = record { 0 = left }; kind = kind; role = record { 0 = role }; filler = filler; tail = p }) (record { at = p + (1 + w) }) ≡ tailReading w n m left kind s p
+    pub restricted-axiom : (role number-read filler : ℕ) → role ≡ getD s p 0 → number-read ≡ number w s (p + 1) → filler ≡ nodeNumber n (fillerNode w number-read)
+        → restrictionFault w n m s p ≡ 0 → Axiom (record { left = record { 0 = left }; kind = kind; role = record { 0 = role }; filler = filler; tail = p })
+        (record { at = p + (1 + w) }) ≡ tailReading w n m left kind s p
     unfolding tailReading entryOf
     restricted-axiom role number-read filler e g f z =
-        let i : record { left = record { 0 = left }; kind = kind; role = record { 0 = role }; filler = filler; tail = p } ≡ entryOf w n left kind s p = simp (entryOf, restricts-not-joins kind r, e, f, g) in
+        let i : record { left = record { 0 = left }; kind = kind; role = record { 0 = role }; filler = filler; tail = p } ≡ entryOf w n left kind s p = simp
+        (entryOf, restricts-not-joins kind r, e, f, g) in
         let l : p + (1 + w) ≡ p + tailLength w kind s p = simp (tailLength, restricts-not-joins kind r) in
         ap₂ (λ (a : Entry) (b : ℕ). Axiom a (record { at = b })) i l ∙ reading-axiom _ _ _ (restricted-fault ∙ z)
 

@@ -43,7 +43,8 @@ reading-not (suc j) e next k h = let i : suc j ≡ k = cc in (i, λ z. omega ari
 
 -- one axiom more
 module _ (n m : ℕ) (s : List ℕ) (left at least : ℕ) (more : 0 < left) where
-  one-more : axiomsFault (widthOf s) n m left least s at ≡ firstOf (axiomFault (widthOf s) n m least s at) (axiomsFault (widthOf s) n m (left - 1) (suc (number (widthOf s) s at)) s (at + axiomLength (widthOf s) s at))
+  one-more : axiomsFault (widthOf s) n m left least s at ≡ firstOf (axiomFault (widthOf s) n m least s at)
+      (axiomsFault (widthOf s) n m (left - 1) (suc (number (widthOf s) s at)) s (at + axiomLength (widthOf s) s at))
   unfolding axiomsFault
   one-more = let e : left ≡ suc (left - 1) = omega arith in ap (λ (j : ℕ). axiomsFault (widthOf s) n m j least s at) e
 
@@ -51,7 +52,8 @@ module _ (n m : ℕ) (s : List ℕ) (left at least : ℕ) (more : 0 < left) wher
   stops zero e z = absurd (z refl)
   stops (suc k) e z = one-more ∙ rw e
 
-  goes-on : axiomFault (widthOf s) n m least s at ≡ 0 → axiomsFault (widthOf s) n m left least s at ≡ axiomsFault (widthOf s) n m (left - 1) (number (widthOf s) s at + 1) s (at + axiomLength (widthOf s) s at)
+  goes-on : axiomFault (widthOf s) n m least s at ≡ 0
+      → axiomsFault (widthOf s) n m left least s at ≡ axiomsFault (widthOf s) n m (left - 1) (number (widthOf s) s at + 1) s (at + axiomLength (widthOf s) s at)
   goes-on e = one-more ∙ rw (e, add-one (number (widthOf s) s at))
 
   stands-there : {q : ℕ} → Stands (left - 1) s (at + axiomLength (widthOf s) s at) q → Stands left s at q
@@ -94,7 +96,8 @@ entry-fits n m least s t q hn hm ht hq v = let l : widthOf s ≤ 2 = is-width s 
   where
     go : widthOf s ≤ 2 → Tail (widthOf s) n m (getD s (q + widthOf s) 0) s (q + widthOf s + 1) → Fits (entryAt n s q) t
     go l (joined e j) = rw (e, entryOf) (record { row = omega (arith, v .left); role = omega arith; filler = omega arith; tail = omega arith })
-    go l (restricted e f r) = let k : nodeNumber n (fillerNode (widthOf s) (number (widthOf s) s (q + widthOf s + 1 + 1))) ≤ n = filler-node (widthOf s) n _ (r .filler) in rw (e, entryOf) (record { row = omega (arith, v .left); role = omega (arith, r .role); filler = omega arith; tail = omega arith })
+    go l (restricted e f r) = let k : nodeNumber n (fillerNode (widthOf s) (number (widthOf s) s (q + widthOf s + 1 + 1))) ≤ n = filler-node (widthOf s) n _ (r .filler) in
+        rw (e, entryOf) (record { row = omega (arith, v .left); role = omega (arith, r .role); filler = omega arith; tail = omega arith })
 
 pub record Going (n m count : ℕ) (s t : List ℕ) (left at least : ℕ) : Type 0 where
   pub fault : axiomsFault (widthOf s) n m count 0 s (firstPlace s) ≡ axiomsFault (widthOf s) n m left least s at
@@ -125,7 +128,8 @@ module _ (n m count : ℕ) (s t : List ℕ) (left at least : ℕ) (g : Going n m
     pub refuses : (k j : ℕ) → r ≡ Refused k → j ≡ numberOf r → AxiomsRead n m count s t j
     unfolding readingAt
     refuses k j e i =
-        let z = reading-not (axiomFault (widthOf s) n m least s at) (entryOf (widthOf s) n (number (widthOf s) s at) (getD s (at + widthOf s) 0) s (at + widthOf s + 1)) (at + axiomLength (widthOf s) s at) k (sym is ∙ e) in
+        let z = reading-not (axiomFault (widthOf s) n m least s at) (entryOf (widthOf s) n (number (widthOf s) s at) (getD s (at + widthOf s) 0) s (at + widthOf s + 1))
+        (at + axiomLength (widthOf s) s at) k (sym is ∙ e) in
         rw (i, e) (record { fault = sym (g .fault ∙ stops n m s left at least more k (z .0) (λ w. z .1 (z .0 ∙ w))); decoded = λ w. absurd (z .1 (z .0 ∙ w)) })
 
     module _ (entry : Entry) (c : Cursor) (e : r ≡ Axiom entry c) where
@@ -154,7 +158,8 @@ module _ (n m count : ℕ) (s t : List ℕ) (left at least : ℕ) (g : Going n m
             let e1 : entryAt n s q .left .0 ≡ number (widthOf s) s q = entry-left (widthOf s) n (number (widthOf s) s q) (getD s (q + widthOf s) 0) s (q + widthOf s + 1) in
             row-kept t u (entryAt n s q) (put .other (entryAt n s q .left .0) (λ z. omega (arith, e1, left-is, sound .rises))) h
 
-        next-row : (q : ℕ) → Stands count s (firstPlace s) q → Stands (left - 1) s (at + axiomLength (widthOf s) s at) q ⊎ (Row u (entryAt n s q) × (number (widthOf s) s q < number (widthOf s) s at + 1))
+        next-row : (q : ℕ) → Stands count s (firstPlace s) q
+            → Stands (left - 1) s (at + axiomLength (widthOf s) s at) q ⊎ (Row u (entryAt n s q) × (number (widthOf s) s q < number (widthOf s) s at + 1))
         next-row q i = elim (g .row q i) [
           | inl k ↦ elim (stands-split (let z : left ≡ suc (left - 1) = omega arith in subst (λ (j : ℕ). Stands j s at q) z k)) [
             | inl z ↦ inr (rw z (rw (← answer .entry-is) at (put .row)), rw z (omega arith))

@@ -18,7 +18,8 @@ nodeNumber n (named x) = x
 
 -- an axiom's numbers: left name, kind, role and filler (0 for kinds 1 and 2), the place of its tail
 unfoldable pub entryOf : ℕ → ℕ → ℕ → ℕ → List ℕ → ℕ → Entry
-entryOf w n left kind s tail = pick (joins kind) (record { left = record { 0 = left }; kind = kind; role = record { 0 = 0 }; filler = 0; tail = tail }) (record { left = record { 0 = left }; kind = kind; role = record { 0 = getD s tail 0 }; filler = nodeNumber n (fillerNode w (number w s (tail + 1))); tail = tail })
+entryOf w n left kind s tail = pick (joins kind) (record { left = record { 0 = left }; kind = kind; role = record { 0 = 0 }; filler = 0; tail = tail })
+    (record { left = record { 0 = left }; kind = kind; role = record { 0 = getD s tail 0 }; filler = nodeNumber n (fillerNode w (number w s (tail + 1))); tail = tail })
 
 -- the axiom with the next place where there is no fault, else the refusal
 unfoldable pub reading : ℕ → Entry → ℕ → Reading

@@ -84,7 +84,9 @@ abbrev pub ends : ℕ → List ℕ → ℕ → Bool
 ends w s p = ltb (length s) (p + w)
 
 unfoldable pub headerFault : List ℕ → ℕ
-headerFault s = pick (ltb (length s) (headerLength 1)) 1 (pick (not (startsWith mark s)) 2 (pick (not (isVersion (versionOf s))) 3 (pick (ltb (length s) (firstPlace s)) 1 (pick (ltb (mostNamesOf (widthOf s)) (namesOf s)) 4 (pick (ltb mostRoles (rolesOf s)) 5 (pick (ltb (namesOf s) (countOf s)) 6 0))))))
+headerFault s = pick (ltb (length s) (headerLength 1)) 1
+    (pick (not (startsWith mark s)) 2 (pick (not (isVersion (versionOf s))) 3
+    (pick (ltb (length s) (firstPlace s)) 1 (pick (ltb (mostNamesOf (widthOf s)) (namesOf s)) 4 (pick (ltb mostRoles (rolesOf s)) 5 (pick (ltb (namesOf s) (countOf s)) 6 0))))))
 
 -- k names from place p on, each at least `least`, one more than the name before: 7, 9, 13
 unfoldable pub partsFault : ℕ → ℕ → ℕ → ℕ → List ℕ → ℕ → ℕ

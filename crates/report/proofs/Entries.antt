@@ -73,7 +73,8 @@ module _ {o : List ℕ} {p : ℕ} (bs : List ℕ) {q : List ℕ} {next : ℕ} (i
   entry-room rest h =
       room-first (entry i (getD bs i 0)) (lines (i + 1) (drop (i + 1) bs)) (subst (λ (l : List ℕ). Room q next l) (next-lines bs i h) (rest .room))
 
-  pub entry-put : {r : List ℕ} {then : ℕ} → Rest o p (lines 0 bs) q next (lines i (drop i bs)) → i < length bs → Put q next (entry i (getD bs i 0)) r then → Rest o p (lines 0 bs) r then (lines (i + 1) (drop (i + 1) bs))
+  pub entry-put : {r : List ℕ} {then : ℕ} → Rest o p (lines 0 bs) q next (lines i (drop i bs)) → i < length bs → Put q next (entry i (getD bs i 0)) r then
+      → Rest o p (lines 0 bs) r then (lines (i + 1) (drop (i + 1) bs))
   entry-put rest h put = rest-less (subst (λ (l : List ℕ). Rest o p (lines 0 bs) q next l) (next-lines bs i h) rest) put
 
   pub entries-put : Rest o p (lines 0 bs) q next (lines i (drop i bs)) → length bs ≤ i → Put o p (lines 0 bs) q next

@@ -11,7 +11,8 @@ use lib.ListN.{length, getD}
 use Rattle.el.specs.Lists.{pick}
 use Rattle.el.specs.Axioms.{Axiom}
 use Rattle.el.specs.Derivability.{Derives}
-use Rattle.release.specs.Files.{mark, startsWith, isVersion, versionOf, widthOf, mostNamesOf, topNumber, headerLength, firstPlace, namesOf, rolesOf, countOf, headerFault, axiomsFault, axiomsFrom, axiomsOf, conjunctDefined, fault, IsWidth}
+use Rattle.release.specs.Files.{mark, startsWith, isVersion, versionOf, widthOf, mostNamesOf, topNumber, headerLength, firstPlace, namesOf, rolesOf, countOf, headerFault}
+use Rattle.release.specs.Files.{axiomsFault, axiomsFrom, axiomsOf, conjunctDefined, fault, IsWidth}
 use Rattle.release.proofs.Numbers.{width-1, width-2}
 use Rattle.release.proofs.Headers.{header-none}
 use Rattle.release.proofs.Checks.{header-sound}
@@ -144,7 +145,8 @@ module _ (w : ℕ) (s : List ℕ) (width : IsWidth w) (ok : fault s ≡ 0) (few 
 
   read-axioms : (axiomsFault w n m (countOf s) 0 u (headerLength w) ≡ 0) × (axiomsFrom (countOf s) u (headerLength w) ≡ al)
   read-axioms =
-      let r = axioms-back w n m s u width few few-roles (sym u-width) (countOf s) 0 (firstPlace s) (headerLength w) (no-axiom-fault s ok) (at-axioms w n m al width few few-roles few-axioms) (header-bytes w n m al) in
+      let r = axioms-back w n m s u width few few-roles (sym u-width) (countOf s) 0 (firstPlace s) (headerLength w) (no-axiom-fault s ok)
+      (at-axioms w n m al width few few-roles few-axioms) (header-bytes w n m al) in
       (r .none, r .same)
 
   u-axioms : axiomsOf u ≡ al

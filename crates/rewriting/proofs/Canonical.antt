@@ -12,7 +12,8 @@ use borrow.Author.Tests.{eqb-true}
 use lib.Dec.{eqb}
 use lib.ListN.{length, getD, drop, length-append}
 use lib.Seq.{drop-cons}
-use Rattle.release.specs.Files.{number, numbers, mark, startsWith, versionOf, widthOf, topNumber, firstPlace, namesOf, rolesOf, countOf, joins, fillerNode, rightAt, axiomAt, axiomLength, axiomsFrom, axiomsOf, fault, kindOf}
+use Rattle.release.specs.Files.{number, numbers, mark, startsWith, versionOf, widthOf, topNumber, firstPlace, namesOf, rolesOf, countOf, joins, fillerNode, rightAt, axiomAt}
+use Rattle.release.specs.Files.{axiomLength, axiomsFrom, axiomsOf, fault, kindOf}
 use Rattle.release.specs.Tables.{here, there}
 use Rattle.release.proofs.Numbers.{version-1-width, version-2-width}
 use Rattle.release.proofs.Checks.{Header, header-sound}

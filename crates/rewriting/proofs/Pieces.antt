@@ -63,11 +63,14 @@ module _ (v w kind : ℕ) (s : List ℕ) (p x : ℕ) (e : x ≡ getD s p 0) wher
 
 -- an axiom
 module _ (v w : ℕ) (s : List ℕ) (p : ℕ) where
-  pub axiom-left : (l : ℕ) → l ≡ number w s p → Begins (axiomBytes v (axiomAt w s p)) (numberBytes v l) (numberBytes 1 (kindOf (axiomAt w s p)) ++ tailBytes v (rightAt w (getD s (p + w) 0) s (p + w + 1)))
+  pub axiom-left : (l : ℕ) → l ≡ number w s p
+      → Begins (axiomBytes v (axiomAt w s p)) (numberBytes v l) (numberBytes 1 (kindOf (axiomAt w s p)) ++ tailBytes v (rightAt w (getD s (p + w) 0) s (p + w + 1)))
   unfolding axiomBytes axiomAt
   axiom-left l e = record { is = rw e }
 
-  pub axiom-kind : getD s (p + w) 0 ≡ kindOf (axiomAt w s p) → (k : ℕ) → k ≡ getD s (p + w) 0 → Begins (numberBytes 1 (kindOf (axiomAt w s p)) ++ tailBytes v (rightAt w (getD s (p + w) 0) s (p + w + 1))) (numberBytes 1 k) (tailBytes v (rightAt w (getD s (p + w) 0) s (p + w + 1)))
+  pub axiom-kind : getD s (p + w) 0 ≡ kindOf (axiomAt w s p) → (k : ℕ) → k ≡ getD s (p + w) 0
+      → Begins (numberBytes 1 (kindOf (axiomAt w s p)) ++ tailBytes v (rightAt w (getD s (p + w) 0) s (p + w + 1))) (numberBytes 1 k)
+      (tailBytes v (rightAt w (getD s (p + w) 0) s (p + w + 1)))
   axiom-kind kind k e =
       let f : kindOf (axiomAt w s p) ≡ k = sym kind ∙ sym e in
       record { is = ap (λ (x : ℕ). numberBytes 1 x ++ tailBytes v (rightAt w (getD s (p + w) 0) s (p + w + 1))) f }

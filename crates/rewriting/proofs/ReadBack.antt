@@ -197,7 +197,8 @@ module _ (w n m : ℕ) (s t : List ℕ) (width : IsWidth w) (few : n ≤ mostNam
     pub none : axiomsFault w n m c least t q ≡ 0
     pub same : axiomsFrom c t q ≡ axiomsFrom c s p
 
-  pub axioms-back : (c least p q : ℕ) → axiomsFault (widthOf s) n m c least s p ≡ 0 → At t q (axiomsBytes w (axiomsFrom c s p)) → length t ≡ q + length (axiomsBytes w (axiomsFrom c s p)) → Listed c least p q
+  pub axioms-back : (c least p q : ℕ) → axiomsFault (widthOf s) n m c least s p ≡ 0 → At t q (axiomsBytes w (axiomsFrom c s p))
+      → length t ≡ q + length (axiomsBytes w (axiomsFrom c s p)) → Listed c least p q
   unfolding axiomsFault axiomsFrom axiomsBytes
   axioms-back zero least p q h a end =
       let ended : ltb q (length t) ≡ false = le-ltb q (length t) (omega arith) in

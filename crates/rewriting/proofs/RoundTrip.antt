@@ -84,7 +84,8 @@ same-file : {w : ℕ} {s t : List ℕ} (v : ℕ) → Same w s t → rewritten v 
 unfolding rewritten
 same-file v same = rw (same .names, same .roles, same .axioms)
 
-pub round-trip : (s : List ℕ) → Bytes s → {w : ℕ} → IsWidth w → {o q o′ q′ : List ℕ} {k : ℕ} {answer : Rewriting} → Rewrites w s o q (Written k) → Rewrites (versionOf s) (take k q) o′ q′ answer → length s ≤ length o′ → Returned s o′ q′ answer
+pub round-trip : (s : List ℕ) → Bytes s → {w : ℕ} → IsWidth w → {o q o′ q′ : List ℕ} {k : ℕ} {answer : Rewriting} → Rewrites w s o q (Written k)
+    → Rewrites (versionOf s) (take k q) o′ q′ answer → length s ≤ length o′ → Returned s o′ q′ answer
 round-trip s bytes {w} width {o} {q} {o′} {q′} {k} {answer} forth back room =
     let ok : fault s ≡ 0 = wrote w s o k (forth .answers) .accepted in
     let t = take k q in
@@ -101,6 +102,7 @@ round-trip s bytes {w} width {o} {q} {o′} {q′} {k} {answer} forth back room 
     }
 
 -- a release of version 2 rewritten as version 1 and then as version 2
-pub round-trip-2 : (s : List ℕ) → Bytes s → versionOf s ≡ 2 → {o q o′ q′ : List ℕ} {k : ℕ} {answer : Rewriting} → Rewrites 1 s o q (Written k) → Rewrites 2 (take k q) o′ q′ answer → length s ≤ length o′ → Returned s o′ q′ answer
+pub round-trip-2 : (s : List ℕ) → Bytes s → versionOf s ≡ 2 → {o q o′ q′ : List ℕ} {k : ℕ} {answer : Rewriting} → Rewrites 1 s o q (Written k) → Rewrites 2 (take k q) o′ q′ answer
+    → length s ≤ length o′ → Returned s o′ q′ answer
 round-trip-2 s bytes e {o} {q} {o′} {q′} {k} {answer} forth back room =
     round-trip s bytes one-byte forth (subst (λ (v : ℕ). Rewrites v (take k q) o′ q′ answer) (sym e) back) room

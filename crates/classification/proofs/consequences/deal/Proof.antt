@@ -18,19 +18,53 @@ see-requires c κs = (c .before .before .before .before .before .pre .0 .area, (
 
 -- src/consequences.rt:237:5
 note-below-requires : tie.Need-note-below-requires
-note-below-requires c κs = ((frame-area (c .before .before .before .before .see .ensures .0 .extends .frame) (c .before .before .before .before .before .before .before .before .before .before .pre .0 .area), c .before .before .before .before .before .before .before .before .before .before .pre .0 .few), c .before .before .before .before .before .before .before .before .before .before .pre .1)
+note-below-requires c κs = (
+  (
+    frame-area (c .before .before .before .before .see .ensures .0 .extends .frame)
+        (c .before .before .before .before .before .before .before .before .before .before .pre .0 .area),
+    c .before .before .before .before .before .before .before .before .before .before .pre .0 .few,
+  ),
+  c .before .before .before .before .before .before .before .before .before .before .pre .1,
+)
 
 -- src/consequences.rt:238:5
 put-above-requires : tie.Need-put-above-requires
-put-above-requires c κs = (setting-stays (grows-further (kept-grows (c .before .before .before .before .before .before .before .before .before .before .see .ensures .0)) (kept-grows (c .before .before .before .before .before .note-below .ensures))) (c .before .before .before .before .before .before .before .before .before .before .before .before .before .before .before .before .pre .0), c .before .before .before .before .before .before .before .before .before .before .before .before .before .before .before .before .pre .1)
+put-above-requires c κs = (
+  setting-stays
+      (grows-further (kept-grows (c .before .before .before .before .before .before .before .before .before .before .see .ensures .0))
+      (kept-grows (c .before .before .before .before .before .note-below .ensures)))
+      (c .before .before .before .before .before .before .before .before .before .before .before .before .before .before .before .before .pre .0),
+  c .before .before .before .before .before .before .before .before .before .before .before .before .before .before .before .before .pre .1,
+)
 
 -- src/consequences.rt:239:5
 put-by-fillers-requires : tie.Need-put-by-fillers-requires
-put-by-fillers-requires c κs = (setting-stays (grows-further (grows-further (kept-grows (c .before .before .before .before .before .before .before .before .before .before .before .before .before .before .before .before .see .ensures .0)) (kept-grows (c .before .before .before .before .before .before .before .before .before .before .before .note-below .ensures))) (c .before .before .before .before .before .put-above .ensures)) (c .before .before .before .before .before .before .before .before .before .before .before .before .before .before .before .before .before .before .before .before .before .before .pre .0), c .before .before .before .before .before .before .before .before .before .before .before .before .before .before .before .before .before .before .before .before .before .before .pre .1)
+put-by-fillers-requires c κs = (
+  setting-stays
+      (grows-further (grows-further (kept-grows
+      (c .before .before .before .before .before .before .before .before .before .before .before .before .before .before .before .before .see .ensures .0))
+      (kept-grows (c .before .before .before .before .before .before .before .before .before .before .before .note-below .ensures)))
+      (c .before .before .before .before .before .put-above .ensures))
+      (c .before .before .before .before .before .before .before .before .before .before .before .before .before .before .before .before .before .before .before .before .before
+      .before .pre .0),
+  c .before .before .before .before .before .before .before .before .before .before .before .before .before .before .before .before .before .before .before
+      .before .before .before .pre .1,
+)
 
 -- src/consequences.rt:240:5
 hand-down-requires : tie.Need-hand-down-requires
-hand-down-requires c κs = (setting-stays (grows-further (grows-further (grows-further (kept-grows (c .before .before .before .before .before .before .before .before .before .before .before .before .before .before .before .before .before .before .before .before .before .see .ensures .0)) (kept-grows (c .before .before .before .before .before .before .before .before .before .before .before .before .before .before .before .before .note-below .ensures))) (c .before .before .before .before .before .before .before .before .before .before .put-above .ensures)) (c .before .before .before .before .put-by-fillers .ensures)) (c .before .before .before .before .before .before .before .before .before .before .before .before .before .before .before .before .before .before .before .before .before .before .before .before .before .before .before .pre .0) .area, c .before .before .before .before .before .before .before .before .before .before .before .before .before .before .before .before .before .before .before .before .before .before .before .before .before .before .before .pre .1)
+hand-down-requires c κs = (
+  setting-stays
+      (grows-further (grows-further (grows-further
+      (kept-grows (c .before .before .before .before .before .before .before .before .before .before .before .before .before .before .before .before .before .before .before .before
+      .before .see .ensures .0)) (kept-grows (c .before .before .before .before .before .before .before .before .before .before .before .before .before .before .before .before
+      .note-below .ensures))) (c .before .before .before .before .before .before .before .before .before .before .put-above .ensures))
+      (c .before .before .before .before .put-by-fillers .ensures))
+      (c .before .before .before .before .before .before .before .before .before .before .before .before .before .before .before .before .before .before .before .before .before
+      .before .before .before .before .before .before .pre .0) .area,
+  c .before .before .before .before .before .before .before .before .before .before .before .before .before .before .before .before .before .before .before .before .before
+      .before .before .before .before .before .before .pre .1,
+)
 
 -- src/consequences.rt:223:1
 same-length : tie.Need-same-length
@@ -38,7 +72,13 @@ same-length c = search needs
 
 -- src/consequences.rt:223:1
 returns : tie.Need-returns
-returns c = grows-further (grows-further (grows-further (grows-further (kept-grows (c .before .before .before .before .before .before .before .before .before .before .before .before .before .before .before .before .before .before .before .before .before .before .before .before .see .ensures .0)) (kept-grows (c .before .before .before .before .before .before .before .before .before .before .before .before .before .before .before .before .before .before .before .note-below .ensures))) (c .before .before .before .before .before .before .before .before .before .before .before .before .before .put-above .ensures)) (c .before .before .before .before .before .before .before .put-by-fillers .ensures)) (taking-grows (c .before .before .hand-down .ensures))
+returns c = grows-further (grows-further
+    (grows-further (grows-further (kept-grows
+    (c .before .before .before .before .before .before .before .before .before .before .before .before .before .before .before .before .before .before .before .before .before
+    .before .before .before .see .ensures .0))
+    (kept-grows (c .before .before .before .before .before .before .before .before .before .before .before .before .before .before .before .before .before .before .before
+    .note-below .ensures))) (c .before .before .before .before .before .before .before .before .before .before .before .before .before .put-above .ensures))
+    (c .before .before .before .before .before .before .before .put-by-fillers .ensures)) (taking-grows (c .before .before .hand-down .ensures))
 
 pub deal-spec : {M : Type 1} → statement M
 deal-spec =
