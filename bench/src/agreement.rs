@@ -113,22 +113,22 @@ fn narrow(make: Make, draws: &mut Draws) -> (Call, Buffers) {
 /// Tries so many comparisons and as many questions; prints how often each number was answered. Only wide inputs have
 /// files of version 2.
 pub fn try_many(count: usize, wide: bool) -> bool {
-    let makers: [(&str, Make, u32); 2] = if wide {
-        [("wide comparison", wide_comparison, 256), ("wide question", wide_question, 65536)]
+    let makers: [(&str, Make); 2] = if wide {
+        [("wide comparison", wide_comparison), ("wide question", wide_question)]
     } else {
-        [("comparison", comparison, 256), ("question", question, 65536)]
+        [("comparison", comparison), ("question", question)]
     };
     let mut draws = Draws::from(0x2545_F491_4F6C_DD1D);
     let mut different = 0;
-    for (what, make, unit) in makers {
-        let mut numbers: BTreeMap<u32, usize> = BTreeMap::new();
+    for (what, make) in makers {
+        let mut numbers: BTreeMap<u8, usize> = BTreeMap::new();
         for _ in 0..count {
             let (call, buffers) = if wide { make(&mut draws) } else { narrow(make, &mut draws) };
             let (mut ours, mut baseline) = (buffers.clone(), buffers);
             call.run(Implementation::Ours, &mut ours);
             call.run(Implementation::Baseline, &mut baseline);
             different += (ours != baseline) as usize;
-            *numbers.entry(baseline.answer / unit).or_default() += 1;
+            *numbers.entry(baseline.answer.map_or_else(|refusal| refusal.number, |_| 0)).or_default() += 1;
         }
         println!("{what}: {count} inputs; refusals by number, 0 for accepted: {numbers:?}");
     }

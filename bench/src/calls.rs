@@ -1,6 +1,6 @@
-//! Both implementations behind one form: a call with its buffers, and the number that it answers.
+//! Both implementations behind one form: a call with its buffers, and what it answers.
 
-use crate::baseline;
+use crate::baseline::{self, Refusal};
 use crate::ours;
 
 #[derive(Clone, Copy, PartialEq, Eq)]
@@ -9,40 +9,8 @@ pub enum Implementation {
     Baseline,
 }
 
-pub fn baseline_compare(first: &[u8], second: &[u8], signature: &[u8], result: &mut [u8], work: &mut [u8]) -> u32 {
-    match baseline::compare(first, second, signature, result, work) {
-        Ok(()) => 0,
-        Err(refusal) => refusal.number as u32 * 256 + refusal.side as u32,
-    }
-}
-
-/// A sheet by single comparisons.
-#[cfg(not(feature = "ours"))]
-pub fn baseline_branches(
-    first: &[u8],
-    second: &[u8],
-    signatures: &[u8],
-    count: usize,
-    work: &mut [u8],
-    rows: &mut [ours::Row],
-) -> u32 {
-    let names = baseline::names_of(first);
-    let mut result = vec![0; names];
-    for (signature, row) in signatures.chunks(signatures.len() / count.max(1)).zip(rows) {
-        let answer = baseline_compare(first, second, signature, &mut result, work);
-        if answer != 0 {
-            return answer;
-        }
-        *row = ours::Row::of(signature, &result);
-    }
-    0
-}
-
-pub fn baseline_ask(file: &[u8], below: &[u8], above: &[u8], work: &mut [u8]) -> u32 {
-    match baseline::ask(file, below, above, work) {
-        Ok(value) => value as u32,
-        Err(refusal) => refusal.number as u32 * 65536 + refusal.side as u32 * 256,
-    }
+pub fn baseline_ask(file: &[u8], below: &[u8], above: &[u8], work: &mut [u8]) -> Result<u32, Refusal> {
+    baseline::ask(file, below, above, work).map(u32::from)
 }
 
 /// A call to measure.
@@ -52,12 +20,12 @@ pub enum Call {
     Ask { file: Vec<u8>, below: Vec<u8>, above: Vec<u8> },
 }
 
-/// What a call is lent and answers.
+/// What a call is lent and answers: a question its value, a comparison 0.
 #[derive(Clone, PartialEq, Eq)]
 pub struct Buffers {
     pub result: Vec<u8>,
     pub work: Vec<u8>,
-    pub answer: u32,
+    pub answer: Result<u32, Refusal>,
 }
 
 /// What the buffers hold before each call. It is not 0, so no call can rely on cleared memory, and a byte that is not
@@ -73,13 +41,13 @@ impl Buffers {
     }
 
     pub fn of(result: usize, work: usize) -> Buffers {
-        Buffers { result: vec![FILLED; result], work: vec![FILLED; work], answer: 0 }
+        Buffers { result: vec![FILLED; result], work: vec![FILLED; work], answer: Ok(0) }
     }
 
     pub fn refill(&mut self) {
         self.result.fill(FILLED);
         self.work.fill(FILLED);
-        self.answer = 0;
+        self.answer = Ok(0);
     }
 }
 
@@ -103,10 +71,10 @@ impl Call {
         let Buffers { result, work, answer } = buffers;
         *answer = match (self, by) {
             (Call::Compare { first, second, signature }, Implementation::Ours) => {
-                ours::compare(first, second, signature, result, work)
+                ours::compare(first, second, signature, result, work).map(|()| 0)
             }
             (Call::Compare { first, second, signature }, Implementation::Baseline) => {
-                baseline_compare(first, second, signature, result, work)
+                baseline::compare(first, second, signature, result, work).map(|()| 0)
             }
             (Call::Ask { file, below, above }, Implementation::Ours) => ours::ask(file, below, above, work),
             (Call::Ask { file, below, above }, Implementation::Baseline) => baseline_ask(file, below, above, work),

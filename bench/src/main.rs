@@ -105,7 +105,7 @@ fn question(all: bool, wide: bool) -> bool {
     let shown = if all { rows.iter().collect() } else { slowest };
     shown.into_iter().for_each(measure::print_row);
     measure::print_summary(&rows);
-    println!("{} of them hold", rows.iter().filter(|row| row.answer == 1).count());
+    println!("{} of them hold", rows.iter().filter(|row| row.answer == Ok(1)).count());
     agree
 }
 
@@ -128,7 +128,7 @@ fn repeat(by: &str, name: &str, count: &str, folder: &Path) -> bool {
     for _ in 0..count {
         input.call.run(by, &mut buffers);
     }
-    println!("{name}: answer {}", buffers.answer);
+    println!("{name}: answer {:?}", buffers.answer);
     true
 }
 

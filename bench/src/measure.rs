@@ -1,5 +1,6 @@
 //! Times of both implementations on the same inputs, after a check that they agree in every byte.
 
+use crate::baseline::Refusal;
 use crate::calls::{Buffers, Implementation};
 use crate::inputs::Input;
 use crate::ours;
@@ -9,7 +10,7 @@ pub struct Measured {
     pub name: String,
     pub ours: f64,
     pub baseline: f64,
-    pub answer: u32,
+    pub answer: Result<u32, Refusal>,
 }
 
 impl Measured {

@@ -1,103 +1,77 @@
-//! The proved library, by its C interface. A slice passes as a pointer and a length. The calls ask nothing of their
-//! caller beyond what Rust's references already ensure: lent memory is valid, and what is written is lent once.
+//! The proved library, by its wrapper in Rust (`rust/`). Its refusals are told as the baseline's, so that answers can be compared.
 //!
 //! Without the feature `ours` the baseline stands in, so that the measuring itself can be tried.
 
-/// A comparison and a sheet: number * 256 + side, 0 for accepted. A question: number * 65536 + side * 256 + value.
-pub use linked::{ask, compare, compare_branches};
+use crate::baseline::Refusal;
+pub use linked::{Row, NAME};
 
-/// The row of a branch.
-#[repr(C)]
-#[derive(Clone, Copy, Debug, Default, PartialEq, Eq)]
-pub struct Row {
-    pub chosen: u32,
-    pub left: u32,
-    pub right: u32,
-    pub share: u32,
+fn told(refusal: linked::Refusal) -> Refusal {
+    Refusal { number: refusal.number, side: refusal.side }
 }
 
-impl Row {
-    /// The row of a comparison over the signature, with its byte for each name.
-    pub fn of(signature: &[u8], result: &[u8]) -> Row {
-        let count = |test: fn(u8) -> bool| result.iter().filter(|&&byte| test(byte)).count() as u32;
-        let chosen = signature.iter().take(result.len()).filter(|&&byte| byte == 1).count() as u32;
-        let reported = count(|byte| byte != 0);
-        Row {
-            chosen,
-            left: count(|byte| byte & 1 == 1),
-            right: count(|byte| byte & 2 == 2),
-            share: (reported * 1000).checked_div(chosen).unwrap_or(0),
-        }
+pub fn compare(
+    first: &[u8],
+    second: &[u8],
+    signature: &[u8],
+    result: &mut [u8],
+    work: &mut [u8],
+) -> Result<(), Refusal> {
+    linked::compare(first, second, signature, result, work).map_err(told)
+}
+
+pub fn compare_branches(
+    first: &[u8],
+    second: &[u8],
+    signatures: &[u8],
+    count: usize,
+    work: &mut [u8],
+    rows: &mut [Row],
+) -> Result<(), Refusal> {
+    linked::compare_branches(first, second, signatures, count, work, rows).map_err(told)
+}
+
+pub fn ask(file: &[u8], below: &[u8], above: &[u8], work: &mut [u8]) -> Result<u32, Refusal> {
+    linked::ask(file, below, above, work).map_err(told)
+}
+
+/// The row of a comparison over the signature, with its byte for each name.
+pub fn row_of(signature: &[u8], result: &[u8]) -> Row {
+    let count = |test: fn(u8) -> bool| result.iter().filter(|&&byte| test(byte)).count() as u32;
+    let chosen = signature.iter().take(result.len()).filter(|&&byte| byte == 1).count() as u32;
+    let reported = count(|byte| byte != 0);
+    Row {
+        chosen,
+        left: count(|byte| byte & 1 == 1),
+        right: count(|byte| byte & 2 == 2),
+        share: (reported * 1000).checked_div(chosen).unwrap_or(0),
     }
 }
-
-#[cfg(feature = "ours")]
-pub const NAME: &str = "ours";
-
-#[cfg(not(feature = "ours"))]
-pub const NAME: &str = "stand-in";
 
 #[cfg(feature = "ours")]
 mod linked {
-    use super::Row;
+    pub use berrytick::{ask, compare, compare_branches, Refusal, Row};
 
-    extern "C" {
-        fn berrytick_compare(
-            first: *const u8,
-            first_len: usize,
-            second: *const u8,
-            second_len: usize,
-            signature: *const u8,
-            signature_len: usize,
-            result: *mut u8,
-            result_len: usize,
-            work: *mut u8,
-            work_len: usize,
-        ) -> u32;
+    pub const NAME: &str = "ours";
+}
 
-        fn berrytick_compare_branches(
-            first: *const u8,
-            first_len: usize,
-            second: *const u8,
-            second_len: usize,
-            signatures: *const u8,
-            signatures_len: usize,
-            count: usize,
-            work: *mut u8,
-            work_len: usize,
-            rows: *mut Row,
-            rows_len: usize,
-        ) -> u32;
+#[cfg(not(feature = "ours"))]
+mod linked {
+    use super::row_of;
+    use crate::baseline;
+    pub use crate::baseline::{compare, Refusal};
+    pub use crate::calls::baseline_ask as ask;
 
-        fn berrytick_ask(
-            file: *const u8,
-            file_len: usize,
-            below: *const u8,
-            below_len: usize,
-            above: *const u8,
-            above_len: usize,
-            work: *mut u8,
-            work_len: usize,
-        ) -> u32;
+    pub const NAME: &str = "stand-in";
+
+    #[derive(Clone, Copy, Debug, Default, PartialEq, Eq)]
+    pub struct Row {
+        pub chosen: u32,
+        pub left: u32,
+        pub right: u32,
+        pub share: u32,
     }
 
-    pub fn compare(first: &[u8], second: &[u8], signature: &[u8], result: &mut [u8], work: &mut [u8]) -> u32 {
-        unsafe {
-            berrytick_compare(
-                first.as_ptr(),
-                first.len(),
-                second.as_ptr(),
-                second.len(),
-                signature.as_ptr(),
-                signature.len(),
-                result.as_mut_ptr(),
-                result.len(),
-                work.as_mut_ptr(),
-                work.len(),
-            )
-        }
-    }
-
+    /// A sheet by single comparisons.
     pub fn compare_branches(
         first: &[u8],
         second: &[u8],
@@ -105,41 +79,13 @@ mod linked {
         count: usize,
         work: &mut [u8],
         rows: &mut [Row],
-    ) -> u32 {
-        unsafe {
-            berrytick_compare_branches(
-                first.as_ptr(),
-                first.len(),
-                second.as_ptr(),
-                second.len(),
-                signatures.as_ptr(),
-                signatures.len(),
-                count,
-                work.as_mut_ptr(),
-                work.len(),
-                rows.as_mut_ptr(),
-                rows.len(),
-            )
+    ) -> Result<(), Refusal> {
+        let names = baseline::names_of(first);
+        let mut result = vec![0; names];
+        for (signature, row) in signatures.chunks(signatures.len() / count.max(1)).zip(rows) {
+            compare(first, second, signature, &mut result, work)?;
+            *row = row_of(signature, &result);
         }
+        Ok(())
     }
-
-    pub fn ask(file: &[u8], below: &[u8], above: &[u8], work: &mut [u8]) -> u32 {
-        unsafe {
-            berrytick_ask(
-                file.as_ptr(),
-                file.len(),
-                below.as_ptr(),
-                below.len(),
-                above.as_ptr(),
-                above.len(),
-                work.as_mut_ptr(),
-                work.len(),
-            )
-        }
-    }
-}
-
-#[cfg(not(feature = "ours"))]
-mod linked {
-    pub use crate::calls::{baseline_ask as ask, baseline_branches as compare_branches, baseline_compare as compare};
 }

@@ -232,7 +232,7 @@ mod tests {
         let mut buffers = Buffers::for_names(WIDE.names);
         for input in inputs.iter().filter(|input| input.name.starts_with("chain_equal_some")) {
             input.call.run(Implementation::Baseline, &mut buffers);
-            assert!(buffers.answer <= 1, "{}", input.name);
+            assert!(buffers.answer.is_ok(), "{}", input.name);
         }
     }
 }

@@ -4,7 +4,7 @@
 //! the classifications of all but one: the column before the last. The time of the classifications is that of a sheet without branches, less that
 //! of a comparison which is refused after both files were read.
 
-use crate::baseline;
+use crate::baseline::{self, Refusal};
 use crate::calls::{Buffers, Call};
 use crate::inputs::Input;
 use crate::ours::{self, Row};
@@ -47,18 +47,18 @@ impl Sheet<'_> {
         let mut rows = vec![Row::default(); count];
         let together = self.signatures[..count].concat();
         let answer = ours::compare_branches(self.first, self.second, &together, count, &mut buffers.work, &mut rows);
-        assert_eq!(answer, 0, "a sheet that is refused");
+        assert_eq!(answer, Ok(()), "a sheet that is refused");
         rows
     }
 
-    fn compare(&self, signature: &[u8], buffers: &mut Buffers) -> u32 {
+    fn compare(&self, signature: &[u8], buffers: &mut Buffers) -> Result<(), Refusal> {
         ours::compare(self.first, self.second, signature, &mut buffers.result, &mut buffers.work)
     }
 
     /// The row that a single comparison tells.
     fn single(&self, signature: &[u8], buffers: &mut Buffers) -> Row {
-        assert_eq!(self.compare(signature, buffers), 0, "a comparison that is refused");
-        Row::of(signature, &buffers.result[..self.names])
+        assert_eq!(self.compare(signature, buffers), Ok(()), "a comparison that is refused");
+        ours::row_of(signature, &buffers.result[..self.names])
     }
 
     fn agrees(&self) -> bool {
@@ -88,14 +88,14 @@ impl Sheet<'_> {
             });
             timed(1, &mut |buffers| {
                 for signature in &self.signatures {
-                    black_box(self.compare(signature, buffers));
+                    _ = black_box(self.compare(signature, buffers));
                 }
             });
             timed(2, &mut |buffers| {
                 black_box(self.rows(0, buffers));
             });
             timed(3, &mut |buffers| {
-                black_box(self.compare(&refused, buffers));
+                _ = black_box(self.compare(&refused, buffers));
             });
             if start.elapsed() > LONG_ENOUGH && done >= A_FEW {
                 break;

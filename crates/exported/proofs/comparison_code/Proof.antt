@@ -1,13 +1,10 @@
--- `comparison_code` meets its contract.
+-- The code of a comparison, by the cases of its answer.
 use native.Mathlib.Omega.{arith}
 use mathlib.Core.Path.{ap}
 use Rattle.exported.specs.Codes.{comparisonCode}
 use borrow.Author.Needs.{needs}
 use Rattle.exported.proofs.comparison_code.Statement.{statement}
 use Rattle.exported.proofs.comparison_code.Tie as tie
-use Rattle.exported.proofs.comparison_code.Reads as reads
-use Rattle.exported.proofs.comparison_code.Lts as lts
-use Rattle.exported.proofs.refusal_code.Reads as refusal-code-reads
 
 enum-told : tie.Need-enum-told
 enum-told c = search needs
