@@ -13,8 +13,8 @@
  * bytes beyond an answer, as they were. On entry it may hold anything.
  *
  * Nothing is kept between calls, and none allocates memory. Any number of threads may call at the same time, each with memory of its own to
- * write to. A call uses at most 80,000 bytes of stack: measured 71,408 for a question and some 35,000 for a comparison, at any number of
- * names; it does not grow with the input.
+ * write to. A call uses less than 72 KiB of stack, whatever it is lent: measured, with all of the calling program's own, 71,440 bytes for a
+ * question, 32,848 for a comparison, a sheet or a report, 18,472 for a shown axiom and 10,328 for a check or a rewriting.
  */
 #ifndef BERRYTICK_H
 #define BERRYTICK_H

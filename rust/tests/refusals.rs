@@ -76,12 +76,15 @@ fn files() {
     assert_eq!(FILES.map(|(_, number)| number)[..], (1..=15).collect::<Vec<u8>>());
 }
 
+/// The second release, the signature, the lengths of the result and of the work memory; the number.
+type Comparison = (&'static [u8], &'static [u8], usize, usize, u8);
+
 #[test]
 fn comparisons() {
     let fewer_names = b"ELT\x01\x00\x01\x01\x00";
     let mut lent = Lent::new();
     let Lent { result, work, output, rows } = &mut lent;
-    let cases: [(&[u8], &[u8], usize, usize, u8); 5] = [
+    let cases: [Comparison; 5] = [
         (fewer_names, &[1, 1, 1], 2, 36, 16),
         (RELEASE, &[1, 1], 2, 36, 17),
         (RELEASE, &[1, 1, 2], 2, 36, 18),
