@@ -10,7 +10,7 @@ refused-code-requires : tie.Need-refused-code-requires
 refused-code-requires c κs = search needs
 
 returns : tie.Need-returns
-returns c = no-room (c .before .if1 .taken) refl (c .refused-code .ensures)
+returns c = no-room (omega arith) refl (c .refused-code .ensures)
 
 slice-aggregate-compare-releases : tie.Need-slice-aggregate-compare-releases
 slice-aggregate-compare-releases c = search needs
