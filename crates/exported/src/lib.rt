@@ -17,21 +17,19 @@ use release::Refusal;
 use release::Release;
 use release::check_release;
 use release::show::axiom_place;
+use report::SHORT_OUTPUT;
 use report::Written;
 use report::write_report;
 use rewriting::Rewriting;
 use rewriting::rewrite_as_1;
 use rewriting::rewrite_as_2;
 
-// The numbers of refusals that a call here makes itself, all with side 0: a wanted version that is neither 1 nor 2, more names than there
-// can be, and an output too short for a report.
+// Refusals of numbers that a caller passes, with side 0: a wanted version that is neither 1 nor 2; more names than there can be.
 const NO_VERSION: u8 = 3;
 
 const MANY_NAMES: u8 = 4;
 
-const SHORT_OUTPUT: u8 = 33;
-
-// The longest report there can be: 1,023 names, each with a line.
+// The length of the longest report there can be: 1,023 names, each with a line.
 const REPORT: usize = 6202;
 
 fn wide(x: u8) -> u32
