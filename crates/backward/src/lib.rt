@@ -1,5 +1,7 @@
 // Backward marks: the pairs x, y such that some signature concept lies below x by the first release and not below y by the second.
 // The last column is not ⊤ but nothing, below which no concept lies.
+#![tactic(auto)]
+
 ghost use Rattle.std.specs.Prelude.{◌≤◌, length};
 ghost use Rattle.layout.specs.Layouts.{Edges};
 ghost use Rattle.layout.specs.Comparing.{Comparing};

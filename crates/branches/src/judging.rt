@@ -8,7 +8,7 @@ use release::Checked;
 use signature::signature_fault;
 
 // A sheet's limit and its own refusals.
-#[derive(Drop)]
+#[derive(Clone, Copy)]
 pub struct Sheet {}
 
 impl Sheet {

@@ -1,4 +1,6 @@
 // One sheet for many branches: the same two releases compared over one signature after another.
+#![tactic(auto)]
+
 ghost use Rattle.branches.specs.Sheets.{Says};
 
 use crate::row::Row;

@@ -7,7 +7,7 @@ ghost use Rattle.branches.specs.Rows.{share, row_of};
 // How many names are chosen, how many have left and right witnesses, and how many in a thousand of those chosen are reported.
 // C lends such rows too.
 #[repr(C)]
-#[derive(Drop)]
+#[derive(Clone, Copy)]
 pub struct Row {
     pub chosen: u32,
     pub left: u32,

@@ -9,7 +9,7 @@ use crate::row::Row;
 use meanings::Comparison;
 
 // What a sheet answers, and its rows.
-#[derive(Drop)]
+#[derive(Clone, Copy)]
 pub struct Filled {
     pub answer: Comparison,
     pub rows: [Row; Sheet::BRANCHES],

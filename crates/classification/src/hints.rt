@@ -10,7 +10,7 @@ use marks::hints::{next, put, turn};
 use release::table;
 
 // Which of the four squares behind the rows holds what; the first is for what was seen of a row.
-#[derive(Drop)]
+#[derive(Clone, Copy)]
 pub struct Hints {}
 
 impl Hints {

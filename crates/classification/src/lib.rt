@@ -1,4 +1,6 @@
 // Classification: all inclusions between the nodes of an accepted release.
+#![tactic(auto)]
+
 ghost use Rattle.classification.specs.Inclusions.{Unclassified, Classified};
 
 use marks::Square;

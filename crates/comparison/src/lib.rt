@@ -1,4 +1,6 @@
 // The comparison of two accepted releases over a signature, given their tables: the result byte of each name.
+#![tactic(auto)]
+
 ghost use Rattle.std.specs.Prelude.{◌≤◌, length};
 ghost use Rattle.marks.specs.Memory.{size};
 ghost use Rattle.comparison.specs.Compared.{IsSize, Given, Ready, Marking, Compared, ComparedAgain};

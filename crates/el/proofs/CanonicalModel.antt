@@ -57,6 +57,7 @@ names_hold i x (y ∷ []) f = f y first
 names_hold i x (y ∷ (z ∷ xs)) f = (f y first, names_hold i x (z ∷ xs) (λ w h. f w (later h)))
 
 pub hold_names : (i : Interpretation) (x : i.Point) (xs : List ℕ) → Sat i x (all_of xs) → (z : ℕ) → In xs z → i.ext x z
+hold_names i x [] s z absent = elim absent [ ]
 hold_names i x (y ∷ []) s z first = s
 hold_names i x (y ∷ []) s z (later h) = elim h [ ]
 hold_names i x (y ∷ (w ∷ xs)) s z first = s.0

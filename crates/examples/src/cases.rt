@@ -3,7 +3,7 @@
 ghost use Rattle.std.specs.Prelude.{◌≤◌, ◌<◌, length};
 
 // Where a field's bytes start and end in its case.
-#[derive(Drop)]
+#[derive(Clone, Copy)]
 struct Span {
     start: usize,
     end: usize,

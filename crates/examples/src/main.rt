@@ -2,6 +2,8 @@
 // were and how many came out differently, and before it a line for each difference.
 //
 // The data files are made by tools/vectors.py, from vectors and from the tables in tools/.
+#![tactic(auto)]
+
 mod cases;
 mod check;
 mod compare;

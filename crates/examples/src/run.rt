@@ -6,7 +6,7 @@ use crate::{
 };
 
 // Which call a family's cases try.
-#[derive(Drop)]
+#[derive(Clone, Copy)]
 pub enum Call {
     Check,
     Show,
@@ -20,7 +20,7 @@ pub enum Call {
 }
 
 // What one turn of reading and trying came to.
-#[derive(Drop)]
+#[derive(Clone, Copy)]
 enum Turn {
     Tried(Verdict),
     Over,

@@ -3,7 +3,7 @@ use crate::cases::wide;
 use release::Refusal;
 
 // What an answer tells, and by which a difference is named.
-#[derive(Drop)]
+#[derive(Clone, Copy)]
 pub enum What {
     Fields,
     Accepted,
@@ -22,7 +22,7 @@ pub enum What {
 }
 
 // `Differs` holds what was got and what was expected, in this order.
-#[derive(Drop)]
+#[derive(Clone, Copy)]
 pub enum Verdict {
     Same,
     Differs(What, usize, usize),

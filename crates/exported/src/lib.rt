@@ -1,5 +1,7 @@
 // The calls for C and Rust, by one convention: a call returns 0, or number * 256 + side of the refusal; what it answers it writes to lent
 // numbers, which a refusal leaves as they were. include/berrytick.h declares them.
+#![tactic(auto)]
+
 ghost use Rattle.std.specs.Prelude.{◌≡◌};
 ghost use Rattle.exported.specs.Codes.{refusal_code, comparison_code, rewriting_outcome, written_outcome};
 ghost use Rattle.exported.specs.Codes.{Fits32, ShortRewriting, ShortText, Returns};

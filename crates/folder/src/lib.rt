@@ -1,4 +1,6 @@
 // The files of the folder that a program is run in.
+#![tactic(auto)]
+
 ghost use Rattle.std.specs.Prelude.{◌≤◌, length};
 
 // One byte more than the longest accepted release, of version 2: 10 bytes, and 1,023 axioms of 36. A longer file is refused by

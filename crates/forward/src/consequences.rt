@@ -21,7 +21,7 @@ use release::table;
 
 // What is few. Where more bytes of a row have something new, the nodes that can lose a partner by it are not looked for; where more
 // such nodes are left, they are not tested one by one. To test all nodes at once is then quicker.
-#[derive(Drop)]
+#[derive(Clone, Copy)]
 pub struct Few {}
 
 impl Few {

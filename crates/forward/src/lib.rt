@@ -1,4 +1,6 @@
 // Forward marks: the pairs x, y such that some signature concept lies above x by the first release and not above y by the second.
+#![tactic(auto)]
+
 ghost use Rattle.std.specs.Prelude.{◌≤◌, length};
 ghost use Rattle.release.specs.Files.{most_names};
 ghost use Rattle.layout.specs.Layouts.{Setting};

@@ -1,4 +1,6 @@
 // What a comparison of two releases reads: the inclusions of both, the marks so far, and the signature.
+#![tactic(auto)]
+
 ghost use Rattle.std.specs.Prelude.{◌≡◌, ◌≤◌, length};
 ghost use Rattle.el.proofs.Tests.{Tells};
 ghost use Rattle.marks.specs.Squares.{Room, Marked, Put};
@@ -10,7 +12,7 @@ pub mod edges;
 
 // The numbers of names and roles, and where three squares begin in the work memory: the inclusions of the first release, those
 // of the second, and the marks of the comparison.
-#[derive(Drop)]
+#[derive(Clone, Copy)]
 pub struct Layout {
     pub names: usize,
     pub roles: usize,

@@ -11,7 +11,7 @@ use crate::waiting::{Waiting, wait};
 use crate::{Square, behind, is_roomy, line, mark, place};
 
 // The first of the four: what was seen of a row. The others are for whoever uses the square.
-#[derive(Drop)]
+#[derive(Clone, Copy)]
 pub struct Hint {}
 
 impl Hint {

@@ -1,4 +1,6 @@
 // Squares of marks in lent memory, a bit a cell. Nothing here knows what a mark means.
+#![tactic(auto)]
+
 ghost use Rattle.std.specs.Prelude.{◌≡◌, true, ◌*◌, ◌≤◌, length};
 ghost use Rattle.el.proofs.Tests.{Tells};
 ghost use Rattle.marks.specs.Squares.{span, behind, Unmarked, Touches, width, most_names, most_cells, Small, Place, Room, Marked, Put};
@@ -14,7 +16,7 @@ pub mod waiting;
 pub mod words;
 
 // The place of a square: names + 1 rows and as many columns, row after row from `base` on. A row begins with a byte of its own.
-#[derive(Drop)]
+#[derive(Clone, Copy)]
 pub struct Square {
     pub base: usize,
     pub names: usize,

@@ -9,7 +9,7 @@ use crate::words::{block_end, first_bit, or_none, rest};
 use crate::{Square, mark, place};
 
 // The bytes of a line for all nodes that there can be.
-#[derive(Drop)]
+#[derive(Clone, Copy)]
 pub struct Line {}
 
 impl Line {

@@ -7,7 +7,7 @@ ghost use Rattle.marks.specs.Orders.{node_at, placed, NodesPlaced};
 use crate::line::Line;
 use crate::{Square, line};
 
-#[derive(Drop)]
+#[derive(Clone, Copy)]
 pub struct Order {}
 
 impl Order {

@@ -7,7 +7,7 @@ use crate::line::Line;
 use crate::words::{block_end, first_bit, rest};
 
 // One array holds the rows that wait, in a ring; whether a row waits; where the ring begins, and how many wait.
-#[derive(Drop)]
+#[derive(Clone, Copy)]
 pub struct Waiting {}
 
 impl Waiting {

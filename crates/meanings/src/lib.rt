@@ -1,4 +1,6 @@
 // The meaning of releases compared.
+#![tactic(auto)]
+
 ghost use Rattle.std.specs.Prelude.{◌≡◌, ltb, ◌≤◌};
 ghost use Rattle.release.specs.Files.{most_names};
 ghost use Rattle.meanings.specs.Comparing.{work_length, agreed, judged, Says};
@@ -10,14 +12,14 @@ use release::{Checked, Refusal, read_release};
 use signature::signature_fault;
 
 // What was compared: the counts of names and roles, which both releases have.
-#[derive(Drop)]
+#[derive(Clone, Copy)]
 pub struct Compared {
     pub names: u16,
     pub roles: u8,
 }
 
 // What a comparison answers.
-#[derive(Drop)]
+#[derive(Clone, Copy)]
 pub enum Comparison {
     Accepted(Compared),
     Refused(Refusal),

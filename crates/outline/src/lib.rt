@@ -1,5 +1,7 @@
 // A concept's outline: its conjuncts, and the conjuncts of each ∃'s filler, as one flat list of atoms. A root is the whole concept, numbered 0, or
 // the filler of an ∃, numbered in the order of reading.
+#![tactic(auto)]
+
 ghost use Rattle.std.specs.Prelude.{◌≡◌, ℕ, drop};
 ghost use Rattle.el.specs.Concepts.{Concept};
 ghost use Rattle.release.specs.Files.{IsWidth};
@@ -15,7 +17,7 @@ pub const ATOM: usize = 3;
 const ROLE: usize = 1;
 
 // How many atoms and roots an outline has.
-#[derive(Drop)]
+#[derive(Clone, Copy)]
 pub struct Extent {
     pub atoms: usize,
     pub roots: usize,

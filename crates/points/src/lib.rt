@@ -1,5 +1,7 @@
 // Which roots and nodes lie below a concept D, by its outline: a row of marks for each root of D. The points are the nodes of the release and the roots
 // of another concept C.
+#![tactic(auto)]
+
 ghost use Rattle.std.specs.Prelude.{◌+◌, ◌<◌};
 ghost use Rattle.el.proofs.Tests.{Tells};
 ghost use Rattle.marks.specs.Lines.{Added};

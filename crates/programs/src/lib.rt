@@ -1,5 +1,7 @@
 // What the programs do, from the bytes of their files to the bytes that they print. Each lends its work memory, 64 KiB: enough for 127
 // names, and more are refused 32.
+#![tactic(auto)]
+
 ghost use Rattle.std.specs.Prelude.{◌≡◌};
 ghost use Rattle.release.specs.Readings.{checked};
 ghost use Rattle.programs.specs.Printed.{text_length, signature_count, StationPrints, SheetPrints};

@@ -1,4 +1,6 @@
 // The question whether an inclusion of two concepts is derivable from a release.
+#![tactic(auto)]
+
 ghost use Rattle.std.specs.Prelude.{◌≡◌};
 ghost use Rattle.release.specs.Files.{width_of};
 ghost use Rattle.question.specs.Asking.{refused_by, AskedAs};
@@ -23,7 +25,7 @@ const BELOW: u8 = 1;
 const ABOVE: u8 = 2;
 
 // The answer, 1 where the inclusion is derivable and else 0; or a refusal.
-#[derive(Drop)]
+#[derive(Clone, Copy)]
 pub enum Asked {
     Answer(u8),
     Refused(Refusal),

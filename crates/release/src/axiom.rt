@@ -6,14 +6,14 @@ use crate::number::{number, top, wide};
 use crate::{ConceptName, Release, RoleName};
 
 // A place in a file.
-#[derive(Drop)]
+#[derive(Clone, Copy)]
 pub struct Cursor {
     pub at: usize,
 }
 
 // An axiom's numbers, as the table by name holds them. The role and the filler, a node, are 0 for a conjunction; the tail is
 // the place past the kind byte.
-#[derive(Drop)]
+#[derive(Clone, Copy)]
 pub struct Entry {
     pub left: ConceptName,
     pub kind: u8,
@@ -23,7 +23,7 @@ pub struct Entry {
 }
 
 // An axiom with the next place, or the number of the refusal.
-#[derive(Drop)]
+#[derive(Clone, Copy)]
 pub enum Reading {
     Axiom(Entry, Cursor),
     Refused(u8),

@@ -1,4 +1,6 @@
 // The release file: read, checked and shown.
+#![tactic(auto)]
+
 ghost use Rattle.std.specs.Prelude.{◌≡◌};
 ghost use Rattle.release.specs.Readings.{checked};
 ghost use Rattle.release.specs.Tables.{Blank, ReleaseRead};
@@ -15,14 +17,14 @@ pub mod show;
 pub mod table;
 
 // A concept name's number and a role name's: two types, so that neither can be passed for the other.
-#[derive(Drop)]
+#[derive(Clone, Copy)]
 pub struct ConceptName(pub usize);
 
-#[derive(Drop)]
+#[derive(Clone, Copy)]
 pub struct RoleName(pub usize);
 
 // What belongs to release files as such: the mark at their start, and the limits of their numbers.
-#[derive(Drop)]
+#[derive(Clone, Copy)]
 pub struct Release {}
 
 impl Release {
@@ -49,14 +51,14 @@ impl Release {
 }
 
 // A refusal: its number, and the side of the release or concept concerned, else 0.
-#[derive(Drop)]
+#[derive(Clone, Copy)]
 pub struct Refusal {
     pub number: u8,
     pub side: u8,
 }
 
 // The counts of an accepted release.
-#[derive(Drop)]
+#[derive(Clone, Copy)]
 pub struct Counts {
     pub names: usize,
     pub roles: usize,
@@ -64,7 +66,7 @@ pub struct Counts {
 }
 
 // What checking a release answers.
-#[derive(Drop)]
+#[derive(Clone, Copy)]
 pub enum Checked {
     Accepted(Counts),
     Refused(Refusal),

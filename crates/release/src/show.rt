@@ -8,7 +8,7 @@ use crate::table::{Table, count, is_conjunction, kind, tail};
 use crate::{Checked, ConceptName, read_release};
 
 // A part of one of two files: the file's side, where the part starts and how long it is.
-#[derive(Drop)]
+#[derive(Clone, Copy)]
 pub struct Place {
     pub side: u8,
     pub start: usize,

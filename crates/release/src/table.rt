@@ -8,7 +8,7 @@ use crate::header::{header_length, width};
 use crate::number::{number, wide};
 
 // A table has four numbers a name: kind, role, filler, place of the tail. It has one row for each name that there can be.
-#[derive(Drop)]
+#[derive(Clone, Copy)]
 pub struct Table {}
 
 impl Table {

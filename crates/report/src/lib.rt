@@ -1,4 +1,6 @@
 // The report of a comparison, as text in a caller's bytes.
+#![tactic(auto)]
+
 ghost use Rattle.std.specs.Prelude.{◌≡◌};
 ghost use Rattle.report.specs.Texts.{refusal_line};
 ghost use Rattle.report.specs.Answered.{answer_text, answer_to};
@@ -15,7 +17,7 @@ mod places;
 pub mod sheet;
 
 // What writing a text answers: its length, or the refusal.
-#[derive(Drop)]
+#[derive(Clone, Copy)]
 pub enum Written {
     Length(usize),
     Refused(Refusal),

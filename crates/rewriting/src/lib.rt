@@ -1,4 +1,6 @@
 // A release rewritten in version 1 or version 2 of the file.
+#![tactic(auto)]
+
 ghost use Rattle.std.specs.Prelude.{◌≡◌};
 ghost use Rattle.release.specs.Files.{IsWidth};
 ghost use Rattle.rewriting.specs.Rewriting.{Rewrites};
@@ -13,7 +15,7 @@ mod file;
 mod places;
 
 // What rewriting a release answers: the length of the file written, or the refusal.
-#[derive(Drop)]
+#[derive(Clone, Copy)]
 pub enum Rewriting {
     Written(usize),
     Refused(Refusal),

@@ -1,5 +1,7 @@
 // Compares the releases of the folder that it is run in, `first.elt` and `second.elt`, over the signatures that stand one after another
 // in `chosen.sigs`, and prints a line for each branch. A missing file counts as empty.
+#![tactic(auto)]
+
 use folder::{RELEASE_BYTES, read_file};
 use libc::STDOUT_FILENO;
 use programs::sheet;

@@ -1,4 +1,6 @@
 // A signature's bytes: lent by a caller, or built a name or a role at a time.
+#![tactic(auto)]
+
 ghost use Rattle.std.specs.Prelude.{◌≡◌};
 ghost use Rattle.signature.specs.Bytes.{signature_fault};
 ghost use Rattle.signature.specs.Building.{lesser, empty_signature, with_name, with_role, byte_at};
@@ -6,7 +8,7 @@ ghost use Rattle.signature.specs.Building.{lesser, empty_signature, with_name, w
 use release::{ConceptName, Release, RoleName};
 
 // A signature that a caller builds: its numbers of names and roles, and its bytes, names first, then roles.
-#[derive(Drop)]
+#[derive(Clone, Copy)]
 pub struct Signature {
     pub names: u16,
     pub roles: u8,

@@ -1,5 +1,7 @@
 // Compares the releases of the folder that it is run in, `first.elt` and `second.elt`, over the signature `chosen.sig`, and
 // prints the report. A missing file counts as empty.
+#![tactic(auto)]
+
 use folder::{RELEASE_BYTES, read_file};
 use libc::STDOUT_FILENO;
 use programs::station;
