@@ -3,5 +3,4 @@
 #![tactic(auto)]
 
 // The most bytes of a concept.
-
 pub const LONGEST: usize = 255;
