@@ -41,6 +41,7 @@ both_none (suc j) k h = absurd (omega arith)
 -- each of the axioms read without fault is sound
 pub stands_sound : (n m : ℕ) (c least : ℕ) (s : List ℕ) (p q : ℕ) → axioms_fault (width_of s) n m c least s p ≡ 0 → Stands c s p q → Sound (width_of s) n m 0 s q × (least ≤ number (width_of s) s q)
 unfolding axioms_fault
+stands_sound n m zero least s p q h absent = elim absent [ ]
 stands_sound n m (suc c) least s p q h here = let f = (both_none _ _ h).0 in let v = axiom_sound (width_of s) n m least s p f in
     (record { left = v.left; rises = omega arith; tail = v.tail }, v.rises)
 stands_sound n m (suc c) least s p q h (there i) = let z = both_none _ _ h in let r = stands_sound n m c (suc (number (width_of s) s p)) s (p + axiom_length (width_of s) s p) q
@@ -108,6 +109,7 @@ stands_in (there h) = later (stands_in h)
 
 pub in_stands : (c : ℕ) (s : List ℕ) (p : ℕ) {a : Axiom} → In (axioms_from c s p) a → Place c s p a
 unfolding axioms_from
+in_stands zero s p {a = a} absent = elim absent [ ]
 in_stands (suc c) s p first = record { at = p; stands = here; is = refl }
 in_stands (suc c) s p (later h) = let r = in_stands c s (p + axiom_length (width_of s) s p) h in record { at = r.at; stands = there r.stands; is = r.is }
 

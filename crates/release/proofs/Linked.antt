@@ -178,6 +178,7 @@ module _ (s : List ℕ) (ok : fault s ≡ 0) where
 
   one_place : (c least p q j : ℕ) → axioms_fault (width_of s) (names_of s) (roles_of s) c least s p ≡ 0 → Stands c s p q → Stands c s p j → number (width_of s) s q ≡ number (width_of s) s j → q ≡ j
   unfolding axioms_fault
+  one_place zero least p q j h absent _ e = elim absent [ ]
   one_place (suc c) least p q j h here here e = refl
   one_place (suc c) least p q j h here (there k) e = absurd (omega (arith, rises c least p j h k))
   one_place (suc c) least p q j h (there i) here e = absurd (omega (arith, rises c least p q h i))

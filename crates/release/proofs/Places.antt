@@ -31,6 +31,7 @@ later_none s c least p h = both_none (axiom_fault (width_of s) (names_of s) (rol
 -- the first axiom with the name is the only one
 place_found : (s : List ℕ) (ok : fault s ≡ 0) (side c least p q : ℕ) → axioms_fault (width_of s) (names_of s) (roles_of s) c least s p ≡ 0 → Stands c s p q → place_from side c s p (number (width_of s) s q) ≡ record { side = side; start = q; length = axiom_length (width_of s) s q }
 unfolding place_from axioms_fault
+place_found s ok side zero least p q h absent = elim absent [ ]
 place_found s ok side (suc c) least p q h here = rw (place_from, eq-eqb (number (width_of s) s p) (number (width_of s) s p) refl)
 place_found s ok side (suc c) least p q h (there i) = rw (place_from, ne_eqb (number (width_of s) s p) (number (width_of s) s q) (λ e. omega (arith, rises s ok c least p q h i))) (place_found s ok side c (suc (number (width_of s) s p)) (p + axiom_length (width_of s) s p) q (later_none s c least p h).1 i)
 

@@ -1,0 +1,12 @@
+use native.Mathlib.Omega.{arith}
+use Rattle.marks.proofs.Squares.{kept_same}
+use Prim.Native.Nat.{suc, ◌≤◌, ◌-◌}
+use Rattle.marks.specs.Squares.{Kept}
+use Rattle.marks.proofs.Squares.{kept_further, frame_area}
+use Rattle.marks.proofs.hints.turn_row.Given as goal
+
+abbrev pub invariant-loop-y : goal.invariant-loop-y
+invariant-loop-y l = (l.y ≤ suc l.square.names) × Kept l.square l.initial.work l.work
+
+abbrev pub decreases-loop-y : goal.decreases-loop-y
+decreases-loop-y l = suc l.square.names - l.y

@@ -1,0 +1,47 @@
+use native.Mathlib.Omega.{arith}
+use borrow.Author.Rules.{rules}
+use Prim.Native.Nat.{suc, ◌≤◌, ◌-◌}
+use mathlib.Core.Path.{◌≡◌, refl, ◌∙◌}
+use Rattle.marks.proofs.Passes.{pass_none, pass_still}
+use Rattle.marks.proofs.Squares.{frame_room, refuted}
+use Rattle.marks.proofs.Lines.{FullTo, filled_none, filled_has, filled_there, filled_end, missing_pass}
+use Rattle.marks.proofs.line.absorb_missing.Goals as goal
+
+pub returns-then-seems_full : goal.returns-then-seems_full
+returns-then-seems_full c = pass_none (c.seems_full.ensures c.if-seems_full.true)
+
+pub loop-y-init : goal.loop-y-init
+loop-y-init c = (search rules, refl, filled_none)
+
+pub has-requires : goal.has-requires
+has-requires c = record { inside = omega (arith, c.loop-y-test.true, c.requires.spans.inside) }
+
+pub overflow_add-y : goal.overflow_add-y
+overflow_add-y c = omega (arith, c.loop-y-test.true, c.requires.room.small.few)
+
+pub loop-y-smaller-then-has : goal.loop-y-smaller-then-has
+loop-y-smaller-then-has c = omega (arith, c.loop-y-test.true)
+
+pub loop-y-preserved-then-has : goal.loop-y-preserved-then-has
+loop-y-preserved-then-has c = (omega (arith, c.loop-y-test.true), c.loop-y.invariant.1, filled_has (c.has.ensures.sound c.if-has.true) c.loop-y.invariant.2)
+
+pub mark-requires : goal.mark-requires
+mark-requires c = record { room = rw c.loop-y.invariant.1 c.requires.room; x_le_names = (c.requires.x_le_names, c.loop-y-test.true) }
+
+pub mark_missing-requires : goal.mark_missing-requires
+mark_missing-requires c = record { room = frame_room c.mark.ensures.extends.frame (rw c.loop-y.invariant.1 c.requires.room); x_le_names = c.requires.x_le_names; spans = c.requires.spans }
+
+pub returns-then-mark : goal.returns-then-mark
+returns-then-mark c = rw (← c.loop-y.invariant.1) (missing_pass c.mark.ensures c.if-mark.true (refuted c.has.ensures c.if-has.false) c.mark_missing.ensures)
+
+pub overflow_add-y-else-mark : goal.overflow_add-y-else-mark
+overflow_add-y-else-mark c = omega (arith, c.loop-y-test.true, c.requires.room.small.few)
+
+pub loop-y-smaller : goal.loop-y-smaller
+loop-y-smaller c = omega (arith, c.loop-y-test.true)
+
+pub loop-y-preserved : goal.loop-y-preserved
+loop-y-preserved c = (omega (arith, c.loop-y-test.true), c.mark.ensures.same c.if-mark.false ∙ c.loop-y.invariant.1, filled_there c.mark.ensures.there (rw (c.mark.ensures.same c.if-mark.false) c.loop-y.invariant.2))
+
+pub returns : goal.returns
+returns c = pass_still c.loop-y.invariant.1 (filled_end c.loop-y-test.false c.loop-y.invariant.2)

@@ -1,0 +1,14 @@
+use native.Mathlib.Omega.{arith}
+use borrow.Author.Rules.{rules}
+use Prim.Native.Nat.{suc, ◌≤◌, ◌-◌}
+use mathlib.Core.Path.{◌≡◌, refl, ◌∙◌}
+use Rattle.marks.proofs.Passes.{pass_none, pass_still}
+use Rattle.marks.proofs.Squares.{frame_room, refuted}
+use Rattle.marks.proofs.Lines.{FullTo, filled_none, filled_has, filled_there, filled_end, missing_pass}
+use Rattle.marks.proofs.line.absorb_missing.Given as goal
+
+abbrev pub invariant-loop-y : goal.invariant-loop-y
+invariant-loop-y l = (l.y ≤ suc l.square.names) × (l.work ≡ l.initial.work) × FullTo l.square l.line l.x l.y l.work
+
+abbrev pub decreases-loop-y : goal.decreases-loop-y
+decreases-loop-y l = suc l.square.names - l.y

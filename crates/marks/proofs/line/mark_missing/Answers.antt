@@ -1,0 +1,43 @@
+use native.Mathlib.Omega.{arith}
+use borrow.Author.Rules.{rules}
+use Prim.Native.Nat.{suc, ◌≤◌, ◌-◌, ◌/◌}
+use mathlib.Core.Path.{◌≡◌, refl}
+use lib.ListN.{length, length-set}
+use Rattle.marks.specs.Passes.{Grows, none}
+use Rattle.marks.specs.Lines.{Missing}
+use Rattle.marks.proofs.Squares.{row_inside}
+use Rattle.marks.proofs.Lines.{missing_further}
+use Rattle.marks.proofs.line.mark_missing.Goals as goal
+
+pub loop-i-init : goal.loop-i-init
+loop-i-init c = (search rules, refl, none)
+
+pub bounds-line-i : goal.bounds-line-i
+bounds-line-i c = omega (arith, c.loop-i-test.true, c.requires.spans.inside)
+
+pub overflow_add-had : goal.overflow_add-had
+overflow_add-had c = omega (arith, (row_inside c.requires.room c.requires.x_le_names c.loop-i-test.true c.place-target.ensures).1)
+
+pub bounds-work-target : goal.bounds-work-target
+bounds-work-target c = omega (arith, (row_inside c.requires.room c.requires.x_le_names c.loop-i-test.true c.place-target.ensures).0, c.loop-i.invariant.1)
+
+pub overflow_add-work : goal.overflow_add-work
+overflow_add-work c = omega (arith, (row_inside c.requires.room c.requires.x_le_names c.loop-i-test.true c.place-target.ensures).1)
+
+pub bounds-work-target-in-loop-i : goal.bounds-work-target-in-loop-i
+bounds-work-target-in-loop-i c = omega (arith, (row_inside c.requires.room c.requires.x_le_names c.loop-i-test.true c.place-target.ensures).0, c.loop-i.invariant.1)
+
+pub overflow_add-i : goal.overflow_add-i
+overflow_add-i c = omega (arith, c.loop-i-test.true, c.requires.room.small.few)
+
+pub loop-i-smaller : goal.loop-i-smaller
+loop-i-smaller c = omega (arith, c.loop-i-test.true)
+
+pub loop-i-preserved : goal.loop-i-preserved
+loop-i-preserved c = (omega (arith, c.loop-i-test.true), simp length-set c.loop-i.invariant.1, missing_further c.loop-i.i c.loop-i.invariant.2 c.requires.room c.requires.x_le_names c.loop-i-test.true c.place-target.ensures.is)
+
+pub shape_of-work : goal.shape_of-work
+shape_of-work c = c.loop-i.invariant.1
+
+pub returns : goal.returns
+returns c = c.loop-i.invariant.2

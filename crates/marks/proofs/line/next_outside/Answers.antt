@@ -1,0 +1,56 @@
+use mathlib.Core.Path.{refl}
+use native.Mathlib.Omega.{arith}
+use borrow.Author.Rules.{rules}
+use Prim.Native.Nat.{◌+◌, ◌-◌}
+use Rattle.marks.proofs.Lines.{InBefore, out_start, out_none}
+use Rattle.marks.proofs.Scans.{row_at_lem, line_at, out_found, out_block}
+use Rattle.marks.proofs.WordBits.{end_after}
+use Rattle.marks.proofs.line.next_outside.Goals as goal
+
+-- src/line.rt:75:5
+pub loop-y-init : goal.loop-y-init
+loop-y-init c = out_start _ refl
+
+-- src/line.rt:76:13
+pub rest-out-requires : goal.rest-out-requires
+rest-out-requires c = line_at (omega (arith, c.requires.room.small.few)) c.loop-y-test.true c.requires.spans
+
+-- src/line.rt:77:13
+pub rest-all-requires : goal.rest-all-requires
+rest-all-requires c = row_at_lem c.requires.room c.requires.x_le_names.0 c.loop-y-test.true c.place-row.ensures
+
+-- src/line.rt:80:29
+pub first_bit-requires : goal.first_bit-requires
+first_bit-requires c = c.if-rest-gt0.true
+
+-- src/line.rt:80:25
+pub overflow_add-found : goal.overflow_add-found
+overflow_add-found c = omega (arith, c.first_bit.ensures.few, c.loop-y-test.true, c.requires.room.small.few)
+
+-- src/line.rt:81:13
+pub or_none-requires : goal.or_none-requires
+or_none-requires c = omega (arith, c.requires.room.small.few)
+
+-- src/line.rt:81:13
+pub returns-then-rest-gt0 : goal.returns-then-rest-gt0
+returns-then-rest-gt0 c = out_found c.place-row.ensures c.rest-all.ensures c.rest-out.ensures c.loop-y.invariant c.first_bit.ensures c.requires.x_le_names.1 c.or_none.ensures
+
+-- src/line.rt:83:9
+pub block_end-y-requires : goal.block_end-y-requires
+block_end-y-requires c = (c.loop-y-test.true, omega (arith, c.requires.room.small.few))
+
+-- src/line.rt:75:5
+pub loop-y-smaller : goal.loop-y-smaller
+loop-y-smaller c = omega (arith, c.loop-y-test.true, c.block_end-y.ensures, end_after c.args.square.names c.loop-y.y)
+
+-- src/line.rt:75:5
+pub loop-y-preserved : goal.loop-y-preserved
+loop-y-preserved c = out_block c.place-row.ensures c.rest-all.ensures c.rest-out.ensures c.loop-y.invariant c.block_end-y.ensures c.if-rest-gt0.false
+
+-- src/line.rt:85:5
+pub overflow_add-result : goal.overflow_add-result
+overflow_add-result c = omega (arith, c.requires.room.small.few)
+
+-- src/line.rt:67:1
+pub returns : goal.returns
+returns c = out_none c.requires.x_le_names.1 c.loop-y.invariant c.loop-y-test.false

@@ -1,0 +1,14 @@
+use Prim.Native.Nat.{suc, ◌*◌, ◌-◌, ◌/◌}
+use native.Mathlib.Omega.{arith}
+use borrow.Author.Rules.{rules}
+use borrow.Author.Tests.{eqb-true}
+use Rattle.marks.proofs.Squares.{row_inside}
+use Rattle.marks.proofs.Scans.{SeenWithin, seen_none, seen_more, seen_within}
+use Rattle.marks.proofs.WordBits.{byte_read}
+use Rattle.marks.proofs.rows.bytes_within.Given as goal
+
+abbrev pub invariant-loop-i : goal.invariant-loop-i
+invariant-loop-i l = SeenWithin l.square l.work l.from l.to (8 * l.i) l.missing
+
+abbrev pub decreases-loop-i : goal.decreases-loop-i
+decreases-loop-i l = suc (l.square.names / 8) - l.i

@@ -1,0 +1,13 @@
+use Prim.Native.Nat.{◌+◌, ◌-◌}
+use mathlib.Core.Path.{refl}
+use native.Mathlib.Omega.{arith}
+use borrow.Author.Rules.{rules}
+use Rattle.marks.proofs.Squares.{AllBefore, all_start, unmarked_here, all_one, all_byte, unmarked_none}
+use Rattle.marks.proofs.rows.next_unmarked.Given as goal
+
+-- all is marked before y
+abbrev pub invariant-loop-y : goal.invariant-loop-y
+invariant-loop-y l = AllBefore l.square l.work l.x l.from l.y
+
+abbrev pub decreases-loop-y : goal.decreases-loop-y
+decreases-loop-y l = 8 + l.square.names - l.y

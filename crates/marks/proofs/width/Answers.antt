@@ -1,0 +1,6 @@
+use Rattle.marks.proofs.Squares.{width_is}
+use borrow.Author.Rules.{rules}
+use Rattle.marks.proofs.width.Goals as goal
+
+pub returns : goal.returns
+returns c = width_is c.args.names c.requires

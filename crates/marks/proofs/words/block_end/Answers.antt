@@ -1,0 +1,12 @@
+use mathlib.Core.Path.{sym}
+use Rattle.marks.proofs.WordBits.{end_of_word, end_of_byte}
+use borrow.Author.Rules.{rules}
+use Rattle.marks.proofs.words.block_end.Goals as goal
+
+-- src/words.rt:52:9
+pub returns-then-y-names : goal.returns-then-y-names
+returns-then-y-names c = sym (end_of_word _ _ c.if-y-names.true)
+
+-- src/words.rt:47:1
+pub returns : goal.returns
+returns c = sym (end_of_byte _ _ c.if-y-names.false)

@@ -1,0 +1,8 @@
+use mathlib.Core.Path.{◌∙◌}
+use Rattle.release.specs.Tables.{count_at}
+use borrow.Author.Rules.{rules}
+use Rattle.release.proofs.table.count.Goals as goal
+
+pub returns : goal.returns
+unfolding count_at
+returns c = c.wide.ensures ∙ rw c.tail-at.ensures

@@ -1,0 +1,7 @@
+use Rattle.release.specs.Tables.{kind_at}
+use borrow.Author.Rules.{rules}
+use Rattle.release.proofs.table.kind.Goals as goal
+
+pub returns : goal.returns
+unfolding kind_at
+returns c = c.wide_16.ensures

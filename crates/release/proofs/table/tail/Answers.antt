@@ -1,0 +1,7 @@
+use Rattle.release.specs.Tables.{tail_at}
+use borrow.Author.Rules.{rules}
+use Rattle.release.proofs.table.tail.Goals as goal
+
+pub returns : goal.returns
+unfolding tail_at
+returns c = c.wide_16.ensures
