@@ -37,7 +37,7 @@ module _ {s t : List ℕ} {q : Square} {w : List ℕ} (shaped : Shaped q.names s
   looked : {x b : ℕ} → x ≤ q.names → b < q.names → Looked s t q x b w
   looked {x} {b} h l =
       let row = rows.at b (omega arith) in
-      let own = row.own_val.spread l in
+      let own = row.own.spread l in
       record {
         spread = record {
           parts = λ j m. record { at = λ i k. record { is = handed_on h (omega arith) (omega (arith, shaped.part b i l j k)) m ((own.parts j row.seeded.itself).at i k).is } };

@@ -73,14 +73,14 @@ module _ {n k c : ℕ} {o : List ℕ} (before : Written n k c o) (v w u l : ℕ)
   abbrev after : List ℕ
   after = put_atom o c v w u
 
-  owner_at : (j : ℕ) → j < c + 1 → owner_at after j < k
-  owner_at j m = elim (ℕ_discrete j c) [
+  owner_at_lem : (j : ℕ) → j < c + 1 → owner_at after j < k
+  owner_at_lem j m = elim (ℕ_discrete j c) [
     | yes e ↦ rw (e, put_owner o c v w u h) old_owner
     | no e ↦ let z : j < c = omega arith in rw (owner_before o c v w u j z) (before.owner j z)
   ]
 
-  child_at : (j : ℕ) → j < c + 1 → child_at after j < l
-  child_at j m = elim (ℕ_discrete j c) [
+  child_at_lem : (j : ℕ) → j < c + 1 → child_at after j < l
+  child_at_lem j m = elim (ℕ_discrete j c) [
     | yes e ↦ rw (e, put_child o c v w u h) child_in
     | no e ↦ let z : j < c = omega arith in rw (child_before o c v w u j z) (omega (arith, before.child j z))
   ]
@@ -95,7 +95,7 @@ module _ {n k c : ℕ} {o : List ℕ} (before : Written n k c o) (v w u l : ℕ)
   later_at i j m g p = elim (ℕ_discrete i c) [
     | yes e ↦ (
         let w1 : child_at after i ≡ u = rw e (put_child o c v w u h) in
-        omega (arith, owner_at j (omega arith), new_child (omega (arith, w1)), w1))
+        omega (arith, owner_at_lem j (omega arith), new_child (omega (arith, w1)), w1))
     | no e ↦ (
         let z : i < c = omega arith in
         let z2 : j < c = omega arith in
@@ -103,7 +103,7 @@ module _ {n k c : ℕ} {o : List ℕ} (before : Written n k c o) (v w u l : ℕ)
   ]
 
   pub written_more : Written n l (c + 1) after
-  written_more = record { owner = λ j m. omega (arith, owner_at j m); child = child_at; named = named_at; later = later_at }
+  written_more = record { owner = λ j m. omega (arith, owner_at_lem j m); child = child_at_lem; named = named_at; later = later_at }
 
 -- atoms as lists
 atoms_same : (o p : List ℕ) (i c : ℕ) → ((j : ℕ) → j < i + c → atom_at o j ≡ atom_at p j) → atoms_from o i c ≡ atoms_from p i c

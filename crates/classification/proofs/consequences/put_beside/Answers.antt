@@ -1,0 +1,16 @@
+use Rattle.marks.proofs.Passes.{grows_further}
+use Rattle.classification.proofs.Marking.{setting_stays, row_grows}
+use borrow.Author.Rules.{rules}
+use Rattle.classification.proofs.consequences.put_beside.Goals as goal
+
+pub hand_over-requires : goal.hand_over-requires
+hand_over-requires c = let h = c.requires in record { room = h.setting.room; c_le_names = (h.column, h.row) }
+
+pub returns-then-square-y : goal.returns-then-square-y
+returns-then-square-y c = let h = c.requires in row_grows h.marked h.column c.hand_over.ensures
+
+pub put_gathered-requires : goal.put_gathered-requires
+put_gathered-requires c = let h = c.requires in record { setting = setting_stays (row_grows h.marked h.column c.hand_over.ensures) h.setting; row = h.row; name = c.if-square-y.false }
+
+pub returns : goal.returns
+returns c = let h = c.requires in grows_further (row_grows h.marked h.column c.hand_over.ensures) c.put_gathered.ensures

@@ -1,0 +1,16 @@
+use native.Mathlib.Omega.{arith}
+use borrow.Author.Rules.{rules}
+use mathlib.Core.Path.{◌≡◌, refl}
+use Prim.Native.Nat.{suc, ◌-◌}
+use lib.ListN.{length}
+use Rattle.marks.specs.Passes.{Grows, none}
+use Rattle.marks.proofs.Passes.{grows_further}
+use Rattle.classification.specs.Steps.{Step}
+use Rattle.classification.proofs.Marking.{in_row_at, in_row_stays, gather_grows}
+use Rattle.classification.proofs.consequences.put_gathered.Given as goal
+
+abbrev pub invariant-loop-next : goal.invariant-loop-next
+invariant-loop-next l = (length l.work ≡ length l.initial.work) × Grows (Step l.file l.table l.square) l.square l.initial.work l.work
+
+abbrev pub decreases-loop-next : goal.decreases-loop-next
+decreases-loop-next l = suc l.square.names - l.next

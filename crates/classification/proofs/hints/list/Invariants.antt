@@ -1,0 +1,13 @@
+use native.Mathlib.Omega.{arith}
+use mathlib.Core.Path.{sym, ◌∙◌}
+use Prim.Native.Nat.{◌-◌}
+use Rattle.marks.specs.Squares.{Kept}
+use Rattle.marks.proofs.Squares.{kept_same, kept_further, frame_area}
+use Rattle.classification.proofs.Marking.{shaped_row, joined}
+use Rattle.classification.proofs.hints.list.Given as goal
+
+abbrev pub invariant-loop-next : goal.invariant-loop-next
+invariant-loop-next l = Kept l.square l.initial.work l.work
+
+abbrev pub decreases-loop-next : goal.decreases-loop-next
+decreases-loop-next l = l.square.names - l.next

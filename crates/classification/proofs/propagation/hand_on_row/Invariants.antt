@@ -1,0 +1,17 @@
+use Prim.Native.Nat.{suc, ◌≤◌, ◌-◌}
+use mathlib.Core.Path.{◌≡◌, refl}
+use native.Mathlib.Omega.{arith}
+use borrow.Author.Rules.{rules}
+use lib.ListN.{length}
+use Rattle.marks.specs.Passes.{Grows, none}
+use Rattle.marks.proofs.Passes.{grows_further}
+use Rattle.classification.specs.Steps.{Step}
+use Rattle.classification.proofs.Marking.{setting_stays, row_grows}
+use Rattle.classification.proofs.propagation.hand_on_row.Given as goal
+
+-- marks put by the rules
+abbrev pub invariant-loop-next : goal.invariant-loop-next
+invariant-loop-next l = (l.next ≤ suc l.square.names) × (length l.work ≡ length l.initial.work) × Grows (Step l.file l.table l.square) l.square l.initial.work l.work
+
+abbrev pub decreases-loop-next : goal.decreases-loop-next
+decreases-loop-next l = suc l.square.names - l.next

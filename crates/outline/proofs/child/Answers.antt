@@ -1,0 +1,7 @@
+use Rattle.outline.specs.Atoms.{child_at}
+use borrow.Author.Rules.{rules}
+use Rattle.outline.proofs.child.Goals as goal
+
+pub returns : goal.returns
+unfolding child_at
+returns c = c.wide.ensures
