@@ -1,0 +1,11 @@
+-- `root_reaches` meets its contract: no atom of the root before `next` does.
+use Prim.Native.Nat.{◌≤◌, ◌-◌}
+use native.Mathlib.Omega.{arith}
+use Rattle.points.proofs.LosingRoots.{from_root, NoneBefore, none_start, none_other, none_own, none_end, one_found}
+use Rattle.points.proofs.roots.root_reaches.Given as goal
+
+abbrev pub invariant-loop-next : goal.invariant-loop-next
+invariant-loop-next l = (l.next ≤ l.extent.atoms) × NoneBefore l.table l.square l.work l.atoms l.nodes l.lost l.k l.role l.j l.next
+
+abbrev pub decreases-loop-next : goal.decreases-loop-next
+decreases-loop-next l = l.extent.atoms - l.next

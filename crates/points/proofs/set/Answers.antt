@@ -1,0 +1,7 @@
+use Rattle.points.specs.Grids.{cell}
+use borrow.Author.Rules.{rules}
+use Rattle.points.proofs.set.Goals as goal
+
+pub returns : goal.returns
+unfolding cell
+returns c = c.add.ensures
