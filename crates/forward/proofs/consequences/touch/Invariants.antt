@@ -1,0 +1,13 @@
+-- The line is a hint, so only its length is at stake. Invariant: the line keeps its length.
+use native.Mathlib.Omega.{arith}
+use borrow.Author.Rules.{rules}
+use Prim.Native.Nat.{suc, ◌-◌}
+use mathlib.Core.Path.{◌≡◌, refl, ◌∙◌}
+use lib.ListN.{length}
+use Rattle.forward.proofs.consequences.touch.Given as goal
+
+abbrev pub invariant-loop-next : goal.invariant-loop-next
+invariant-loop-next l = length l.touched ≡ length l.initial.touched
+
+abbrev pub decreases-loop-next : goal.decreases-loop-next
+decreases-loop-next l = suc l.layout.names - l.next
