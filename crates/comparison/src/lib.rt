@@ -21,7 +21,7 @@ fn write_marked(
     first_table: &[u16],
     second_table: &[u16],
     signature: &[u8],
-    res: &mut [u8],
+    result_bytes: &mut [u8],
     work: &mut [u8],
     names: usize,
     roles: usize,
@@ -29,8 +29,8 @@ fn write_marked(
 )
     requires given { Given signature.now first.now second.now first_table.now second_table.now names roles work.old }
     requires size { IsSize names size × Ready first.now second.now names size work.old }
-    requires names_in_bounds { names ≤ length res.old }
-    ensures { Marking signature.now first.now second.now names roles size res.old res.new work.old work.new }
+    requires names_in_bounds { names ≤ length result_bytes.old }
+    ensures { Marking signature.now first.now second.now names roles size result_bytes.old result_bytes.new work.old work.new }
 {
     mark(
         first,
@@ -57,7 +57,7 @@ fn write_marked(
         second: size,
         marks: 3 * size,
     };
-    write_bytes(signature, work, res, forward, backward);
+    write_bytes(signature, work, result_bytes, forward, backward);
 }
 
 // Writes the byte of each name into the first bytes of `result`. The work memory is 0 again as far as it is used.
@@ -67,14 +67,14 @@ pub fn compare_tables(
     first_table: &[u16],
     second_table: &[u16],
     signature: &[u8],
-    res: &mut [u8],
+    result_bytes: &mut [u8],
     work: &mut [u8],
     names: usize,
     roles: usize,
 )
     requires given { Given signature.now first.now second.now first_table.now second_table.now names roles work.old }
-    requires names_in_bounds { names ≤ length res.old }
-    ensures { Compared signature.now first.now second.now names roles res.old res.new work.old work.new }
+    requires names_in_bounds { names ≤ length result_bytes.old }
+    ensures { Compared signature.now first.now second.now names roles result_bytes.old result_bytes.new work.old work.new }
 {
     let size = marks::size(names);
     prepare(first, second, first_table, second_table, work, names, size);
@@ -84,7 +84,7 @@ pub fn compare_tables(
         first_table,
         second_table,
         signature,
-        res,
+        result_bytes,
         work,
         names,
         roles,
@@ -100,15 +100,15 @@ pub fn compare_prepared(
     first_table: &[u16],
     second_table: &[u16],
     signature: &[u8],
-    res: &mut [u8],
+    result_bytes: &mut [u8],
     work: &mut [u8],
     names: usize,
     roles: usize,
 )
     requires given { Given signature.now first.now second.now first_table.now second_table.now names roles work.old }
     requires ready { Ready first.now second.now names (size names) work.old }
-    requires names_in_bounds { names ≤ length res.old }
-    ensures { ComparedAgain signature.now first.now second.now names roles res.old res.new work.old work.new }
+    requires names_in_bounds { names ≤ length result_bytes.old }
+    ensures { ComparedAgain signature.now first.now second.now names roles result_bytes.old result_bytes.new work.old work.new }
 {
     let size = marks::size(names);
     write_marked(
@@ -117,7 +117,7 @@ pub fn compare_prepared(
         first_table,
         second_table,
         signature,
-        res,
+        result_bytes,
         work,
         names,
         roles,

@@ -36,15 +36,21 @@ fn byte_of(signature: &[u8], work: &[u8], forward: Layout, backward: Layout, nam
 }
 
 // Writes the bytes of all names.
-pub fn write_bytes(signature: &[u8], work: &[u8], res: &mut [u8], forward: Layout, backward: Layout)
+pub fn write_bytes(
+    signature: &[u8],
+    work: &[u8],
+    result_bytes: &mut [u8],
+    forward: Layout,
+    backward: Layout,
+)
     requires readable { Readable signature.now forward backward work.now }
-    requires names_in_bounds { forward.names ≤ length res.old }
-    ensures { Written signature.now forward backward work.now forward.names res.old res.new }
+    requires names_in_bounds { forward.names ≤ length result_bytes.old }
+    ensures { Written signature.now forward backward work.now forward.names result_bytes.old result_bytes.new }
 {
     let mut name = 0;
     while name < forward.names {
         let byte = byte_of(signature, work, forward, backward, name);
-        res[name] = byte;
+        result_bytes[name] = byte;
         name += 1;
     }
 }

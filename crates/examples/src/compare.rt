@@ -17,21 +17,27 @@ pub(crate) fn judge(case: &[u8]) -> Verdict {
     with_result(case, &mut result[..length])
 }
 
-fn with_result(case: &[u8], res: &mut [u8]) -> Verdict {
+fn with_result(case: &[u8], result_bytes: &mut [u8]) -> Verdict {
     let mut work = [0u8; ROOM];
     let length = value(case, 4);
     if ROOM < length {
         return Verdict::Differs(What::Length, ROOM, length);
     }
-    memory::mark(res);
-    compared(case, res, &mut work[..length])
+    memory::mark(result_bytes);
+    compared(case, result_bytes, &mut work[..length])
 }
 
-fn compared(case: &[u8], res: &mut [u8], work: &mut [u8]) -> Verdict {
+fn compared(case: &[u8], result_bytes: &mut [u8], work: &mut [u8]) -> Verdict {
     memory::mark(work);
-    let got = meanings::compare_releases(field(case, 0), field(case, 1), field(case, 2), res, work);
+    let got = meanings::compare_releases(
+        field(case, 0),
+        field(case, 1),
+        field(case, 2),
+        result_bytes,
+        work,
+    );
     answered(case, got)
-        .and(memory::same_start(res, field(case, 7)))
+        .and(memory::same_start(result_bytes, field(case, 7)))
         .and(memory::zero_start(work, value(case, 8)))
 }
 

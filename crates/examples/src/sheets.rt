@@ -179,14 +179,14 @@ fn single_row(case: &[u8], i: usize, length: usize, names: usize, row: Row) -> V
 }
 
 // The row, counted name by name.
-fn counted(signature: &[u8], res: &[u8], names: usize) -> Row {
+fn counted(signature: &[u8], result_bytes: &[u8], names: usize) -> Row {
     let mut chosen: u32 = 0;
     let mut left: u32 = 0;
     let mut right: u32 = 0;
     let mut reported: u32 = 0;
     let mut name: usize = 0;
     while name < names {
-        let told = byte(res, name);
+        let told = byte(result_bytes, name);
         chosen = with_one(chosen, byte(signature, name) == 1);
         left = with_one(left, told % 2 == 1);
         right = with_one(right, 2 <= told);

@@ -130,13 +130,13 @@ pub extern "C" fn berrytick_compare(
     first: &[u8],
     second: &[u8],
     signature: &[u8],
-    res: &mut [u8],
+    result_bytes: &mut [u8],
     work: &mut [u8],
 ) -> u32
     ensures { CompareReturns first.now second.now signature.now
-        res.old res.new work.old work.new result }
+        result_bytes.old result_bytes.new work.old work.new result }
 {
-    comparison_code(compare_releases(first, second, signature, res, work))
+    comparison_code(compare_releases(first, second, signature, result_bytes, work))
 }
 
 // Compares two releases over `count` signatures: a row for each.

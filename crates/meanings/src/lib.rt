@@ -76,9 +76,15 @@ pub fn agree(first: Checked, second: Checked) -> Comparison
 }
 
 // The whole answer: refusals in their order.
-fn judge(first: Checked, second: Checked, signature: &[u8], res: usize, work: usize) -> Comparison
+fn judge(
+    first: Checked,
+    second: Checked,
+    signature: &[u8],
+    result_length: usize,
+    work: usize,
+) -> Comparison
     requires { Limited first }
-    ensures { result ≡ judged first second signature.now res work }
+    ensures { result ≡ judged first second signature.now result_length work }
 {
     let agreed = agree(first, second);
     let Comparison::Accepted(counts) = agreed else {
@@ -89,7 +95,7 @@ fn judge(first: Checked, second: Checked, signature: &[u8], res: usize, work: us
     if fault != 0 {
         return refused(fault, 0);
     }
-    if res < names {
+    if result_length < names {
         return refused(31, 0);
     }
     if lacks_work(work, names) {
@@ -103,10 +109,10 @@ pub fn compare_releases(
     first: &[u8],
     second: &[u8],
     signature: &[u8],
-    res: &mut [u8],
+    result_bytes: &mut [u8],
     work: &mut [u8],
 ) -> Comparison
-    ensures { Says first.now second.now signature.now res.old res.new work.old work.new result }
+    ensures { Says first.now second.now signature.now result_bytes.old result_bytes.new work.old work.new result }
 {
     let mut first_table = [0u16; Table::LENGTH];
     let first_checked = read_release(first, &mut first_table);
@@ -116,7 +122,7 @@ pub fn compare_releases(
         first_checked,
         second_checked,
         signature,
-        res.len(),
+        result_bytes.len(),
         work.len(),
     );
     let Comparison::Accepted(counts) = answer else {
@@ -128,7 +134,7 @@ pub fn compare_releases(
         &first_table,
         &second_table,
         signature,
-        res,
+        result_bytes,
         work,
         counts.names as usize,
         counts.roles as usize,

@@ -39,16 +39,16 @@ fn refused(number: u8) -> Written
 }
 
 // Writes the report of a comparison whose result is the first `names` bytes of `result`.
-pub fn write_report(names: u16, roles: u8, res: &[u8], output: &mut [u8]) -> Written
-    ensures { WrittenAs (report_answer names roles res.now output.old)
-        (report_text names roles res.now) output.old output.new result }
+pub fn write_report(names: u16, roles: u8, result_bytes: &[u8], output: &mut [u8]) -> Written
+    ensures { WrittenAs (report_answer names roles result_bytes.now output.old)
+        (report_text names roles result_bytes.now) output.old output.new result }
 {
     let name_count = names as usize;
     let role_count = wide(roles);
-    if res.len() < name_count {
+    if result_bytes.len() < name_count {
         return refused(SHORT_RESULT);
     }
-    let bytes = &res[..name_count];
+    let bytes = &result_bytes[..name_count];
     let left = count(LEFT, bytes);
     let right = count(RIGHT, bytes);
     let length = report_length(name_count, role_count, left, right, bytes);
@@ -75,11 +75,16 @@ pub fn write_refusal(refusal: Refusal, output: &mut [u8]) -> Written
 }
 
 // Writes the report of an accepted comparison with this result, or the line of a refused one.
-pub fn write_answer(answer: Comparison, res: &[u8], output: &mut [u8]) -> Written
-    ensures { WrittenAs (answer_to answer res.now output.old) (answer_text answer res.now) output.old output.new result }
+pub fn write_answer(answer: Comparison, result_bytes: &[u8], output: &mut [u8]) -> Written
+    ensures { WrittenAs (answer_to answer result_bytes.now output.old) (answer_text answer result_bytes.now) output.old output.new result }
 {
     match answer {
-        Comparison::Accepted(counts) => write_report(counts.names, counts.roles, res, output),
+        Comparison::Accepted(counts) => write_report(
+            counts.names,
+            counts.roles,
+            result_bytes,
+            output,
+        ),
         Comparison::Refused(refusal) => write_refusal(refusal, output),
     }
 }

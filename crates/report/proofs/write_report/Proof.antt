@@ -27,7 +27,7 @@ count_requires_2 c κs = search rules
 report_length_requires : tie.Need-report-length-requires
 report_length_requires c κs =
     let n = c.before.before.before.before.before.before.before.args.names in
-    let long = length-take n c.before.before.before.before.before.before.before.args.res.now in
+    let long = length-take n c.before.before.before.before.before.before.before.args.result_bytes.now in
     record {
       names = omega arith;
       roles = omega (arith, c.before.before.before.before.wide.ensures);

@@ -1,0 +1,6 @@
+use Rattle.meanings.proofs.Judging.{work_length_lem}
+use borrow.Author.Rules.{rules}
+use Rattle.meanings.proofs.lacks_work.Goals as goal
+
+pub returns : goal.returns
+returns c = rw (work_length_lem _ _ c.size.ensures.0)
