@@ -1,0 +1,6 @@
+use Rattle.branches.proofs.Counts.{told}
+use borrow.Author.Rules.{rules}
+use Rattle.branches.proofs.row.tell.Goals as goal
+
+pub returns : goal.returns
+returns c = told _ _ c.count-chosen.ensures.0 c.count.ensures.0 c.count-right_only.ensures.0 c.count-both.ensures.0 c.share.ensures
