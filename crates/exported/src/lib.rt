@@ -66,8 +66,7 @@ fn comparison_code(answer: Comparison) -> u32
 }
 
 // Checks a release: n, m and a, its counts of names, roles and axioms.
-#[unsafe(no_mangle)]
-pub extern "C" fn berrytick_check(file: &[u8], counts: &mut [u32; 3]) -> u32
+pub fn berrytick_check(file: &[u8], counts: &mut [u32; 3]) -> u32
     ensures { CheckReturns file.now counts.old counts.new result }
 {
     let checked = check_release(file);
@@ -85,8 +84,7 @@ pub extern "C" fn berrytick_check(file: &[u8], counts: &mut [u32; 3]) -> u32
 }
 
 // Asks whether a concept lies below another: 1 for yes and 0 for no.
-#[unsafe(no_mangle)]
-pub extern "C" fn berrytick_ask(
+pub fn berrytick_ask(
     file: &[u8],
     below: &[u8],
     above: &[u8],
@@ -108,8 +106,7 @@ pub extern "C" fn berrytick_ask(
 
 // Shows the axiom of a name of the release on a side: the side that holds it, where it starts there and how long it is. Never refuses: where
 // there is none, the part is empty, at the start of the first release.
-#[unsafe(no_mangle)]
-pub extern "C" fn berrytick_show(
+pub fn berrytick_show(
     first: &[u8],
     second: &[u8],
     side: usize,
@@ -125,8 +122,7 @@ pub extern "C" fn berrytick_show(
 }
 
 // Compares two releases: a byte for each name in the result.
-#[unsafe(no_mangle)]
-pub extern "C" fn berrytick_compare(
+pub fn berrytick_compare(
     first: &[u8],
     second: &[u8],
     signature: &[u8],
@@ -140,8 +136,7 @@ pub extern "C" fn berrytick_compare(
 }
 
 // Compares two releases over `count` signatures: a row for each.
-#[unsafe(no_mangle)]
-pub extern "C" fn berrytick_compare_branches<'a>(
+pub fn berrytick_compare_branches<'a>(
     first: &'a [u8],
     second: &'a [u8],
     signatures: &'a [u8],
@@ -171,13 +166,7 @@ fn give_rewriting(answer: Rewriting, length: &mut u32) -> u32
 
 // Writes a release as a file of a wanted version, 1 or 2, to the start of the output: its length. Another version is refused 3, side 0,
 // before the release is read.
-#[unsafe(no_mangle)]
-pub extern "C" fn berrytick_rewrite(
-    file: &[u8],
-    wanted: usize,
-    output: &mut [u8],
-    length: &mut u32,
-) -> u32
+pub fn berrytick_rewrite(file: &[u8], wanted: usize, output: &mut [u8], length: &mut u32) -> u32
     ensures { RewriteReturns wanted file.now output.old output.new
         length.old length.new result }
 {
@@ -205,8 +194,7 @@ fn give_text(answer: Written, length: &mut u32) -> u32
 
 // Compares two releases and writes the report to the start of the output: its length. An output that is shorter than the longest report is
 // refused 33, side 0, before anything is compared, since comparing changes the work memory.
-#[unsafe(no_mangle)]
-pub extern "C" fn berrytick_report(
+pub fn berrytick_report(
     first: &[u8],
     second: &[u8],
     signature: &[u8],
@@ -230,8 +218,7 @@ pub extern "C" fn berrytick_report(
 }
 
 // The bytes of work memory that releases of this many names need. More names than there can be are refused 4, side 0.
-#[unsafe(no_mangle)]
-pub extern "C" fn berrytick_work_length(names: usize, length: &mut u32) -> u32
+pub fn berrytick_work_length(names: usize, length: &mut u32) -> u32
     ensures { WorkLengthReturns names length.old length.new result }
 {
     if Release::NAMES < names {

@@ -1,0 +1,117 @@
+// The calls of the crate exported under their names for C: each does what the call of its name there does, and promises the same.
+#![tactic(auto)]
+
+ghost use Rattle.exported.specs.Codes.{CheckReturns, AskReturns, ShowReturns, CompareReturns, SheetReturns};
+ghost use Rattle.exported.specs.Codes.{RewriteReturns, ReportReturns, WorkLengthReturns};
+
+use branches::row::Row;
+
+// Checks a release: n, m and a, its counts of names, roles and axioms.
+#[unsafe(no_mangle)]
+pub extern "C" fn berrytick_check(file: &[u8], counts: &mut [u32; 3]) -> u32
+    ensures { CheckReturns file.now counts.old counts.new result }
+{
+    exported::berrytick_check(file, counts)
+}
+
+// Asks whether a concept lies below another: 1 for yes and 0 for no.
+#[unsafe(no_mangle)]
+pub extern "C" fn berrytick_ask(
+    file: &[u8],
+    below: &[u8],
+    above: &[u8],
+    answer: &mut u32,
+    work: &mut [u8],
+) -> u32
+    ensures { AskReturns file.now below.now above.now
+        answer.old answer.new work.old work.new result }
+{
+    exported::berrytick_ask(file, below, above, answer, work)
+}
+
+// Shows the axiom of a name of the release on a side: the side that holds it, where it starts there and how long it is. Never refuses: where
+// there is none, the part is empty, at the start of the first release.
+#[unsafe(no_mangle)]
+pub extern "C" fn berrytick_show(
+    first: &[u8],
+    second: &[u8],
+    side: usize,
+    name: usize,
+    place: &mut [u32; 3],
+) -> u32
+    ensures { ShowReturns first.now second.now side name
+        place.old place.new result }
+{
+    exported::berrytick_show(first, second, side, name, place)
+}
+
+// Compares two releases: a byte for each name in the result.
+#[unsafe(no_mangle)]
+pub extern "C" fn berrytick_compare(
+    first: &[u8],
+    second: &[u8],
+    signature: &[u8],
+    result_bytes: &mut [u8],
+    work: &mut [u8],
+) -> u32
+    ensures { CompareReturns first.now second.now signature.now
+        result_bytes.old result_bytes.new work.old work.new result }
+{
+    exported::berrytick_compare(first, second, signature, result_bytes, work)
+}
+
+// Compares two releases over `count` signatures: a row for each.
+#[unsafe(no_mangle)]
+pub extern "C" fn berrytick_compare_branches<'a>(
+    first: &'a [u8],
+    second: &'a [u8],
+    signatures: &'a [u8],
+    count: usize,
+    work: &mut [u8],
+    rows: &mut [Row],
+) -> u32
+    ensures { SheetReturns first.now second.now signatures.now count
+        rows.old rows.new work.old work.new result }
+{
+    exported::berrytick_compare_branches(first, second, signatures, count, work, rows)
+}
+
+// Writes a release as a file of a wanted version, 1 or 2, to the start of the output: its length. Another version is refused 3, side 0,
+// before the release is read.
+#[unsafe(no_mangle)]
+pub extern "C" fn berrytick_rewrite(
+    file: &[u8],
+    wanted: usize,
+    output: &mut [u8],
+    length: &mut u32,
+) -> u32
+    ensures { RewriteReturns wanted file.now output.old output.new
+        length.old length.new result }
+{
+    exported::berrytick_rewrite(file, wanted, output, length)
+}
+
+// Compares two releases and writes the report to the start of the output: its length. An output that is shorter than the longest report is
+// refused 33, side 0, before anything is compared, since comparing changes the work memory.
+#[unsafe(no_mangle)]
+pub extern "C" fn berrytick_report(
+    first: &[u8],
+    second: &[u8],
+    signature: &[u8],
+    output: &mut [u8],
+    length: &mut u32,
+    work: &mut [u8],
+) -> u32
+    ensures { ReportReturns first.now second.now signature.now
+        output.old output.new length.old length.new work.old work.new result }
+{
+    exported::berrytick_report(first, second, signature, output, length, work)
+}
+
+// The bytes of work memory that releases of this many names need. More names than there can be are refused 4, side 0.
+#[unsafe(no_mangle)]
+pub extern "C" fn berrytick_work_length(names: usize, length: &mut u32) -> u32
+    ensures { WorkLengthReturns names length.old length.new result }
+{
+    exported::berrytick_work_length(names, length)
+}
