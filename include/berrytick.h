@@ -1,6 +1,6 @@
 /* Berrytick: the meaning of two releases of a terminology, compared over a signature.
  *
- * These are the calls of target/staticlib/libexported.a, which `rt staticlib exported` writes, for x86-64 Linux. Each is proved to keep its
+ * These are the calls of target/staticlib/libexported.a, which `tools/library` writes, for x86-64 Linux. Each is proved to keep its
  * promise. docs/FORMAT.md has the files, signatures and concepts, and every refusal with its number.
  *
  * One convention. A call returns 0, or number * 256 + side of a refusal. What it answers it writes to what it is lent for that: numbers of 32

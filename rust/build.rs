@@ -1,5 +1,5 @@
-//! Tells the linker where the library of the proved calls is: in the folder that BERRYTICK_LIBRARY names, or where `rt staticlib exported`
-//! writes it in this repository.
+//! Tells the linker where the library of the proved calls is: in the folder that BERRYTICK_LIBRARY names, or where `tools/library` writes it
+//! in this repository.
 
 use std::path::{Path, PathBuf};
 
