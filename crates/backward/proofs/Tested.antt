@@ -39,7 +39,9 @@ use Rattle.layout.specs.Layouts.{first_square, second_square, mark_square, chose
 use Rattle.layout.specs.Comparing.{Comparing}
 use Rattle.layout.proofs.Layouts as layout
 use Rattle.layout.proofs.Comparing as comparing
-use Rattle.backward.specs.Rules.{Setting, Rows, Named, Squares, PlainColumn, ColumnPart, RowPart, NameLost, Filled, PartnerLost, of_filler, of_nothing, RoleLost, Filling, NoRule, PartLost, RowLost, by_top, by_parts, by_role, PlainLost, Defined, by_part, by_row, Own, by_definition, by_name, Over, FromBelow, Follows, from_definition, from_below, Step, by_own, by_below, Cell, Row, Column, Quiet}
+use Rattle.backward.specs.Rules.{Setting, Rows, Named, Squares, PlainColumn, ColumnPart, RowPart, NameLost, Filled, PartnerLost, of_filler, of_nothing, RoleLost, Filling, NoRule}
+use Rattle.backward.specs.Rules.{PartLost, RowLost, by_top, by_parts, by_role, PlainLost, Defined, by_part, by_row, Own, by_definition, by_name, Over, FromBelow, Follows}
+use Rattle.backward.specs.Rules.{from_definition, from_below, Step, by_own, by_below, Cell, Row, Column, Quiet}
 
 pub restricted : (t : List ℕ) (x : ℕ) → kind_at t x ≡ 4 → restricts (kind_at t x) ≡ true
 restricted t x e = rw e refl
@@ -76,7 +78,8 @@ module _ {s t : List ℕ} {l : Layout} {w : List ℕ} {x y i p : ℕ} where
 
 -- restrictions
 module _ {edges a b : List ℕ} {l : Layout} {w : List ℕ} {x y r z : ℕ} (e : r ≡ role_at a x) (f : z ≡ filler_at a x) where
-  pub role_filler : {q : Bool} {v : ℕ} → has_edge edges x ≡ true → Filled b l.names y r → v ≡ filler_at b y → v < l.names → Tells q (Marked (mark_square l) w z v) → Tells q (RoleLost edges a b l w x y)
+  pub role_filler : {q : Bool} {v : ℕ} → has_edge edges x ≡ true → Filled b l.names y r → v ≡ filler_at b y → v < l.names → Tells q (Marked (mark_square l) w z v)
+      → Tells q (RoleLost edges a b l w x y)
   role_filler {v = v} o h i k = tells_as (λ m. record { with_edge = o; partner = rw (← e, ← f) (of_filler h (omega arith) (rw (← i) m)) }) (λ p. back (rw (e, f) p.partner))
     where
       back : PartnerLost b l w y r z → Marked (mark_square l) w z v
@@ -167,9 +170,11 @@ pub not_joined_column : {t b : List ℕ} {l : Layout} {w : List ℕ} {y : ℕ} �
 not_joined_column f = record { cells = record { at = λ x h. record { marked = λ p. absurd (f p.kind) } } }
 
 -- names
-module _ {names : List ℕ} {l : Layout} {w : List ℕ} {x : ℕ} {i k : List ℕ} (h : Named names l w) (x_in : x ≤ l.names) (has : (chosen l names).has_name x ≡ true) (empty : Empty i) (row : Joined (second_square l) w x i k) where
+module _ {names : List ℕ} {l : Layout} {w : List ℕ} {x : ℕ} {i k : List ℕ} (h : Named names l w) (x_in : x ≤ l.names) (has : (chosen l names).has_name x ≡ true) (empty : Empty i)
+    (row : Joined (second_square l) w x i k) where
   missing_lost : (u : List ℕ) (z y : ℕ) → Grows (Missing k x) (mark_square l) w u → z ≤ l.names → y ≤ l.names → Missing k x u z y → NameLost names l u z y
-  missing_lost u z y grows z_in y_in m = record { chosen_name = rw m.row has; not_second = inr (λ j. m.not_there (row.has y y_in (marked_frame (grows_frame grows) (inl h.apart) x_in y_in (rw m.row at j)))) }
+  missing_lost u z y grows z_in y_in m = record
+      { chosen_name = rw m.row has; not_second = inr (λ j. m.not_there (row.has y y_in (marked_frame (grows_frame grows) (inl h.apart) x_in y_in (rw m.row at j)))) }
 
   pub missing_grows : {v : List ℕ} → Grows (Missing k x) (mark_square l) w v → Grows (NameLost names l) (mark_square l) w v
   missing_grows grows = grows_as missing_lost grows
@@ -177,7 +182,8 @@ module _ {names : List ℕ} {l : Layout} {w : List ℕ} {x : ℕ} {i k : List �
   nothing_lost : {u : List ℕ} → NameLost names l u x l.names
   nothing_lost = record { chosen_name = has; not_second = inl refl }
 
-  pub name_row : {u v : List ℕ} {r o : Bool} → Pass (Missing k x) (mark_square l) (Full (mark_square l) k x) w u r → Put (mark_square l) x l.names u v o → Pass (NameLost names l) (mark_square l) (Row (NameLost names l) l x) w v (r || o)
+  pub name_row : {u v : List ℕ} {r o : Bool} → Pass (Missing k x) (mark_square l) (Full (mark_square l) k x) w u r → Put (mark_square l) x l.names u v o
+      → Pass (NameLost names l) (mark_square l) (Row (NameLost names l) l x) w v (r || o)
   name_row {u} {v} full put = pass_both done (pass_by missing_lost full) (put_pass put nothing_lost)
     where
       grown : Grows (NameLost names l) (mark_square l) w v
@@ -210,7 +216,13 @@ module _ {edges s t a b : List ℕ} {l : Layout} {w : List ℕ} {x y z : ℕ} (f
 
 -- what is asked
 pub setting : {edges s t a b : List ℕ} {l : Layout} {w : List ℕ} → Edges l.names a edges → Comparing s t a b l w → Setting edges s t a b l w
-setting {s = s} e c = record { places = comparing.setting c e; first_shaped = comparing.first_shaped c; second_shaped = comparing.second_shaped c; second_apart = c.second_apart; few = omega (arith, c.first_names, (header_sound s (no_header_fault s c.first_release.accepted)).names) }
+setting {s = s} e c = record {
+  places = comparing.setting c e;
+  first_shaped = comparing.first_shaped c;
+  second_shaped = comparing.second_shaped c;
+  second_apart = c.second_apart;
+  few = omega (arith, c.first_names, (header_sound s (no_header_fault s c.first_release.accepted)).names);
+}
 
 module _ {edges s t a b : List ℕ} {l : Layout} {w : List ℕ} (h : Setting edges s t a b l w) where
   pub rows : Rows edges s a b l w
@@ -243,7 +255,8 @@ setting_kept {edges} {s} {t} {a} {b} {l} k h = setting_stays (kept_grows {Rule =
 pub given_below : {l : Layout} {w v : List ℕ} → Grows (Giving (first_square l) (mark_square l)) (mark_square l) w v → Grows (FromBelow l) (mark_square l) w v
 given_below grows = grows_as (λ u x y k i j r. record { lower = r.it; small = r.inside; first = r.below; marked = r.marked }) grows
 
-pub handed_below : {l : Layout} {w v : List ℕ} {c x : ℕ} → c ≤ l.names → Marked (first_square l) w c x → Grows (FromRow (mark_square l) c x) (mark_square l) w v → Grows (FromBelow l) (mark_square l) w v
+pub handed_below : {l : Layout} {w v : List ℕ} {c x : ℕ} → c ≤ l.names → Marked (first_square l) w c x → Grows (FromRow (mark_square l) c x) (mark_square l) w v
+    → Grows (FromBelow l) (mark_square l) w v
 handed_below {l} {w} {c = c} {x = x} c_in m grows = grows_as below grows
   where
     below : (u : List ℕ) (z y : ℕ) → Grows (FromRow (mark_square l) c x) (mark_square l) w u → z ≤ l.names → y ≤ l.names → FromRow (mark_square l) c x u z y → FromBelow l u z y
@@ -274,9 +287,12 @@ module _ {names edges s t a b : List ℕ} {l : Layout} where
   by_plain_lem : {D : List ℕ → Type 0} {w v : List ℕ} {r : Bool} → Pass (PlainLost edges s a b l) (mark_square l) D w v r → Pass (Own names edges s t a b l) (mark_square l) D w v r
   by_plain_lem p = pass_by (λ u x y k i j o. by_definition (by_row o)) p
 
-  pub looked : {w v u z : List ℕ} {x : ℕ} {o p q : Bool} → Pass (PlainLost edges s a b l) (mark_square l) (Row (PlainLost edges s a b l) l x) w v o → Pass (NameLost names l) (mark_square l) (Row (NameLost names l) l x) v u p → Pass (PartLost t b l) (mark_square l) (Column (PartLost t b l) l x) u z q → Pass (Own names edges s t a b l) (mark_square l) (Looked names edges s t a b l x) w z (o || (p || q))
+  pub looked : {w v u z : List ℕ} {x : ℕ} {o p q : Bool} → Pass (PlainLost edges s a b l) (mark_square l) (Row (PlainLost edges s a b l) l x) w v o
+      → Pass (NameLost names l) (mark_square l) (Row (NameLost names l) l x) v u p → Pass (PartLost t b l) (mark_square l) (Column (PartLost t b l) l x) u z q
+      → Pass (Own names edges s t a b l) (mark_square l) (Looked names edges s t a b l x) w z (o || (p || q))
   looked {v = v} {z = z} {x = x} {p = p} {q = q} row name column =
-      let both : Pass (Own names edges s t a b l) (mark_square l) (λ m. Row (NameLost names l) l x m × Column (PartLost t b l) l x m) v z (p || q) = pass_both (λ d e. (d, e)) (pass_by (λ m i j k h e o. by_name o) name) (pass_by (λ m i j k h e o. by_definition (by_part o)) column) in
+      let both : Pass (Own names edges s t a b l) (mark_square l) (λ m. Row (NameLost names l) l x m × Column (PartLost t b l) l x m) v z (p || q) = pass_both (λ d e. (d, e))
+      (pass_by (λ m i j k h e o. by_name o) name) (pass_by (λ m i j k h e o. by_definition (by_part o)) column) in
       pass_both (λ d e. record { row = d; name = e.0; column = e.1 }) (by_plain_lem row) both
 
   module _ {k : ℕ} {w : List ℕ} (n : l.names ≤ k) (d : Below (Looked names edges s t a b l) k w) (top : Row (PlainLost edges s a b l) l l.names w) where
@@ -291,7 +307,9 @@ module _ {names edges s t a b : List ℕ} {l : Layout} where
     all_looked : Below (Row (Own names edges s t a b l) l) (suc l.names) w
     all_looked = record { at = λ x i. record { cells = record { at = λ y j. record { marked = λ o. all_marked x y (omega arith) (omega arith) o } } } }
 
-  pub looked_end : {u w v : List ℕ} {k : ℕ} {r o : Bool} → l.names ≤ k → Pass (Own names edges s t a b l) (mark_square l) (Below (Looked names edges s t a b l) k) u w r → Pass (PlainLost edges s a b l) (mark_square l) (Row (PlainLost edges s a b l) l l.names) w v o → Pass (Own names edges s t a b l) (mark_square l) (Below (Row (Own names edges s t a b l) l) (suc l.names)) u v (r || o)
+  pub looked_end : {u w v : List ℕ} {k : ℕ} {r o : Bool} → l.names ≤ k → Pass (Own names edges s t a b l) (mark_square l) (Below (Looked names edges s t a b l) k) u w r
+      → Pass (PlainLost edges s a b l) (mark_square l) (Row (PlainLost edges s a b l) l l.names) w v o
+      → Pass (Own names edges s t a b l) (mark_square l) (Below (Row (Own names edges s t a b l) l) (suc l.names)) u v (r || o)
   looked_end n p top = pass_both (all_looked n) p (by_plain_lem top)
 
   module _ {u w : List ℕ} {r : Bool} (pairs : Pass (Own names edges s t a b l) (mark_square l) (Below (Row (Own names edges s t a b l) l) (suc l.names)) u w r) where
@@ -301,5 +319,8 @@ module _ {names edges s t a b : List ℕ} {l : Layout} where
     pub quiet_changed : r ≡ true → Pass (Step names edges s t a b l) (mark_square l) (Quiet names edges s t a b l) u w true
     quiet_changed e = record { grows = by_pairs.grows; fewer = λ k. pairs.fewer e; same = λ k. not_true k; done = λ k. not_true k }
 
-    pub quiet_unchanged : {v : List ℕ} {o : Bool} → r ≡ false → Pass (Giving (first_square l) (mark_square l)) (mark_square l) (Below (Gives (first_square l) (mark_square l)) (suc l.names)) w v o → Pass (Step names edges s t a b l) (mark_square l) (Quiet names edges s t a b l) u v o
-    quiet_unchanged e given = pass_both (λ d f. record { rows = d; handed = f }) (rw e at by_pairs) (pass_by (λ z x y k i j o. by_below (record { lower = o.it; small = o.inside; first = o.below; marked = o.marked })) given)
+    pub quiet_unchanged : {v : List ℕ} {o : Bool} → r ≡ false
+        → Pass (Giving (first_square l) (mark_square l)) (mark_square l) (Below (Gives (first_square l) (mark_square l)) (suc l.names)) w v o
+        → Pass (Step names edges s t a b l) (mark_square l) (Quiet names edges s t a b l) u v o
+    quiet_unchanged e given = pass_both (λ d f. record { rows = d; handed = f }) (rw e at by_pairs)
+        (pass_by (λ z x y k i j o. by_below (record { lower = o.it; small = o.inside; first = o.below; marked = o.marked })) given)

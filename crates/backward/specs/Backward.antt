@@ -23,7 +23,8 @@ column_at n k = pick (eqb k n) nothing (node (named k))
 
 pub record BackwardMarked (g s t : List ℕ) (l : Layout) (v : List ℕ) : Type 0 where
   pub sound : (x y : ℕ) → x ≤ l.names → y ≤ l.names → Marked (mark_square l) v x y → LostBelow (chosen l g) (axioms_of s) (axioms_of t) (node_at l.names x) (column_at l.names y)
-  pub kept : (x y : ℕ) → x ≤ l.names → y ≤ l.names → (Marked (mark_square l) v x y → ⊥) → (c : Concept) → is_over (chosen l g) c ≡ true → Derives (axioms_of s) c (concept_of (node_at l.names x)) → Below (axioms_of t) c (column_at l.names y)
+  pub kept : (x y : ℕ) → x ≤ l.names → y ≤ l.names → (Marked (mark_square l) v x y → ⊥) → (c : Concept) → is_over (chosen l g) c ≡ true
+      → Derives (axioms_of s) c (concept_of (node_at l.names x)) → Below (axioms_of t) c (column_at l.names y)
 
 pub record Backwarded (g s t : List ℕ) (l : Layout) (w v : List ℕ) : Type 0 where
   pub frame : Frame (mark_square l) w v

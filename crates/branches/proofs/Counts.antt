@@ -89,7 +89,8 @@ pub count_all : (v : ℕ) (bs : List ℕ) {i k : ℕ} → length bs ≤ i → k 
 count_all v bs {i} h e = e ∙ ap (count (is v)) (take_all i bs h)
 
 -- a row by its counts
-pub told : (g bs : List ℕ) {c l r b h : ℕ} → c ≡ count (is 1) g → l ≡ count (is 1) bs → r ≡ count (is 2) bs → b ≡ count (is 3) bs → h ≡ share (l + b + r) c → record { chosen = c; left = l + b; right = r + b; share = h } ≡ row_of g bs
+pub told : (g bs : List ℕ) {c l r b h : ℕ} → c ≡ count (is 1) g → l ≡ count (is 1) bs → r ≡ count (is 2) bs → b ≡ count (is 3) bs → h ≡ share (l + b + r) c
+    → record { chosen = c; left = l + b; right = r + b; share = h } ≡ row_of g bs
 unfolding row_of
 told g bs {c} {l} {r} {b} {h} chosen left right both of =
     let is_left : l + b ≡ count on_left bs = rw (left, both) (count_left bs) in

@@ -31,7 +31,9 @@ enough : (gs : List ℕ) (q rows w : ℕ) (d c : Compared) → lent_sheet gs q r
 unfolding lent_sheet
 enough gs q rows w d c h = by_tests (leb q most_branches) (eqb (signature_fault (q * (d.names + d.roles)) 0 gs) 0) (leb q rows) (leb (work_length d.names) w) refl refl refl refl h
   where
-    by_tests : (x y z u : Bool) → leb q most_branches ≡ x → eqb (signature_fault (q * (d.names + d.roles)) 0 gs) 0 ≡ y → leb q rows ≡ z → leb (work_length d.names) w ≡ u → pick x (pick y (pick z (pick u (Accepted d) (refused 32 0)) (refused 43 0)) (refused (signature_fault (q * (d.names + d.roles)) 0 gs) 0)) (refused 42 0) ≡ Accepted c → (d ≡ c) × Enough gs q rows w d
+    by_tests : (x y z u : Bool) → leb q most_branches ≡ x → eqb (signature_fault (q * (d.names + d.roles)) 0 gs) 0 ≡ y → leb q rows ≡ z → leb (work_length d.names) w ≡ u
+        → pick x (pick y (pick z (pick u (Accepted d) (refused 32 0)) (refused 43 0)) (refused (signature_fault (q * (d.names + d.roles)) 0 gs) 0)) (refused 42 0) ≡ Accepted c
+        → (d ≡ c) × Enough gs q rows w d
     by_tests false y z u e f i j k = not_refused k
     by_tests true false z u e f i j k = not_refused k
     by_tests true true false u e f i j k = not_refused k

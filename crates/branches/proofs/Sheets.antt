@@ -50,7 +50,8 @@ module _ (s t gs : List ℕ) where
   rows_long (suc k) = length-append (rows_of s t gs k) (row_at s t gs k ∷ []) ∙ (let h : length (rows_of s t gs k) ≡ k = rows_long k in omega arith)
 
   pub sheet_long : (k : ℕ) (ys : List Row) → k ≤ length ys → length (sheet_of s t gs k ys) ≡ length ys
-  sheet_long k ys h = length-append (rows_of s t gs k) (drop k ys) ∙ (let a : length (rows_of s t gs k) ≡ k = rows_long k in let b : length (drop k ys) ≡ length ys - k = length-drop k ys in omega arith)
+  sheet_long k ys h = length-append (rows_of s t gs k) (drop k ys) ∙
+      (let a : length (rows_of s t gs k) ≡ k = rows_long k in let b : length (drop k ys) ≡ length ys - k = length-drop k ys in omega arith)
 
   pub sheet_more : (i : ℕ) (ys : List Row) → i < length ys → set (sheet_of s t gs i ys) i (row_at s t gs i) ≡ sheet_of s t gs (i + 1) ys
   sheet_more i ys h = next ∙ ap (λ (k : ℕ). sheet_of s t gs k ys) (let e : suc i ≡ i + 1 = omega arith in e)

@@ -23,7 +23,8 @@ use Rattle.marks.specs.Passes.{Grows, Pass, Below, Due, FromRow}
 use Rattle.marks.specs.Inclusions.{Taking}
 use Rattle.marks.proofs.Squares.{refuted, frame_area}
 use Rattle.marks.proofs.Passes.{room_stays, grows_frame, marks_stay, below_end, pass_none, pass_as, pass_changed, pass_unchanged, pass_by, grows_as, put_pass, put_grows, due_not, due_as}
-use Rattle.classification.specs.Steps.{PartMarked, Gathers, Fills, Step, to_itself, to_top, to_part, to_gathered, to_filled, through, Gathered, Seeds, GatheredAt, FilledAt, AxiomSettled, Setting, SeededSetting, InRow, Source, DefinedConjunction, DefinedRestriction, Pair, Restriction, Over}
+use Rattle.classification.specs.Steps.{PartMarked, Gathers, Fills, Step, to_itself, to_top, to_part, to_gathered, to_filled, through, Gathered, Seeds, GatheredAt, FilledAt}
+use Rattle.classification.specs.Steps.{AxiomSettled, Setting, SeededSetting, InRow, Source, DefinedConjunction, DefinedRestriction, Pair, Restriction, Over}
 
 not_both : {A : Type 0} (k : ℕ) → joins k ≡ true → restricts k ≡ true → A
 not_both k j r = absurd (false≢true (sym (restricts_not_joins k r) ∙ j))
@@ -84,7 +85,8 @@ module _ {t : List ℕ} {q : Square} {w : List ℕ} {b y r f : ℕ} (h : Pair t 
 pub not_due : {t : List ℕ} {q : Square} {w : List ℕ} {b y r f role : ℕ} → DefinedRestriction t y r f → role ≡ role_at t b → (role ≡ r → ⊥) → Due false (Fills t q b y w) (Marked q w b y)
 not_due d e n = due_not (λ g. n (e ∙ g.role ∙ sym d.role))
 
-pub due_fill : {t : List ℕ} {q : Square} {w : List ℕ} {b y r f role under : ℕ} {a : Bool} → DefinedRestriction t y r f → role ≡ role_at t b → Serves role r → under ≡ filler_at t b → Tells a (Marked q w under f) → Due a (Fills t q b y w) (Marked q w b y)
+pub due_fill : {t : List ℕ} {q : Square} {w : List ℕ} {b y r f role under : ℕ} {a : Bool} → DefinedRestriction t y r f → role ≡ role_at t b → Serves role r → under ≡ filler_at t b
+    → Tells a (Marked q w under f) → Due a (Fills t q b y w) (Marked q w b y)
 due_fill d e same i m = due_as (tells_as (λ z. record { kind = d.kind; role = sym e ∙ same ∙ d.role; filler = rw (← i, ← d.filler) z }) (λ z. rw (i, d.filler) z.filler) m)
 
 -- the conjuncts of a name, all marked or one not
@@ -144,7 +146,8 @@ module _ {s t : List ℕ} {q : Square} {w v : List ℕ} (g : Grows (Step s t q) 
 pub gather_grows : {s t : List ℕ} {q : Square} {w v : List ℕ} {r : Bool} {x y : ℕ} → InRow s t q w x y → Gathers s t q x y w → Put q x y w v r → Grows (Step s t q) q w v
 gather_grows h g p = put_grows p (to_gathered h.name g)
 
-pub restriction_of : {s t : List ℕ} {q : Square} {w : List ℕ} {x b filler : ℕ} → Setting s t q w → b < q.names → filler ≡ filler_at t b → filler ≡ x → restricts (kind_at t b) ≡ true → Marked q w b b → Restriction s t q w x b
+pub restriction_of : {s t : List ℕ} {q : Square} {w : List ℕ} {x b filler : ℕ} → Setting s t q w → b < q.names → filler ≡ filler_at t b → filler ≡ x
+    → restricts (kind_at t b) ≡ true → Marked q w b b → Restriction s t q w x b
 restriction_of h l e f r m = record { setting = h; name = l; itself = m; is_restriction = r; filler = sym e ∙ f }
 
 pub filler_small : {s t : List ℕ} {q : Square} {w : List ℕ} {x b : ℕ} → Restriction s t q w x b → x ≤ q.names
@@ -153,7 +156,8 @@ filler_small {b = b} h = omega (arith, h.filler, h.setting.shaped.filler b h.nam
 pub over_of : {s t : List ℕ} {q : Square} {w : List ℕ} {x b y : ℕ} → Restriction s t q w x b → Marked q w x y → y ≤ q.names → Over s t q w b y
 over_of h m l = record { setting = h.setting; name = h.name; itself = h.itself; is_restriction = h.is_restriction; marked = rw h.filler m; column = l }
 
-pub over_grows : {s t : List ℕ} {q : Square} {w v : List ℕ} {b y z kind filler role role_z : ℕ} {r : Bool} → Over s t q w b y → z < q.names → kind ≡ kind_at t z → kind ≡ 4 → filler ≡ filler_at t z → filler ≡ y → role ≡ role_at t b → role_z ≡ role_at t z → Serves role role_z → Put q b z w v r → Grows (Step s t q) q w v
+pub over_grows : {s t : List ℕ} {q : Square} {w v : List ℕ} {b y z kind filler role role_z : ℕ} {r : Bool} → Over s t q w b y → z < q.names → kind ≡ kind_at t z → kind ≡ 4
+    → filler ≡ filler_at t z → filler ≡ y → role ≡ role_at t b → role_z ≡ role_at t z → Serves role role_z → Put q b z w v r → Grows (Step s t q) q w v
 over_grows {t = t} {y = y} {z = z} h l e four f g i j same p =
     let k : filler_at t z ≡ y = sym f ∙ g in
     put_grows p (to_filled _ h.name h.is_restriction h.itself l (record { kind = sym e ∙ four; role = sym i ∙ same ∙ j; filler = rw k h.marked }))

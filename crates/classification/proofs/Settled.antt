@@ -16,7 +16,8 @@ use Rattle.marks.proofs.Passes.{pass_next}
 use Rattle.classification.proofs.Marking.{taking_pass}
 
 -- what a pass finishes: what is marked in any row, what the axioms give in their columns, the rows above each row
-pub settled : {s t : List ℕ} {q : Square} {w : List ℕ} → Below (Seeded q) (suc q.names) w → Below (AxiomSettled s t q) q.names w → Below (Takes q q) (suc q.names) w → Below (Settled s t q) (suc q.names) w
+pub settled : {s t : List ℕ} {q : Square} {w : List ℕ} → Below (Seeded q) (suc q.names) w → Below (AxiomSettled s t q) q.names w → Below (Takes q q) (suc q.names) w
+    → Below (Settled s t q) (suc q.names) w
 settled seeded axioms above = record {
   at = λ x h. record {
     seeded = seeded.at x h;
@@ -26,8 +27,11 @@ settled seeded axioms above = record {
   };
 }
 
-pub pass_settled : {s t : List ℕ} {q : Square} {u w v o : List ℕ} {a b r : Bool} → Pass (Step s t q) q (Below (Seeded q) (suc q.names)) u w a → a ≡ false → Pass (Step s t q) q (Below (AxiomSettled s t q) q.names) w v b → b ≡ false → Pass (Taking q q) q (Below (Takes q q) (suc q.names)) v o r → Pass (Step s t q) q (Below (Settled s t q) (suc q.names)) u o r
-pass_settled {s} {t} {q} f e g h k = pass_next {D = λ z. Below (Seeded q) (suc q.names) z × Below (AxiomSettled s t q) q.names z} (λ y z. settled y.0 y.1 z) (pass_next (λ y z. (y, z)) f e g) h (taking_pass k)
+pub pass_settled : {s t : List ℕ} {q : Square} {u w v o : List ℕ} {a b r : Bool} → Pass (Step s t q) q (Below (Seeded q) (suc q.names)) u w a → a ≡ false
+    → Pass (Step s t q) q (Below (AxiomSettled s t q) q.names) w v b → b ≡ false → Pass (Taking q q) q (Below (Takes q q) (suc q.names)) v o r
+    → Pass (Step s t q) q (Below (Settled s t q) (suc q.names)) u o r
+pass_settled {s} {t} {q} f e g h k = pass_next {D = λ z. Below (Seeded q) (suc q.names) z × Below (AxiomSettled s t q) q.names z} (λ y z. settled y.0 y.1 z)
+    (pass_next (λ y z. (y, z)) f e g) h (taking_pass k)
 
 module _ {s t : List ℕ} {q : Square} {w : List ℕ} (shaped : Shaped q.names s t) (rows : Below (Settled s t q) (suc q.names) w) where
   -- what row b has, row x has, where b is marked in it

@@ -39,7 +39,8 @@ module _ {g : List ℕ} {f h : Layout} {w : List ℕ} where
   written_none = record { long = refl; byte = λ a l. absurd (omega arith); past = λ i l. refl }
 
   pub written_more : {k : ℕ} (b : ℕ) {r p : List ℕ} → k < length p → Written g f h w k r p → ByteAt g f h w k b → Written g f h w (k + 1) r (set p k b)
-  written_more {k} b {r} {p} l z y = record { long = length-set p k b ∙ z.long; byte = λ a i. by_place a i (ℕ_discrete a k); past = λ i j. get_or-set_other p k i b 0 (λ e. omega arith) ∙ z.past i (omega arith) }
+  written_more {k} b {r} {p} l z y = record
+      { long = length-set p k b ∙ z.long; byte = λ a i. by_place a i (ℕ_discrete a k); past = λ i j. get_or-set_other p k i b 0 (λ e. omega arith) ∙ z.past i (omega arith) }
     where
       by_place : (a : ℕ) → a < k + 1 → Dec (a ≡ k) → ByteAt g f h w a (get_or (set p k b) a 0)
       by_place a i (yes e) = rw (e, get_or-set_same p k b 0 l) y
@@ -54,7 +55,8 @@ module _ {g s t : List ℕ} {f : Layout} {w : List ℕ} {a : ℕ} (a_in : a < f.
   left_by_mark {b} marked tells = (λ e. there e, λ x. elim (which b) [ inl e ↦ e | inr e ↦ absurd (none e x) ])
     where
       there : b ≡ true → LeftWitness (chosen f g) (axioms_of s) (axioms_of t) a
-      there e = let lost : LostAbove (chosen f g) (axioms_of s) (axioms_of t) (named a) (named a) = rw (at_name f.names a a_in) at (marked.sound a a (omega arith) (omega arith) (tells.sound e)) in record { above = lost.it; over = lost.over; first = lost.by_first; not_second = lost.not_second }
+      there e = let lost : LostAbove (chosen f g) (axioms_of s) (axioms_of t) (named a) (named a) = rw (at_name f.names a a_in)
+          at (marked.sound a a (omega arith) (omega arith) (tells.sound e)) in record { above = lost.it; over = lost.over; first = lost.by_first; not_second = lost.not_second }
 
       none : b ≡ false → LeftWitness (chosen f g) (axioms_of s) (axioms_of t) a → ⊥
       none e x = x.not_second (rw (at_name f.names a a_in) at (marked.kept a a (omega arith) (omega arith) (λ m. not_both (tells.complete m) e) x.above x.over (rw (at_name f.names a a_in) x.first)))
@@ -63,12 +65,15 @@ module _ {g s t : List ℕ} {f : Layout} {w : List ℕ} {a : ℕ} (a_in : a < f.
   right_by_mark {b} marked tells = (λ e. there e, λ x. elim (which b) [ inl e ↦ e | inr e ↦ absurd (none e x) ])
     where
       there : b ≡ true → RightWitness (chosen f g) (axioms_of s) (axioms_of t) a
-      there e = let lost : LostBelow (chosen f g) (axioms_of s) (axioms_of t) (named a) (node (named a)) = rw (at_name f.names a a_in, column_name f.names a a_in) at (marked.sound a a (omega arith) (omega arith) (tells.sound e)) in record { below = lost.it; over = lost.over; first = lost.by_first; not_second = lost.not_second }
+      there e = let lost : LostBelow (chosen f g) (axioms_of s) (axioms_of t) (named a) (node (named a)) = rw (at_name f.names a a_in, column_name f.names a a_in)
+          at (marked.sound a a (omega arith) (omega arith) (tells.sound e)) in record { below = lost.it; over = lost.over; first = lost.by_first; not_second = lost.not_second }
 
       none : b ≡ false → RightWitness (chosen f g) (axioms_of s) (axioms_of t) a → ⊥
-      none e x = x.not_second (rw (column_name f.names a a_in) at (marked.kept a a (omega arith) (omega arith) (λ m. not_both (tells.complete m) e) x.below x.over (rw (at_name f.names a a_in) x.first)))
+      none e x = x.not_second (rw (column_name f.names a a_in)
+          at (marked.kept a a (omega arith) (omega arith) (λ m. not_both (tells.complete m) e) x.below x.over (rw (at_name f.names a a_in) x.first)))
 
-pub is_byte : {g s t : List ℕ} {f h : Layout} {w : List ℕ} {a b : ℕ} → h.names ≡ f.names → chosen h g ≡ chosen f g → a < f.names → ForwardMarked g s t f w → BackwardMarked g s t h w → ByteAt g f h w a b → IsByte (chosen f g) (axioms_of s) (axioms_of t) a b
+pub is_byte : {g s t : List ℕ} {f h : Layout} {w : List ℕ} {a b : ℕ} → h.names ≡ f.names → chosen h g ≡ chosen f g → a < f.names → ForwardMarked g s t f w
+    → BackwardMarked g s t h w → ByteAt g f h w a b → IsByte (chosen f g) (axioms_of s) (axioms_of t) a b
 is_byte {g} {s} {t} {f} {h} {w} {a} {b} names same a_in forward backward y = elim (which ((chosen f g).has_name a)) [
   | inl i ↦ by_marks i (y.inside i)
   | inr o ↦ record { outside = y.outside; small = rw (y.outside o) (omega arith); left = λ z. absurd (not_both z o); right = λ z. absurd (not_both z o) }

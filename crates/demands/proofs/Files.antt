@@ -53,7 +53,8 @@ told : {al : List Axiom} {c d : Concept} (b : Bool) → Tells b (Derives al c d)
 told true t = record { small = omega arith; derivable = (λ e. t.sound refl, λ p. refl) }
 told false t = record { small = omega arith; derivable = (λ e. absurd (omega arith), λ p. absurd (false≢true (t.complete p))) }
 
-pub question_answer : {s c d : List ℕ} → AcceptedQuestion s c d → IsAnswer (axioms_of s) (concept_in s c) (concept_in s d) (pick (is_included (names_of s) (axioms_of s) (concept_in s c) (concept_in s d)) 1 0)
+pub question_answer : {s c d : List ℕ} → AcceptedQuestion s c d
+    → IsAnswer (axioms_of s) (concept_in s c) (concept_in s d) (pick (is_included (names_of s) (axioms_of s) (concept_in s c) (concept_in s d)) 1 0)
 question_answer {s} {c} {d} given = told _
     (tells_included (formed s given.release) (terminology s given.release) (concept_in s c) (concept_in s d) (scoped c given.below) (scoped d given.above))
   where

@@ -33,7 +33,7 @@ use Rattle.marks.specs.Passes.{Grows, Pass, Below, FromRow}
 use Rattle.marks.specs.Lines.{Has, Spans, Empty, Joined, Missing, Full}
 use Rattle.marks.specs.Inclusions.{Taking, Takes}
 use Rattle.marks.proofs.Squares.{not_true, frame_marked, marked_frame, frame_room}
-use Rattle.marks.proofs.Passes.{grows_frame, marks_stay, grows_as, pass_by, pass_as, pass_with, pass_both, put_pass, put_grows, kept_grows}
+use Rattle.marks.proofs.Passes.{grows_frame, marks_stay, grows_as, pass_by, pass_as, pass_with, pass_both, put_pass, kept_grows}
 use Rattle.marks.proofs.Handing.{stays_anywhere}
 use Rattle.layout.specs.declared.Layout.{Layout}
 use Rattle.layout.specs.Searches.{SomeBelow, NoneBelow}

@@ -29,4 +29,12 @@ areas_stay f a = record { first = frame_area f a.first; second = frame_area f a.
 pub setting_stays : {Rule : List ℕ → ℕ → ℕ → Type 0} {edges a b : List ℕ} {l : Layout} {w v : List ℕ} → Grows Rule (mark_square l) w v → Setting edges a b l w → Setting edges a b l v
 setting_stays grows s =
     let f = grows_frame grows in
-    record { edge_bytes = s.edge_bytes; first_table = s.first_table; second_table = s.second_table; first = frame_room f s.first; second = frame_room f s.second; marks = frame_room f s.marks; areas = areas_stay f s.areas }
+    record {
+      edge_bytes = s.edge_bytes;
+      first_table = s.first_table;
+      second_table = s.second_table;
+      first = frame_room f s.first;
+      second = frame_room f s.second;
+      marks = frame_room f s.marks;
+      areas = areas_stay f s.areas;
+    }

@@ -144,7 +144,9 @@ or_only w i m j k l e = by_place (ℕ_discrete j i)
     by_bit z (no b) h = let c : bit (get_or w i 0) k ≡ 1 = omega (arith, bit_small m k) in inl (rw z c)
 
     by_place : Dec (j ≡ i) → (bit (get_or w j 0) k ≡ 1) ⊎ ((j ≡ i) × (bit m k ≡ 1))
-    by_place (yes z) = by_bit z (ℕ_discrete (bit m k) 1) (sym (bit_or_lem (get_or w i 0) m k) ∙ ap (λ (b : ℕ). bit b k) (sym (get_or-set_same w i (bit_or (get_or w i 0) m) 0 l)) ∙ ap (λ (p : ℕ). bit (get_or (or_at w i m) p 0) k) (sym z) ∙ e)
+    by_place (yes z) = by_bit z (ℕ_discrete (bit m k) 1)
+        (sym (bit_or_lem (get_or w i 0) m k) ∙ ap (λ (b : ℕ). bit b k) (sym (get_or-set_same w i (bit_or (get_or w i 0) m) 0 l)) ∙ ap (λ (p : ℕ). bit (get_or (or_at w i m) p 0) k)
+        (sym z) ∙ e)
     by_place (no z) = inl (rw (get_or-set_other w i j (bit_or (get_or w i 0) m) 0 z) at e)
 
 pub or_fewer : (w : List ℕ) (i m : ℕ) → unset (or_at w i m) ≤ unset w

@@ -72,7 +72,8 @@ module _ {R : ℕ → ℕ → List ℕ → Type 0} {p : Square} {k : List ℕ} {
   pub known_start : {i : List ℕ} {r : ℕ} {w : List ℕ} → NextOutside p w x i 0 r → Known R p k i i x r w
   known_start n = record { covered = λ f d y b m. f y b m; before = λ f d y b l m. f y b (n.none y (omega arith) l m) }
 
-  pub known_more : {i j l : List ℕ} {a r : ℕ} {w : List ℕ} → ((y c x : ℕ) (w : List ℕ) → R y c w → R c x w → R y x w) → a ≤ p.names → Covering p k a w j l → NextOutside p w x l (a + 1) r → Known R p k i j x a w → R a x w → Known R p k i l x r w
+  pub known_more : {i j l : List ℕ} {a r : ℕ} {w : List ℕ} → ((y c x : ℕ) (w : List ℕ) → R y c w → R c x w → R y x w) → a ≤ p.names → Covering p k a w j l
+      → NextOutside p w x l (a + 1) r → Known R p k i j x a w → R a x w → Known R p k i l x r w
   known_more {i} {j} {l} {a} {r} {w} chain h g n s here = record { covered = known; before = λ f d y b e m. by_place f d y b e m (dec_lt y a) (ℕ_discrete y a) }
     where
       known : ((y : ℕ) → y ≤ p.names → Has i y → R y x w) → Done p.names k (Every R p) w → (y : ℕ) → y ≤ p.names → Has l y → R y x w

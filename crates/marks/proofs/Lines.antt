@@ -16,7 +16,7 @@ use lib.Bits.{bit_or, bit_xor}
 use Rattle.el.proofs.Tests.{Tells, always, never}
 use Rattle.marks.specs.declared.Square.{Square}
 use Rattle.marks.specs.Squares.{bit, place, Room, Marked, Put}
-use Rattle.marks.specs.Passes.{Grows, none, more, Pass}
+use Rattle.marks.specs.Passes.{Grows, more, Pass}
 use Rattle.marks.specs.Lines.{Has, Empty, Added, Joined, NextOutside, Missing, Full}
 use Rattle.marks.proofs.Bits.{bit_small, bit_same, bit_other, both_zero, not_bit, bit_of_not, bit_of_zero, bit_or_lem, or_at, or_stays, or_has, or_only}
 use Rattle.marks.proofs.Squares.{not_true, place_column, column_bit, or_row}
@@ -86,7 +86,8 @@ module _ {q : Square} {w : List ℕ} {x : ℕ} {k : List ℕ} {from : ℕ} where
   out_none f n l = record { after = omega arith; inside = omega arith; none = λ z h b m. n.has z h (omega arith) (omega arith) m; found = λ h. absurd (omega arith) }
 
 -- what a line has not, marked in a row
-pub missing_further : {q : Square} {u w : List ℕ} {k : List ℕ} {x target : ℕ} (i : ℕ) → Grows (Missing k x) q u w → Room q u → x ≤ q.names → i ≤ q.names / 8 → target ≡ place q x 0 → Grows (Missing k x) q u (or_at w (target + i) (bit_xor 255 (get_or k i 0)))
+pub missing_further : {q : Square} {u w : List ℕ} {k : List ℕ} {x target : ℕ} (i : ℕ) → Grows (Missing k x) q u w → Room q u → x ≤ q.names → i ≤ q.names / 8 → target ≡ place q x 0
+    → Grows (Missing k x) q u (or_at w (target + i) (bit_xor 255 (get_or k i 0)))
 missing_further {q} {w = w} {k = k} {x = x} {target = target} i g room h l e =
     let b = or_row q w x i target (bit_xor 255 (get_or k i 0)) (room_stays g room) h l e in
     more w _ g b.0 (λ a y f j m. elim (b.1 a y f j m) [ inl z ↦ inl z | inr z ↦ inr (record { row = z.0; not_there = λ n. not_bit (get_or k i 0) (y % 8) (column_bit y) z.2 (rw z.1 at n.is) }) ])

@@ -76,7 +76,8 @@ module _ {Rule : List ℕ → ℕ → ℕ → Type 0} {q : Square} where
   marks_stay none m = m
   marks_stay (more t u h e f) m = e.stays _ _ (marks_stay h m)
 
-  pub grows_good : {Good : ℕ → ℕ → Type 0} {w v : List ℕ} → ((u : List ℕ) (x y : ℕ) → Grows Rule q w u → AllGood q Good u → x ≤ q.names → y ≤ q.names → Rule u x y → Good x y) → AllGood q Good w → Grows Rule q w v → AllGood q Good v
+  pub grows_good : {Good : ℕ → ℕ → Type 0} {w v : List ℕ} → ((u : List ℕ) (x y : ℕ) → Grows Rule q w u → AllGood q Good u → x ≤ q.names → y ≤ q.names → Rule u x y → Good x y)
+      → AllGood q Good w → Grows Rule q w v → AllGood q Good v
   grows_good keeps good none = good
   grows_good keeps good (more t u h e f) =
       let before = grows_good keeps good h in
@@ -170,7 +171,8 @@ module _ {Rule : List ℕ → ℕ → ℕ → Type 0} {q : Square} where
 abbrev pub passes_left : List ℕ → Bool → ℕ
 passes_left w r = 2 * unset w + pick r 1 0
 
-pub pass_less : {R S : List ℕ → ℕ → ℕ → Type 0} {q : Square} {D : List ℕ → Type 0} {w u v : List ℕ} {t : Bool} (r : Bool) → t ≡ true → Grows R q w u → Pass S q D u v r → passes_left v r < passes_left w t
+pub pass_less : {R S : List ℕ → ℕ → ℕ → Type 0} {q : Square} {D : List ℕ → Type 0} {w u v : List ℕ} {t : Bool} (r : Bool) → t ≡ true → Grows R q w u → Pass S q D u v r
+    → passes_left v r < passes_left w t
 pass_less true e g p = rw e (omega (arith, p.fewer refl, unset_falls g))
 pass_less false e g p = rw e (omega (arith, unset_falls p.grows, unset_falls g))
 
@@ -179,11 +181,13 @@ pub grows_as : {R S : List ℕ → ℕ → ℕ → Type 0} {q : Square} {w v : L
 grows_as f none = none
 grows_as f (more t u h e g) = more t u (grows_as f h) e (λ x y i j m. elim (g x y i j m) [ inl k ↦ inl k | inr r ↦ inr (f t x y h i j r) ])
 
-pub pass_by : {R S : List ℕ → ℕ → ℕ → Type 0} {q : Square} {D : List ℕ → Type 0} {w v : List ℕ} {r : Bool} → ((u : List ℕ) (x y : ℕ) → Grows R q w u → x ≤ q.names → y ≤ q.names → R u x y → S u x y) → Pass R q D w v r → Pass S q D w v r
+pub pass_by : {R S : List ℕ → ℕ → ℕ → Type 0} {q : Square} {D : List ℕ → Type 0} {w v : List ℕ} {r : Bool}
+    → ((u : List ℕ) (x y : ℕ) → Grows R q w u → x ≤ q.names → y ≤ q.names → R u x y → S u x y) → Pass R q D w v r → Pass S q D w v r
 pass_by f p = record { grows = grows_as f p.grows; fewer = p.fewer; same = p.same; done = p.done }
 
 -- a byte of a row handed on
-pub hand_further : {q : Square} {u w : List ℕ} {from to source target : ℕ} (i : ℕ) → Grows (FromRow q from to) q u w → Room q u → from ≤ q.names → to ≤ q.names → i ≤ q.names / 8 → source ≡ place q from 0 → target ≡ place q to 0 → Grows (FromRow q from to) q u (or_at w (target + i) (get_or w (source + i) 0))
+pub hand_further : {q : Square} {u w : List ℕ} {from to source target : ℕ} (i : ℕ) → Grows (FromRow q from to) q u w → Room q u → from ≤ q.names → to ≤ q.names → i ≤ q.names / 8
+    → source ≡ place q from 0 → target ≡ place q to 0 → Grows (FromRow q from to) q u (or_at w (target + i) (get_or w (source + i) 0))
 hand_further {q} {w = w} {from = from} {to = to} {source = source} {target = target} i g room f t l s e =
     let b = hand_byte q w from to i source target (room_stays g room) f t l s e in
     more w _ g b.0 (λ x y h k m. elim (b.1 x y h k m) [ inl z ↦ inl z | inr z ↦ inr (record { row = z.0; marked = z.1 }) ])
@@ -203,7 +207,8 @@ pub marks_end : {q : Square} {a z k : ℕ} {w : List ℕ} → q.names < k → Be
 marks_end l b = record { marked = λ y h m. (b.at y (omega arith)).marked m }
 
 -- one mark that is new, and then the whole row
-pub absorb_pass : {q : Square} {D : List ℕ → Type 0} {a z y : ℕ} {t u w v : List ℕ} {r : Bool} → u ≡ t → Marked q u a y → Put q z y u w r → r ≡ true → Grows (FromRow q a z) q w v → Pass (FromRow q a z) q D t v true
+pub absorb_pass : {q : Square} {D : List ℕ → Type 0} {a z y : ℕ} {t u w v : List ℕ} {r : Bool} → u ≡ t → Marked q u a y → Put q z y u w r → r ≡ true → Grows (FromRow q a z) q w v
+    → Pass (FromRow q a z) q D t v true
 absorb_pass {q} {D} {a} {z} {y} {w = w} {v = v} e m p f g = rw (← e) (record {
   grows = grows_further (put_grows p (record { row = refl; marked = m })) g;
   fewer = λ h. omega (arith, p.less f, unset_falls g);

@@ -69,8 +69,14 @@ module _ {q : Square} {w : List ℕ} {x row y r : ℕ} (at : Place q x 0 row) (r
           is = let e : y + t - y ≡ t = omega arith in rw e first.is
 
           by_order : Dec (y + t ≤ q.names) → NextMarked q w x from (or_none q.names (y + t))
-          by_order (yes l) = rw (le-leb _ _ l) (record { after = omega (arith, n.after); inside = omega arith; none = λ z h k m. before z h k (omega arith) m; found = λ k. rest_marked (y + t) (omega arith) inside_block is })
-          by_order (no l) = let g : q.names < y + t = omega arith in rw (lt-leb _ _ g) (record { after = omega arith; inside = omega arith; none = λ z h k m. before z h (omega arith) (omega arith) m; found = λ k. absurd (omega arith) })
+          by_order (yes l) = rw (le-leb _ _ l) (record {
+            after = omega (arith, n.after);
+            inside = omega arith;
+            none = λ z h k m. before z h k (omega arith) m;
+            found = λ k. rest_marked (y + t) (omega arith) inside_block is;
+          })
+          by_order (no l) = let g : q.names < y + t = omega arith in rw (lt-leb _ _ g)
+              (record { after = omega arith; inside = omega arith; none = λ z h k m. before z h (omega arith) (omega arith) m; found = λ k. absurd (omega arith) })
 
 -- a block of a row without the columns of a line
 module _ {q : Square} {w k : List ℕ} {x row y r o : ℕ} (at : Place q x 0 row) (rest : Rest q.names w row y r) (line : Rest q.names k 0 y o) where
@@ -110,8 +116,14 @@ module _ {q : Square} {w k : List ℕ} {x row y r o : ℕ} (at : Place q x 0 row
           is = let e : y + t - y ≡ t = omega arith in rw e (outside_bit r o t first.is)
 
           by_order : Dec (y + t ≤ q.names) → NextOutside q w x k from (or_none q.names (y + t))
-          by_order (yes l) = rw (le-leb _ _ l) (record { after = omega (arith, n.after); inside = omega arith; none = λ z h b m. out_before z h b (omega arith) m; found = λ b. rest_marked at rest (y + t) (omega arith) out_inside is })
-          by_order (no l) = let g : q.names < y + t = omega arith in rw (lt-leb _ _ g) (record { after = omega arith; inside = omega arith; none = λ z h b m. out_before z h (omega arith) (omega arith) m; found = λ b. absurd (omega arith) })
+          by_order (yes l) = rw (le-leb _ _ l) (record {
+            after = omega (arith, n.after);
+            inside = omega arith;
+            none = λ z h b m. out_before z h b (omega arith) m;
+            found = λ b. rest_marked at rest (y + t) (omega arith) out_inside is;
+          })
+          by_order (no l) = let g : q.names < y + t = omega arith in rw (lt-leb _ _ g)
+              (record { after = omega arith; inside = omega arith; none = λ z h b m. out_before z h (omega arith) (omega arith) m; found = λ b. absurd (omega arith) })
 
 -- the columns below y of one row seen in another
 pub record SeenWithin (q : Square) (w : List ℕ) (from to y missing : ℕ) : Type 0 where
@@ -121,7 +133,9 @@ pub seen_none : {q : Square} {w : List ℕ} {from to missing : ℕ} → SeenWith
 seen_none = record { marked = λ e z h. absurd (omega arith) }
 
 -- k bytes more of both rows, from byte i on
-pub seen_more : {q : Square} {w : List ℕ} {from to source target missing given had : ℕ} (k i : ℕ) → Place q from 0 source → Place q to 0 target → ReadBits (8 * k) w (source + i) given → ReadBits (8 * k) w (target + i) had → SeenWithin q w from to (8 * i) missing → SeenWithin q w from to (8 * (i + k)) (bit_or missing (bit_xor (bit_or given had) had))
+pub seen_more : {q : Square} {w : List ℕ} {from to source target missing given had : ℕ} (k i : ℕ) → Place q from 0 source → Place q to 0 target
+    → ReadBits (8 * k) w (source + i) given → ReadBits (8 * k) w (target + i) had → SeenWithin q w from to (8 * i) missing
+    → SeenWithin q w from to (8 * (i + k)) (bit_or missing (bit_xor (bit_or given had) had))
 seen_more {q} {w} {from} {to} {source} {target} {missing} {given} {had} k i s t g h seen = record { marked = λ e z l m. let b = both_zero missing _ e in by_order z l m b.0 b.1 (dec_lt z (8 * i)) }
   where
     cell_of : {x row : ℕ} → Place q x 0 row → (z : ℕ) → 8 * i ≤ z → row + i + (z - 8 * i) / 8 ≡ place q x z
@@ -146,7 +160,8 @@ pub seen_within : {q : Square} {w : List ℕ} {from to i missing : ℕ} → q.na
 seen_within h seen e = record { marked = λ z l m. seen.marked e z (omega arith) m }
 
 -- a word of a row of whole words is in the memory
-pub word_inside : {q : Square} {w : List ℕ} {x row i : ℕ} → Room q w → x ≤ q.names → 56 ≤ q.names % 64 → i ≤ q.names / 8 → i % 8 ≡ 0 → Place q x 0 row → (row + i + 8 ≤ length w) × (row + i < farthest + most_cells)
+pub word_inside : {q : Square} {w : List ℕ} {x row i : ℕ} → Room q w → x ≤ q.names → 56 ≤ q.names % 64 → i ≤ q.names / 8 → i % 8 ≡ 0 → Place q x 0 row
+    → (row + i + 8 ≤ length w) × (row + i < farthest + most_cells)
 word_inside {q} {row = row} {i = i} room h whole l m p =
     let last : i + 7 ≤ q.names / 8 = omega arith in
     let a = row_inside {i = i + 7} room h last p in

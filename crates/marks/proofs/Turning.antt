@@ -31,7 +31,8 @@ module _ {q p : Square} where
   pub turned_start : {w : List ℕ} {x r : ℕ} → NextMarked q w x 0 r → TurnedBelow q w p w x → TurnedTo q w p x r
   turned_start n b = record { below = b; row = λ i h l m. absurd (n.none i (omega arith) h m) }
 
-  pub turned_more : {w v : List ℕ} {x y r : ℕ} {f : Bool} → q.base + span q.names ≤ p.base → q.names ≡ p.names → x ≤ q.names → y ≤ q.names → Marked q w x y → Put p y x w v f → NextMarked q v x (y + 1) r → TurnedTo q w p x y → TurnedTo q v p x r
+  pub turned_more : {w v : List ℕ} {x y r : ℕ} {f : Bool} → q.base + span q.names ≤ p.base → q.names ≡ p.names → x ≤ q.names → y ≤ q.names → Marked q w x y → Put p y x w v f
+      → NextMarked q v x (y + 1) r → TurnedTo q w p x y → TurnedTo q v p x r
   turned_more {w} {v} {x} {y} {r} apart e xb yb here put n b = record {
     below = record {
       to = λ i j h l k m. put.extends.stays j i (b.below.to i j h l k (was_marked apart put.hints.touches l k m));

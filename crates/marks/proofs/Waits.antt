@@ -2,7 +2,7 @@
 --   still_none, still_further   rows that wait, and more of them
 --   wait_more                   a row that is let wait
 --   take_one                    a row that is taken
-use mathlib.Core.Path.{◌≡◌, refl, sym, subst, ◌∙◌}
+use mathlib.Core.Path.{◌≡◌, refl, subst, ◌∙◌}
 use mathlib.Core.List.{List}
 use Prim.Native.Nat.{ℕ, ◌-◌, ◌<◌}
 use native.Mathlib.Omega.{arith}

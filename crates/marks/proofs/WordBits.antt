@@ -59,7 +59,8 @@ reads_more {k} {p} {r} {s} l rd = record {
         let e : 8 + i ≡ j = omega arith in
         let d : p + 1 + i / 8 ≡ p + j / 8 = omega arith in
         let m : i % 8 ≡ j % 8 = omega arith in
-        ap (λ (z : ℕ). bit (256 * r + get_or s p 0) z) (sym e) ∙ high_bit r (get_or s p 0) i l ∙ rd.read.bits i (omega arith) ∙ ap (λ (z : ℕ). bit (get_or s z 0) (i % 8)) d ∙ ap (λ (z : ℕ). bit (get_or s (p + j / 8) 0) z) m
+        ap (λ (z : ℕ). bit (256 * r + get_or s p 0) z) (sym e) ∙ high_bit r (get_or s p 0) i l ∙ rd.read.bits i (omega arith) ∙ ap (λ (z : ℕ). bit (get_or s z 0) (i % 8)) d ∙ ap
+        (λ (z : ℕ). bit (get_or s (p + j / 8) 0) z) m
 
 -- the bytes i .. 7 read, and the one before them
 pub reads_start : {s : List ℕ} {p : ℕ} → Reads (64 - 8 * 8) s p 0
@@ -68,7 +69,8 @@ reads_start = reads_none
 pub read_fits : {i p r : ℕ} {s : List ℕ} → 0 < i → Reads (64 - 8 * i) s p r → r < 2 ^ 56
 read_fits {i} h rd = lt_of_lt_of_le rd.small (pow_mono {i = 64 - 8 * i} {j = 56} (omega arith))
 
-pub reads_step : (at : ℕ) {i r b : ℕ} {s : List ℕ} → 0 < i → i ≤ 8 → (b ≡ get_or s (at + (i - 1)) 0) × (b ≤ 255) → Reads (64 - 8 * i) s (at + i) r → Reads (64 - 8 * (i - 1)) s (at + (i - 1)) (256 * r + b)
+pub reads_step : (at : ℕ) {i r b : ℕ} {s : List ℕ} → 0 < i → i ≤ 8 → (b ≡ get_or s (at + (i - 1)) 0) × (b ≤ 255) → Reads (64 - 8 * i) s (at + i) r
+    → Reads (64 - 8 * (i - 1)) s (at + (i - 1)) (256 * r + b)
 reads_step at {i} {r} {b} {s} h l e rd =
     let k : 64 - 8 * (i - 1) ≡ 64 - 8 * i + 8 = omega arith in
     let p : at + i ≡ at + (i - 1) + 1 = omega arith in

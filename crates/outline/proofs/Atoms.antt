@@ -32,7 +32,8 @@ module _ (o : List ℕ) (i v w k : ℕ) where
   module _ (h : 3 * i + 3 ≤ length o) where
     pub put_value : value_at (put_atom o i v w k) i ≡ v
     unfolding put_atom value_at
-    put_value = get_or-set_other two_put (3 * i + 2) (3 * i) k 0 (λ z. omega arith) ∙ (get_or-set_other one_put (3 * i + 1) (3 * i) w 0 (λ z. omega arith) ∙ get_or-set_same o (3 * i) v 0 (omega arith))
+    put_value = get_or-set_other two_put (3 * i + 2) (3 * i) k 0 (λ z. omega arith) ∙
+        (get_or-set_other one_put (3 * i + 1) (3 * i) w 0 (λ z. omega arith) ∙ get_or-set_same o (3 * i) v 0 (omega arith))
 
     pub put_owner : owner_at (put_atom o i v w k) i ≡ w
     unfolding put_atom owner_at
@@ -69,7 +70,8 @@ pub written_none : {n k : ℕ} {o : List ℕ} → Written n k 0 o
 written_none = record { owner = λ i h. absurd (omega arith); child = λ i h. absurd (omega arith); named = λ i h. absurd (omega arith); later = λ i j h. absurd (omega arith) }
 
 -- an atom more: a name of an old root; or an ∃ of one, with a new root
-module _ {n k c : ℕ} {o : List ℕ} (before : Written n k c o) (v w u l : ℕ) (h : 3 * c + 3 ≤ length o) (old_owner : w < k) (more : k ≤ l) (child_in : u < l) (a_name : u ≡ 0 → v < n) (new_child : 0 < u → k ≤ u) where
+module _ {n k c : ℕ} {o : List ℕ} (before : Written n k c o) (v w u l : ℕ) (h : 3 * c + 3 ≤ length o) (old_owner : w < k) (more : k ≤ l) (child_in : u < l)
+    (a_name : u ≡ 0 → v < n) (new_child : 0 < u → k ≤ u) where
   abbrev after : List ℕ
   after = put_atom o c v w u
 
@@ -119,11 +121,21 @@ atoms_last o i (suc c) = let z : suc i + c ≡ i + suc c = omega arith in ap (λ
 pub atoms_more : (o : List ℕ) (c v w u : ℕ) → 3 * c + 3 ≤ length o → atoms_from (put_atom o c v w u) 0 (c + 1) ≡ atoms_from o 0 c ++ (atom v w u ∷ [])
 atoms_more o c v w u h =
     let z : 0 + c ≡ c = omega arith in
-    rw (add-one c, atoms_last (put_atom o c v w u) 0 c, z, put_value o c v w u h, put_owner o c v w u h, put_child o c v w u h, atoms_same (put_atom o c v w u) o 0 c (λ j l. let y : j < c = omega arith in rw (value_before o c v w u j y, owner_before o c v w u j y, child_before o c v w u j y)))
+    rw (
+      add-one c,
+      atoms_last (put_atom o c v w u) 0 c,
+      z,
+      put_value o c v w u h,
+      put_owner o c v w u h,
+      put_child o c v w u h,
+      atoms_same (put_atom o c v w u) o 0 c
+          (λ j l. let y : j < c = omega arith in rw (value_before o c v w u j y, owner_before o c v w u j y, child_before o c v w u j y)),
+    )
 
 -- roots by their first atom
 module _ (o : List ℕ) (i left k : ℕ) where
-  pub root_own : owner_at o i ≡ k → root_of (atoms_from o i (suc left)) k ≡ both (atom_concept (child_at o i) (value_at o i) (root_of (atoms_from o (suc i) left) (child_at o i))) (root_of (atoms_from o (suc i) left) k)
+  pub root_own : owner_at o i ≡ k → root_of (atoms_from o i (suc left)) k ≡ both (atom_concept (child_at o i) (value_at o i) (root_of (atoms_from o (suc i) left) (child_at o i)))
+      (root_of (atoms_from o (suc i) left) k)
   unfolding root_of atoms_from
   root_own e = rw (eq-eqb _ _ e)
 

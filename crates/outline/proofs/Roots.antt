@@ -70,7 +70,8 @@ module _ {al : List Axiom} where
   same_regrouped = record { to = meet (chain one one) (meet (chain one other) other); from = meet (meet one (chain other one)) (chain other other) }
 
   -- ∃: its filler is a root of its own, and the other roots have none of it
-  module _ (k : ℕ) (c : Concept) (ps : List Pending) (rest : List Atom) (h : OwnersBelow ps (suc k)) (means : (o : ℕ) → o < suc (suc k) → Same al (pending_of (awaits (suc k) c ∷ ps) o) (root_of rest o)) where
+  module _ (k : ℕ) (c : Concept) (ps : List Pending) (rest : List Atom) (h : OwnersBelow ps (suc k))
+      (means : (o : ℕ) → o < suc (suc k) → Same al (pending_of (awaits (suc k) c ∷ ps) o) (root_of rest o)) where
     filler_means : Same al c (root_of rest (suc k))
     filler_means =
         let z : pending_of (awaits (suc k) c ∷ ps) (suc k) ≡ both c top = rw (eq-eqb (suc k) (suc k) refl, none_pending ps (suc k) h) in
@@ -80,7 +81,8 @@ module _ {al : List Axiom} where
     unfolding root_of
     some_means p role o l = by_test (eqb p o) (rw (ne_eqb (suc k) o (λ z. omega arith)) at (means o (omega arith)))
       where
-        by_test : (t : Bool) → Same al (pending_of ps o) (root_of rest o) → Same al (pick t (both (some role c) (pending_of ps o)) (pending_of ps o)) (pick t (both (some role (root_of rest (suc k))) (root_of rest o)) (root_of rest o))
+        by_test : (t : Bool) → Same al (pending_of ps o) (root_of rest o)
+            → Same al (pick t (both (some role c) (pending_of ps o)) (pending_of ps o)) (pick t (both (some role (root_of rest (suc k))) (root_of rest o)) (root_of rest o))
         by_test true q = same_both (same_some filler_means) q
         by_test false q = q
 
@@ -94,12 +96,15 @@ module _ {al : List Axiom} where
       by_test false q = q
   reads_mean (read_name {o = p} {b = b} {ps = ps} {rest = rest} r) h o l = by_test (eqb p o) (reads_mean r h.1 o l)
     where
-      by_test : (t : Bool) → Same al (pending_of ps o) (root_of rest o) → Same al (pick t (both (name b) (pending_of ps o)) (pending_of ps o)) (pick t (both (name b) (root_of rest o)) (root_of rest o))
+      by_test : (t : Bool) → Same al (pending_of ps o) (root_of rest o)
+          → Same al (pick t (both (name b) (pending_of ps o)) (pending_of ps o)) (pick t (both (name b) (root_of rest o)) (root_of rest o))
       by_test true q = same_both same_itself q
       by_test false q = q
   reads_mean (read_both {o = p} {c = c} {d = d} {ps = ps} {rest = rest} r) h o l = by_test (eqb p o) (reads_mean r (h.0, (h.0, h.1)) o l)
     where
-      by_test : (t : Bool) → Same al (pick t (both c (pick t (both d (pending_of ps o)) (pending_of ps o))) (pick t (both d (pending_of ps o)) (pending_of ps o))) (root_of rest o) → Same al (pick t (both (both c d) (pending_of ps o)) (pending_of ps o)) (root_of rest o)
+      by_test : (t : Bool) → Same al (pick t (both c (pick t (both d (pending_of ps o)) (pending_of ps o))) (pick t (both d (pending_of ps o)) (pending_of ps o))) (root_of rest o)
+          → Same al (pick t (both (both c d) (pending_of ps o)) (pending_of ps o)) (root_of rest o)
       by_test true q = same_chain same_regrouped q
       by_test false q = q
-  reads_mean (read_some {k = k} {o = p} {r = role} {c = c} {ps = ps} {rest = rest} r) h o l = some_means k c ps rest h.1 (λ q m. reads_mean r (omega arith, owners_more ps (omega arith) h.1) q m) p role o l
+  reads_mean (read_some {k = k} {o = p} {r = role} {c = c} {ps = ps} {rest = rest} r) h o l = some_means k c ps rest h.1
+      (λ q m. reads_mean r (omega arith, owners_more ps (omega arith) h.1) q m) p role o l

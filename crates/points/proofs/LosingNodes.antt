@@ -29,7 +29,8 @@ module _ {t l : List ℕ} {r j b : ℕ} where
   pub filler_lost : {f : ℕ} {z : Bool} → f ≡ filler_at t b → Tells z (Set l j f) → z ≡ true → Tells false (Serves t l r j b)
   filler_lost e tells z = never (λ serves. serves.kept (rw e at (tells.sound z)))
 
-  pub it_serves : {y : Bool} {f g : ℕ} {z : Bool} → y ≡ restricts (kind_at t b) → y ≡ true → g ≡ role_at t b → g ≡ r → f ≡ filler_at t b → Tells z (Set l j f) → z ≡ false → Tells true (Serves t l r j b)
+  pub it_serves : {y : Bool} {f g : ℕ} {z : Bool} → y ≡ restricts (kind_at t b) → y ≡ true → g ≡ role_at t b → g ≡ r → f ≡ filler_at t b → Tells z (Set l j f) → z ≡ false
+      → Tells true (Serves t l r j b)
   it_serves e1 h1 e2 h2 e4 lost h4 = always (record { is_restriction = sym e1 ∙ h1; role = sym e2 ∙ h2; kept = λ m. refuted lost h4 (rw e4 m) })
 
 module _ {t : List ℕ} {q : Square} {w l : List ℕ} {x r j b : ℕ} where
@@ -37,7 +38,8 @@ module _ {t : List ℕ} {q : Square} {w l : List ℕ} {x r j b : ℕ} where
   not_above tells z = never (λ leads. refuted tells z leads.above)
 
   pub leads_as : {u z : Bool} → Tells u (Marked q w x b) → u ≡ true → Tells z (Serves t l r j b) → Tells z (Leads t q w l x r j b)
-  leads_as above h tells = tells_as (λ s. record { is_restriction = s.is_restriction; role = s.role; above = above.sound h; kept = s.kept }) (λ k. record { is_restriction = k.is_restriction; role = k.role; kept = k.kept }) tells
+  leads_as above h tells = tells_as (λ s. record { is_restriction = s.is_restriction; role = s.role; above = above.sound h; kept = s.kept })
+      (λ k. record { is_restriction = k.is_restriction; role = k.role; kept = k.kept }) tells
 
 -- a line of names that do not serve
 pub record IdleBefore (t : List ℕ) (n : ℕ) (l : List ℕ) (r j : ℕ) (k : List ℕ) : Type 0 where
@@ -49,7 +51,10 @@ module _ {t : List ℕ} {n : ℕ} {l : List ℕ} {r j : ℕ} where
   idle_none s e = record { spans = s; none = λ b h. absurd (e.none b h) }
 
   pub idle_more : {k i : List ℕ} {b : ℕ} {z : Bool} → IdleBefore t n l r j k → Tells z (Serves t l r j b) → z ≡ false → Added b k i → IdleBefore t n l r j i
-  idle_more {b = b} before tells z added = record { spans = record { inside = omega (arith, before.spans.inside, added.long) }; none = λ a h s. elim (added.only a h) [ inl m ↦ before.none a m s | inr e ↦ refuted tells z (rw e at s) ] }
+  idle_more {b = b} before tells z added = record {
+    spans = record { inside = omega (arith, before.spans.inside, added.long) };
+    none = λ a h s. elim (added.only a h) [ inl m ↦ before.none a m s | inr e ↦ refuted tells z (rw e at s) ];
+  }
 
   pub idle_end : {k : List ℕ} → IdleBefore t n l r j k → Idle t n l r j k
   idle_end before = record { spans = before.spans; none = λ b h m s. before.none b m s }
@@ -114,7 +119,16 @@ module _ {t : List ℕ} {q : Square} {w o l : List ℕ} {i x : ℕ} where
 pub same_reach : {t : List ℕ} {q : Square} {w l v : List ℕ} {x r j : ℕ} → Inclusive t q w → ((z : ℕ) → z < most_nodes → Set v j z → Set l j z) → NodeReaches t q w l x r j → NodeReaches t q w v x r j
 same_reach inclusive f reaches =
     let k = reaches.leads in
-    record { by = reaches.by; is_name = reaches.is_name; leads = record { is_restriction = k.is_restriction; role = k.role; above = k.above; kept = λ m. k.kept (f _ (omega (arith, inclusive.few, inclusive.fillers reaches.by reaches.is_name k.is_restriction)) m) } }
+    record {
+      by = reaches.by;
+      is_name = reaches.is_name;
+      leads = record {
+        is_restriction = k.is_restriction;
+        role = k.role;
+        above = k.above;
+        kept = λ m. k.kept (f _ (omega (arith, inclusive.few, inclusive.fillers reaches.by reaches.is_name k.is_restriction)) m);
+      };
+    }
 
 module _ {t : List ℕ} {q : Square} {w o l : List ℕ} {i : ℕ} (given : OfAtom t q w o l i) {P Q : ℕ → Type 0} {e : ℕ} {v : List ℕ} (adds : Adds (owner_at o i) e P Q l v) where
   pub given_after : OfAtom t q w o v i
@@ -131,8 +145,10 @@ module _ {t : List ℕ} {q : Square} {w o l : List ℕ} {i : ℕ} (given : OfAto
   pub tells_before : {r : Bool} {x : ℕ} → Tells r (NodeBelow t q w o v i x) → Tells r (NodeBelow t q w o l i x)
   tells_before tells = tells_as as_before as_after tells
 
-module _ {t : List ℕ} {q : Square} {w o l : List ℕ} {i : ℕ} (given : OfAtom t q w o l i) {e : ℕ} {v : List ℕ} (adds : Adds (owner_at o i) e (λ x. NodeBelow t q w o l i x → ⊥) (NodeBelow t q w o l i) l v) {r : Bool} (tells : Tells r (NodeBelow t q w o v i e)) where
-  pub node_lost : {u : List ℕ} (row : ℕ) → row ≡ owner_at o i → e ≤ q.names → r ≡ false → Added (cell row e) v u → Adds (owner_at o i) (e + 1) (λ x. NodeBelow t q w o l i x → ⊥) (NodeBelow t q w o l i) l u
+module _ {t : List ℕ} {q : Square} {w o l : List ℕ} {i : ℕ} (given : OfAtom t q w o l i) {e : ℕ} {v : List ℕ}
+    (adds : Adds (owner_at o i) e (λ x. NodeBelow t q w o l i x → ⊥) (NodeBelow t q w o l i) l v) {r : Bool} (tells : Tells r (NodeBelow t q w o v i e)) where
+  pub node_lost : {u : List ℕ} (row : ℕ) → row ≡ owner_at o i → e ≤ q.names → r ≡ false → Added (cell row e) v u
+      → Adds (owner_at o i) (e + 1) (λ x. NodeBelow t q w o l i x → ⊥) (NodeBelow t q w o l i) l u
   node_lost row is h z added = adds_more adds (refuted (tells_before given adds tells) z) (omega (arith, given.inclusive.few)) (rw is at added)
 
   pub node_kept : r ≡ true → Adds (owner_at o i) (e + 1) (λ x. NodeBelow t q w o l i x → ⊥) (NodeBelow t q w o l i) l v

@@ -42,7 +42,15 @@ module _ {t : List ℕ} {q : Square} {w o ln l : List ℕ} {i r j : ℕ} where
         back (some_reaches c' y m) = e ∙ y
 
 pub from_root : {t : List ℕ} {q : Square} {w o : List ℕ} {e : Extent} {ln l : List ℕ} {j i : ℕ} → FromRoots t q w o e ln l j → i < e.atoms → FromRoot t q w o ln l i j
-from_root {i = i} given h = record { inclusive = given.inclusive; nodes = given.nodes; roots = given.roots; inside = omega (arith, given.inside); child = given.child i h; named = given.named i h; row = given.row }
+from_root {i = i} given h = record {
+  inclusive = given.inclusive;
+  nodes = given.nodes;
+  roots = given.roots;
+  inside = omega (arith, given.inside);
+  child = given.child i h;
+  named = given.named i h;
+  row = given.row;
+}
 
 -- no atom of the root before
 pub record NoneBefore (t : List ℕ) (q : Square) (w o ln l : List ℕ) (k r j e : ℕ) : Type 0 where
@@ -87,31 +95,64 @@ module _ {s t : List ℕ} {q : Square} {w o : List ℕ} {c : ℕ} {a p ln l : Li
       back (root_below_some h' m) = rw (e, g) m
 
 -- losing roots changes the row of the atom's owner only, and reads that of its child
-same_reaching : {t : List ℕ} {q : Square} {w o ln l v : List ℕ} {i r j : ℕ} → child_at o i < most_roots → ((z : ℕ) → z < most_nodes → Set v j z → Set l j z) → AtomReaches t q w o ln l i r j → AtomReaches t q w o ln v i r j
+same_reaching : {t : List ℕ} {q : Square} {w o ln l v : List ℕ} {i r j : ℕ} → child_at o i < most_roots → ((z : ℕ) → z < most_nodes → Set v j z → Set l j z)
+    → AtomReaches t q w o ln l i r j → AtomReaches t q w o ln v i r j
 same_reaching h f (name_reaches c m) = name_reaches c m
 same_reaching h f (some_reaches c e m) = some_reaches c e (λ z. m (f _ (omega arith) z))
 
 module _ {s t : List ℕ} {q : Square} {w o : List ℕ} {x : Extent} {a p ln l : List ℕ} {i : ℕ} (given : OfAtom s t q w o x a p ln l i) where
   pub from_roots : 0 < child_at p i → {j : ℕ} → j ≡ child_at p i → FromRoots t q w o x ln l j
-  from_roots c e = record { inclusive = given.inclusive; nodes = given.nodes; roots = given.roots; inside = given.from_inside; child = given.from_child; named = given.from_named; row = omega (arith, given.child) }
+  from_roots c e = record {
+    inclusive = given.inclusive;
+    nodes = given.nodes;
+    roots = given.roots;
+    inside = given.from_inside;
+    child = given.from_child;
+    named = given.from_named;
+    row = omega (arith, given.child);
+  }
 
   module _ {P Q : ℕ → Type 0} {e : ℕ} {v : List ℕ} (adds : Adds (owner_at p i) e P Q l v) where
     pub given_after : OfAtom s t q w o x a p ln v i
-    given_after = record { ranges = given.ranges; inclusive = given.inclusive; above = given.above; nodes = given.nodes; roots = adds_grid adds given.roots; few = given.few; from_inside = given.from_inside; from_child = given.from_child; from_named = given.from_named; inside = given.inside; owner = given.owner; child = given.child; named = given.named; later = given.later }
+    given_after = record {
+      ranges = given.ranges;
+      inclusive = given.inclusive;
+      above = given.above;
+      nodes = given.nodes;
+      roots = adds_grid adds given.roots;
+      few = given.few;
+      from_inside = given.from_inside;
+      from_child = given.from_child;
+      from_named = given.from_named;
+      inside = given.inside;
+      owner = given.owner;
+      child = given.child;
+      named = given.named;
+      later = given.later;
+    }
 
     as_before : {k : ℕ} → RootBelowAtom s t q w o x.atoms a p ln v i k → RootBelowAtom s t q w o x.atoms a p ln l i k
     as_before (root_below_name c m) = root_below_name c m
-    as_before (root_below_some c m) = root_below_some c (record { by = m.by; is_atom = m.is_atom; owner = m.owner; reaches = same_reaching (given.from_child m.by m.is_atom) (λ z h k. adds.old _ z k) m.reaches })
+    as_before (root_below_some c m) = root_below_some c
+        (record { by = m.by; is_atom = m.is_atom; owner = m.owner; reaches = same_reaching (given.from_child m.by m.is_atom) (λ z h k. adds.old _ z k) m.reaches })
 
     as_after : {k : ℕ} → RootBelowAtom s t q w o x.atoms a p ln l i k → RootBelowAtom s t q w o x.atoms a p ln v i k
     as_after (root_below_name c m) = root_below_name c m
-    as_after (root_below_some c m) = root_below_some c (record { by = m.by; is_atom = m.is_atom; owner = m.owner; reaches = same_reaching (given.from_child m.by m.is_atom) (λ z h. adds_row adds _ z (λ same. omega (arith, given.later c)) h) m.reaches })
+    as_after (root_below_some c m) = root_below_some c
+        (record {
+          by = m.by;
+          is_atom = m.is_atom;
+          owner = m.owner;
+          reaches = same_reaching (given.from_child m.by m.is_atom) (λ z h. adds_row adds _ z (λ same. omega (arith, given.later c)) h) m.reaches;
+        })
 
     pub tells_before : {r : Bool} {k : ℕ} → Tells r (RootBelowAtom s t q w o x.atoms a p ln v i k) → Tells r (RootBelowAtom s t q w o x.atoms a p ln l i k)
     tells_before tells = tells_as as_before as_after tells
 
-  module _ {e : ℕ} {v : List ℕ} (adds : Adds (owner_at p i) e (λ k. RootBelowAtom s t q w o x.atoms a p ln l i k → ⊥) (RootBelowAtom s t q w o x.atoms a p ln l i) l v) {r : Bool} (tells : Tells r (RootBelowAtom s t q w o x.atoms a p ln v i e)) where
-    pub root_lost : {u : List ℕ} (row : ℕ) → row ≡ owner_at p i → e < x.roots → r ≡ false → Added (cell row e) v u → Adds (owner_at p i) (e + 1) (λ k. RootBelowAtom s t q w o x.atoms a p ln l i k → ⊥) (RootBelowAtom s t q w o x.atoms a p ln l i) l u
+  module _ {e : ℕ} {v : List ℕ} (adds : Adds (owner_at p i) e (λ k. RootBelowAtom s t q w o x.atoms a p ln l i k → ⊥) (RootBelowAtom s t q w o x.atoms a p ln l i) l v) {r : Bool}
+      (tells : Tells r (RootBelowAtom s t q w o x.atoms a p ln v i e)) where
+    pub root_lost : {u : List ℕ} (row : ℕ) → row ≡ owner_at p i → e < x.roots → r ≡ false → Added (cell row e) v u
+        → Adds (owner_at p i) (e + 1) (λ k. RootBelowAtom s t q w o x.atoms a p ln l i k → ⊥) (RootBelowAtom s t q w o x.atoms a p ln l i) l u
     root_lost row is h z added = adds_more adds (refuted (tells_before adds tells) z) (omega (arith, given.few)) (rw is at added)
 
     pub root_kept : r ≡ true → Adds (owner_at p i) (e + 1) (λ k. RootBelowAtom s t q w o x.atoms a p ln l i k → ⊥) (RootBelowAtom s t q w o x.atoms a p ln l i) l v

@@ -109,7 +109,8 @@ module _ {s t : List ℕ} {q : Square} {w o a : List ℕ} {i y : ℕ} where
         by_form (name_below z' c' m) = omega arith
         by_form (some_below z' c' r m) = z r
 
-    pub below_as_some : {k f : ℕ} {b : Bool} → kind_at t y ≡ 4 → role_at t y ≡ value_at o i → k ≡ child_at o i → f ≡ filler_at t y → Tells b (RootBelow q.names s t a k f) → Tells b (AtomBelow s t q w o a i y)
+    pub below_as_some : {k f : ℕ} {b : Bool} → kind_at t y ≡ 4 → role_at t y ≡ value_at o i → k ≡ child_at o i → f ≡ filler_at t y → Tells b (RootBelow q.names s t a k f)
+        → Tells b (AtomBelow s t q w o a i y)
     below_as_some {k} {f} z r e g tells = tells_as (λ m. some_below z c r (rw (e, g) at m)) back tells
       where
         back : AtomBelow s t q w o a i y → RootBelow q.names s t a k f
@@ -133,8 +134,10 @@ module _ {s t : List ℕ} {q : Square} {w o a : List ℕ} {i : ℕ} (given : OfA
   tells_before tells = tells_as as_before as_after tells
 
 -- the turns
-module _ {s t : List ℕ} {q : Square} {w o a : List ℕ} {i : ℕ} (given : OfAtom s t q w o a i) {e : ℕ} {b : List ℕ} (adds : Adds (owner_at o i) e (AtomBelow s t q w o a i) (λ y. AtomBelow s t q w o a i y → ⊥) a b) {r : Bool} (tells : Tells r (AtomBelow s t q w o b i e)) where
-  pub raise_sets : {v : List ℕ} (row : ℕ) → row ≡ owner_at o i → e < q.names → r ≡ true → Added (cell row e) b v → Adds (owner_at o i) (e + 1) (AtomBelow s t q w o a i) (λ y. AtomBelow s t q w o a i y → ⊥) a v
+module _ {s t : List ℕ} {q : Square} {w o a : List ℕ} {i : ℕ} (given : OfAtom s t q w o a i) {e : ℕ} {b : List ℕ}
+    (adds : Adds (owner_at o i) e (AtomBelow s t q w o a i) (λ y. AtomBelow s t q w o a i y → ⊥) a b) {r : Bool} (tells : Tells r (AtomBelow s t q w o b i e)) where
+  pub raise_sets : {v : List ℕ} (row : ℕ) → row ≡ owner_at o i → e < q.names → r ≡ true → Added (cell row e) b v
+      → Adds (owner_at o i) (e + 1) (AtomBelow s t q w o a i) (λ y. AtomBelow s t q w o a i y → ⊥) a v
   raise_sets row is h z added = adds_more adds ((tells_before given adds tells).sound z) (omega (arith, given.setting.ranges.few)) (rw is at added)
 
   pub raise_skips : r ≡ false → Adds (owner_at o i) (e + 1) (AtomBelow s t q w o a i) (λ y. AtomBelow s t q w o a i y → ⊥) a b

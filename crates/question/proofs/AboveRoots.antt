@@ -63,7 +63,10 @@ module _ {s t : List ℕ} {q : Square} {w : List ℕ} (world : World s t q w) wh
             let f = axiom_at_lem world y h (λ z. omega arith) in
             let j = rows.defined_conjunction f d in
             let below : Derives al c (name f.it.left) = rw (at_name n y h, ← f.left) at p in
-            parts_above h d (record { each = λ i m. let small = part_small world y i h (kind_2_joins d) m in row.complete (part_at s t y i) small (part_not_defined world f j.0 i m small) (below ▹ to_part f.member (rows.part_in f j.0 i m)) })
+            parts_above h d (record {
+              each = λ i m. let small = part_small world y i h (kind_2_joins d) m in row.complete (part_at s t y i) small
+                  (part_not_defined world f j.0 i m small) (below ▹ to_part f.member (rows.part_in f j.0 i m));
+            })
         by_place (no e) (no d) =
             let h : y < n = omega arith in
             name_above h d (row.complete y h d (rw (at_name n y h) at p))
@@ -86,7 +89,8 @@ module _ {s t : List ℕ} {q : Square} {w : List ℕ} (world : World s t q w) wh
         let f : rows.Found s t n b.left = row_of world b_in in
         let kind : kind_at t b.left ≡ 4 = rows.is_4 f fills.is_restriction fills.is_defined in
         let role : role_at t b.left ≡ value_at o i = rows.role_is f fills.is_restriction ∙ sym fills.role in
-        let filler : RootBelow n s t a (child_at o i) (filler_at t b.left) = root_below_complete row (filler_at t b.left) (filler_small world b.left (rw left h) (kind_4_restricts kind)) (rw (filler_node_lem world f fills.is_restriction) p) in
+        let filler : RootBelow n s t a (child_at o i) (filler_at t b.left) = root_below_complete row (filler_at t b.left)
+        (filler_small world b.left (rw left h) (kind_4_restricts kind)) (rw (filler_node_lem world f fills.is_restriction) p) in
         some_below (rw left at kind) k (rw left at role) (rw left at filler)
 
     pub atom_below_complete : (kind_at t y ≡ 2 → ⊥) → Derives (axioms_of s) (atom_concept (child_at o i) (value_at o i) c) (name y) → AtomBelow s t q w o a i y

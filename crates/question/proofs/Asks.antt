@@ -29,7 +29,7 @@ use Rattle.marks.proofs.Squares.{span_size, size_small, size_is, zeroed_unmarked
 use Rattle.points.specs.Grids.{most_nodes}
 use Rattle.classification.specs.Inclusions.{Unclassified, Classified}
 use Rattle.question.specs.declared.Asked.{Asked}
-use Rattle.question.specs.declared.Asked.TheVariants.{Answer, Refused}
+use Rattle.question.specs.declared.Asked.TheVariants.{Answer}
 use Rattle.el.specs.Derivability.{IsAnswer}
 use Rattle.question.specs.Evaluation.{ToDecide}
 use Rattle.demands.specs.Inputs.{text_ok, concept_in}

@@ -34,7 +34,10 @@ pub kept_none : {al : List Axiom} {point : ℕ → Concept} {e : ℕ} (l o : Lis
 kept_none l o i empty = record { row = λ j h. rw (root_none o i j) record { lost = λ x m k p. empty.none _ k; kept = λ x m k. to_top } }
 
 module _ {al : List Axiom} {point : ℕ → Concept} {e : ℕ} (few : e ≤ most_nodes) where
-  module _ {l v o : List ℕ} {n : ℕ} {r : Extent} (shape : Shape n o r) (i left : ℕ) (h : i < r.atoms) {Below : ℕ → Type 0} (sound : (x : ℕ) → x < e → Below x → Derives al (point x) (atom_concept (child_at o i) (value_at o i) (root_of (atoms_from o (suc i) left) (child_at o i)))) (complete : (x : ℕ) → x < e → Derives al (point x) (atom_concept (child_at o i) (value_at o i) (root_of (atoms_from o (suc i) left) (child_at o i))) → Below x) (kept : Kept al point e l (atoms_from o (suc i) left)) (adds : Adds (owner_at o i) e (λ x. Below x → ⊥) Below l v) where
+  module _ {l v o : List ℕ} {n : ℕ} {r : Extent} (shape : Shape n o r) (i left : ℕ) (h : i < r.atoms) {Below : ℕ → Type 0}
+      (sound : (x : ℕ) → x < e → Below x → Derives al (point x) (atom_concept (child_at o i) (value_at o i) (root_of (atoms_from o (suc i) left) (child_at o i))))
+      (complete : (x : ℕ) → x < e → Derives al (point x) (atom_concept (child_at o i) (value_at o i) (root_of (atoms_from o (suc i) left) (child_at o i))) → Below x)
+      (kept : Kept al point e l (atoms_from o (suc i) left)) (adds : Adds (owner_at o i) e (λ x. Below x → ⊥) Below l v) where
     abbrev rest : List Atom
     rest = atoms_from o (suc i) left
 

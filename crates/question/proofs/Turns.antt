@@ -32,10 +32,26 @@ module _ {s t : List ℕ} {q : Square} {w : List ℕ} (world : World s t q w) wh
 
   module _ {o : List ℕ} {r : Extent} (shape : Shape q.names o r) {i : ℕ} (h : i < r.atoms) where
     pub fill_atom : {a : List ℕ} → Grid a → above.OfAtom s t q w o a i
-    fill_atom g = record { setting = record { ranges = ranges; room = world.room }; rows = g; inside = omega (arith, shape.room); owner = omega (arith, shape.owner i h, shape.few); child = omega (arith, shape.child i h, shape.few); named = shape.named i h; later = λ c. shape.later i i h (omega arith) c }
+    fill_atom g = record {
+      setting = record { ranges = ranges; room = world.room };
+      rows = g;
+      inside = omega (arith, shape.room);
+      owner = omega (arith, shape.owner i h, shape.few);
+      child = omega (arith, shape.child i h, shape.few);
+      named = shape.named i h;
+      later = λ c. shape.later i i h (omega arith) c;
+    }
 
     pub node_atom : {l : List ℕ} → Grid l → nodes.OfAtom t q w o l i
-    node_atom g = record { inclusive = inclusive; grid = g; inside = omega (arith, shape.room); owner = omega (arith, shape.owner i h, shape.few); child = omega (arith, shape.child i h, shape.few); named = shape.named i h; later = λ c. shape.later i i h (omega arith) c }
+    node_atom g = record {
+      inclusive = inclusive;
+      grid = g;
+      inside = omega (arith, shape.room);
+      owner = omega (arith, shape.owner i h, shape.few);
+      child = omega (arith, shape.child i h, shape.few);
+      named = shape.named i h;
+      later = λ c. shape.later i i h (omega arith) c;
+    }
 
     pub root_atom : {c : List ℕ} {e : Extent} {a ln l : List ℕ} → Shape q.names c e → Grid a → Grid ln → Grid l → roots.OfAtom s t q w c e a o ln l i
     root_atom from ga gn gl = record {
@@ -62,13 +78,15 @@ same_grid e g = record { room = omega (arith, g.room) }
 pub fill_start : {s t : List ℕ} {q : Square} {w o : List ℕ} {r : Extent} {a : List ℕ} → ToFill s t q w o r a → Above s t a q.names (atoms_from o r.atoms (r.atoms - r.atoms))
 fill_start {o = o} {r = r} {a = a} given = let z : r.atoms - r.atoms ≡ 0 = omega arith in rw z (above_none given.world a o r.atoms given.empty)
 
-pub fill_turn : {s t : List ℕ} {q : Square} {w o : List ℕ} {r : Extent} {a : List ℕ} {u v : List ℕ} {left : ℕ} → ToFill s t q w o r a → 0 < left → left ≤ r.atoms → Above s t u q.names (atoms_from o left (r.atoms - left)) → Risen s t q w o (left - 1) u v → Above s t v q.names (atoms_from o (left - 1) (r.atoms - (left - 1)))
+pub fill_turn : {s t : List ℕ} {q : Square} {w o : List ℕ} {r : Extent} {a : List ℕ} {u v : List ℕ} {left : ℕ} → ToFill s t q w o r a → 0 < left → left ≤ r.atoms
+    → Above s t u q.names (atoms_from o left (r.atoms - left)) → Risen s t q w o (left - 1) u v → Above s t v q.names (atoms_from o (left - 1) (r.atoms - (left - 1)))
 fill_turn {r = r} {left = left} given some_left h above risen =
     let z : suc (left - 1) ≡ left = omega arith in
     let y : r.atoms - (left - 1) ≡ suc (r.atoms - left) = omega arith in
     rw y (above_more given.world given.shape (left - 1) (r.atoms - left) (omega arith) (rw z above) risen)
 
-pub fill_end : {s t : List ℕ} {q : Square} {w o : List ℕ} {r : Extent} {a : List ℕ} {u : List ℕ} {left : ℕ} → ToFill s t q w o r a → left ≤ 0 → length u ≡ length a → Above s t u q.names (atoms_from o left (r.atoms - left)) → Filled s t q o r u
+pub fill_end : {s t : List ℕ} {q : Square} {w o : List ℕ} {r : Extent} {a : List ℕ} {u : List ℕ} {left : ℕ} → ToFill s t q w o r a → left ≤ 0 → length u ≡ length a
+    → Above s t u q.names (atoms_from o left (r.atoms - left)) → Filled s t q o r u
 fill_end {r = r} {left = left} given none long above =
     let z : left ≡ 0 = omega arith in
     let y : r.atoms - 0 ≡ r.atoms = omega arith in
@@ -88,7 +106,8 @@ module _ {s t : List ℕ} {q : Square} {w o : List ℕ} {r : Extent} {a p : List
         roots = rw z (kept_none l p u.atoms given.roots_empty);
       }
 
-  module _ {left : ℕ} {xn x yn y : List ℕ} (some_left : 0 < left) (h : left ≤ u.atoms) (losing : Losing s o r q.names p left u.atoms xn x) (roots_lost : RootsLost s t q w o r a p xn (left - 1) x y) (nodes_lost : NodesLost t q w p (left - 1) xn yn) where
+  module _ {left : ℕ} {xn x yn y : List ℕ} (some_left : 0 < left) (h : left ≤ u.atoms) (losing : Losing s o r q.names p left u.atoms xn x)
+      (roots_lost : RootsLost s t q w o r a p xn (left - 1) x y) (nodes_lost : NodesLost t q w p (left - 1) xn yn) where
     abbrev i : ℕ
     i = left - 1
 
@@ -116,8 +135,13 @@ module _ {s t : List ℕ} {q : Square} {w o : List ℕ} {r : Extent} {a p : List
         let nodes_row = nodes_before.row (child_at p i) child_small in
         let roots_row = roots_before.row (child_at p i) child_small in
         record {
-          nodes = rw z (kept_more (omega (arith, given.world.few)) given.shape i rest inside (λ k m b. node_below_sound given.world nodes_row refl (given.shape.named i inside) k (omega arith) b) (λ k m b. node_below_complete given.world nodes_row refl (given.shape.named i inside) k (omega arith) b) nodes_before nodes_lost.adds);
-          roots = rw z (kept_more (omega (arith, given.from.few)) given.shape i rest inside (λ k m b. root_under_sound given.world given.from nodes_row roots_row given.filled.above refl (given.shape.named i inside) k (omega (arith, given.from.few)) b) (λ k m b. root_under_complete given.world given.from nodes_row roots_row given.filled.above refl (given.shape.named i inside) k (omega (arith, given.from.few)) b) roots_before roots_lost.adds);
+          nodes = rw z (kept_more (omega (arith, given.world.few)) given.shape i rest inside
+              (λ k m b. node_below_sound given.world nodes_row refl (given.shape.named i inside) k (omega arith) b)
+              (λ k m b. node_below_complete given.world nodes_row refl (given.shape.named i inside) k (omega arith) b) nodes_before nodes_lost.adds);
+          roots = rw z (kept_more (omega (arith, given.from.few)) given.shape i rest inside
+              (λ k m b. root_under_sound given.world given.from nodes_row roots_row given.filled.above refl (given.shape.named i inside) k (omega (arith, given.from.few)) b)
+              (λ k m b. root_under_complete given.world given.from nodes_row roots_row given.filled.above refl (given.shape.named i inside) k (omega (arith, given.from.few)) b)
+              roots_before roots_lost.adds);
         }
 
   pub lose_end : {left : ℕ} {xn x : List ℕ} → left ≤ 0 → length x ≡ length l → Losing s o r q.names p left u.atoms xn x → Lost s o r p u x

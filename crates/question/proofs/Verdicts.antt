@@ -18,7 +18,8 @@ use Rattle.question.specs.Evaluation.{root_point, Lost}
 pub zeros_grid : (k : ℕ) → area ≤ k → Grid (replicate k 0)
 zeros_grid k h = record { room = rw length-replicate h }
 
-module _ {s o : List ℕ} {r : Extent} {p : List ℕ} {u : Extent} {l : List ℕ} (lost : Lost s o r p u l) (whole : 0 < r.roots) {c d : Concept} (below : Same (axioms_of s) c (root_point o r 0)) (above : Same (axioms_of s) d (root_of (atoms_from p 0 u.atoms) 0)) where
+module _ {s o : List ℕ} {r : Extent} {p : List ℕ} {u : Extent} {l : List ℕ} (lost : Lost s o r p u l) (whole : 0 < r.roots) {c d : Concept}
+    (below : Same (axioms_of s) c (root_point o r 0)) (above : Same (axioms_of s) d (root_of (atoms_from p 0 u.atoms) 0)) where
   pub verdict_lost : Set l 0 0 → IsAnswer (axioms_of s) c d 0
   verdict_lost m = record { small = omega arith; derivable = (λ e. absurd (omega arith), λ q. absurd ((lost.kept.row 0 (omega arith)).lost 0 whole m (below.from ▹ q ▹ above.to))) }
 

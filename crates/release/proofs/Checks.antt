@@ -11,7 +11,8 @@ use Rattle.el.specs.Lists.{pick}
 use Rattle.el.proofs.Tests.{Tells}
 use Rattle.release.specs.declared.Checked.{Checked}
 use Rattle.release.specs.declared.Checked.TheVariants.{Accepted, Refused}
-use Rattle.release.specs.Files.{mark, starts_with, is_version, version_of, width_of, names_of, roles_of, count_of, header_length, first_place, most_names, most_names_of, most_roles, header_fault, axioms_fault, axioms_of, conjunct_defined, fault}
+use Rattle.release.specs.Files.{mark, starts_with, is_version, version_of, width_of, names_of, roles_of, count_of, header_length, first_place, most_names, most_names_of, most_roles}
+use Rattle.release.specs.Files.{header_fault, axioms_fault, axioms_of, conjunct_defined, fault}
 use Rattle.release.specs.Readings.{checked}
 use Rattle.release.specs.Tables.{HasHeader, Ready, AxiomsRead, Shaped, SomePartDefined, Blank, ReleaseRead}
 use Rattle.release.proofs.Numbers.{limit_within}
@@ -71,7 +72,8 @@ module _ (s t : List ℕ) where
 
   module _ (h : header_fault s ≡ 0) where
     pub ready : Blank t → Ready (names_of s) (roles_of s) (count_of s) s t
-    ready b = let v = header_sound s h in record { long = v.long; names = v.names; roles = v.roles; count = v.count; rows = omega (arith, b.rows, v.names); blank = λ x l. b.blank x (omega (arith, v.names)) }
+    ready b = let v = header_sound s h in record
+        { long = v.long; names = v.names; roles = v.roles; count = v.count; rows = omega (arith, b.rows, v.names); blank = λ x l. b.blank x (omega (arith, v.names)) }
 
     module _ (f : ℕ) (read : AxiomsRead (names_of s) (roles_of s) (count_of s) s t f) where
       pub refuses_axioms : (f ≡ 0 → ⊥) → (r : Checked) → r ≡ Refused (record { number = f; side = 1 }) → ReleaseRead s t r

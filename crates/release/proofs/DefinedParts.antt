@@ -18,7 +18,11 @@ module _ (n : ℕ) (s t : List ℕ) (x : ℕ) (h : Conjunctive n s t x) where
   has_count = record { row = (has_row n s t x h.shaped h.is_name).row; inside = omega (arith, h.shaped.inside x h.is_name h.is_conjunctive) }
 
   pub has_part : (i : ℕ) → i < count_at s t x → HasPart s t x i
-  has_part i l = record { version = h.shaped.version; row = (has_row n s t x h.shaped h.is_name).row; inside = omega (arith, step_within (width_of s) i (count_at s t x) l, h.shaped.inside x h.is_name h.is_conjunctive) }
+  has_part i l = record {
+    version = h.shaped.version;
+    row = (has_row n s t x h.shaped h.is_name).row;
+    inside = omega (arith, step_within (width_of s) i (count_at s t x) l, h.shaped.inside x h.is_name h.is_conjunctive);
+  }
 
   pub part_row : (i p : ℕ) → i < count_at s t x → p ≡ part_at s t x i → HasRow t p
   part_row i p l e = has_row n s t p h.shaped (rw e (h.shaped.part x i h.is_name h.is_conjunctive l))

@@ -1,7 +1,7 @@
 -- Refusal 15 by the table and by the axioms: a conjunct that is itself a left name of kind 2.
 use mathlib.Core.Path.{◌≡◌, refl, sym, ap, ◌∙◌}
 use mathlib.Core.Bool.{Bool, true, false, true≢false, false≢true}
-use mathlib.Core.List.{List, []}
+use mathlib.Core.List.{List}
 use Prim.Native.Nat.{ℕ, zero, suc, ◌+◌, ◌≤◌, ◌<◌}
 use native.Mathlib.Omega.{arith}
 use lib.ListN.{length, get_or}
@@ -39,11 +39,13 @@ Listed al = Some al (λ a. Some (parts_of a) (λ x. Some al (Defines x)))
 
 pub tells_listed : (al : List Axiom) → Tells (conjunct_defined al) (Listed al)
 unfolding conjunct_defined
-tells_listed al = tells_any _ al (λ a _. tells_any _ (parts_of a) (λ x _. tells_any _ al (λ b _. tells_and (tells_eq b.left x) (λ _. tells_and (tells_true b.defined) (λ _. tells_true (is_conjunction b))))))
+tells_listed al = tells_any _ al (λ a _. tells_any _ (parts_of a)
+    (λ x _. tells_any _ al (λ b _. tells_and (tells_eq b.left x) (λ _. tells_and (tells_true b.defined) (λ _. tells_true (is_conjunction b))))))
 
 module _ (m : ℕ) {n c : ℕ} {s t : List ℕ} (d : Decoded n c s t) (none : axioms_fault (width_of s) n m c 0 s (first_place s) ≡ 0) (long : first_place s ≤ length s) where
   -- from the table to the axioms
-  part_in : {q : ℕ} → Stands c s (first_place s) q → joins (kind_at t (number (width_of s) s q)) ≡ true → (j : ℕ) → j < count_at s t (number (width_of s) s q) → In (parts_of (axiom_at (width_of s) s q)) (part_at s t (number (width_of s) s q) j)
+  part_in : {q : ℕ} → Stands c s (first_place s) q → joins (kind_at t (number (width_of s) s q)) ≡ true → (j : ℕ) → j < count_at s t (number (width_of s) s q)
+      → In (parts_of (axiom_at (width_of s) s q)) (part_at s t (number (width_of s) s q) j)
   part_in {q} i e j l = rw (axiom_parts (width_of s) s q (rw (holds d i).kind at e), part_is d i j) (in_numbers (width_of s) _ s _ j (omega (arith, l, count_is d i)))
 
   listed_of : {q : ℕ} → Stands c s (first_place s) q → joins (kind_at t (number (width_of s) s q)) ≡ true → PartDefined s t (number (width_of s) s q) → Listed (axioms_from c s (first_place s))
@@ -82,7 +84,12 @@ module _ (m : ℕ) {n c : ℕ} {s t : List ℕ} (d : Decoded n c s t) (none : ax
       let r = numbers_at (width_of s) (get_or s (q + width_of s + 1) 0) s (q + width_of s + 1 + 1) (rw (axiom_parts (width_of s) s q e) at h) in
       let y = is_2 s p x w in
       let z : part_at s t (number (width_of s) s q) r.place ≡ number (width_of s) s p = part_is d i r.place ∙ (r.is ∙ sym y.0) in
-      record { left = number (width_of s) s q; is_name = (sound m d none i).left; is_conjunctive = rw (holds d i).kind e; part = record { at = r.place; among = rw (count_is d i) r.small; is_defined = ap (kind_at t) z ∙ ((holds d k).kind ∙ y.1) } }
+      record {
+        left = number (width_of s) s q;
+        is_name = (sound m d none i).left;
+        is_conjunctive = rw (holds d i).kind e;
+        part = record { at = r.place; among = rw (count_is d i) r.small; is_defined = ap (kind_at t) z ∙ ((holds d k).kind ∙ y.1) };
+      }
 
   from_listed : Listed (axioms_from c s (first_place s)) → SomePartDefined n s t
   from_listed w =
@@ -92,7 +99,8 @@ module _ (m : ℕ) {n c : ℕ} {s t : List ℕ} (d : Decoded n c s t) (none : ax
       defined_at a.stands b.stands (rw (← a.is) at w.holds.member) (rw (← b.is) at v.holds)
 
   pub defined_parts : (r : Bool) → Tells r (SomePartDefined n s t) → r ≡ conjunct_defined (axioms_from c s (first_place s))
-  defined_parts r h = same_test r (conjunct_defined (axioms_from c s (first_place s))) (λ e. (tells_listed _).complete (to_listed (h.sound e))) (λ e. h.complete (from_listed ((tells_listed _).sound e)))
+  defined_parts r h = same_test r (conjunct_defined (axioms_from c s (first_place s))) (λ e. (tells_listed _).complete (to_listed (h.sound e)))
+      (λ e. h.complete (from_listed ((tells_listed _).sound e)))
     where
       same_test : (a b : Bool) → (a ≡ true → b ≡ true) → (b ≡ true → a ≡ true) → a ≡ b
       same_test true b f g = sym (f refl)

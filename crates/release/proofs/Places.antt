@@ -24,16 +24,21 @@ use Rattle.release.proofs.Sound.{axiom_sound, tail_within}
 use Rattle.release.proofs.Decoding.{holds, count_is, both_none}
 use Rattle.release.proofs.Linked.{no_axiom_fault, sound_at, tail_kind, ranges, rises}
 
-later_none : (s : List ℕ) (c least p : ℕ) → axioms_fault (width_of s) (names_of s) (roles_of s) (suc c) least s p ≡ 0 → (axiom_fault (width_of s) (names_of s) (roles_of s) least s p ≡ 0) × (axioms_fault (width_of s) (names_of s) (roles_of s) c (suc (number (width_of s) s p)) s (p + axiom_length (width_of s) s p) ≡ 0)
+later_none : (s : List ℕ) (c least p : ℕ) → axioms_fault (width_of s) (names_of s) (roles_of s) (suc c) least s p ≡ 0
+    → (axiom_fault (width_of s) (names_of s) (roles_of s) least s p ≡ 0)
+    × (axioms_fault (width_of s) (names_of s) (roles_of s) c (suc (number (width_of s) s p)) s (p + axiom_length (width_of s) s p) ≡ 0)
 unfolding axioms_fault
-later_none s c least p h = both_none (axiom_fault (width_of s) (names_of s) (roles_of s) least s p) (axioms_fault (width_of s) (names_of s) (roles_of s) c (suc (number (width_of s) s p)) s (p + axiom_length (width_of s) s p)) h
+later_none s c least p h = both_none (axiom_fault (width_of s) (names_of s) (roles_of s) least s p)
+    (axioms_fault (width_of s) (names_of s) (roles_of s) c (suc (number (width_of s) s p)) s (p + axiom_length (width_of s) s p)) h
 
 -- the first axiom with the name is the only one
-place_found : (s : List ℕ) (ok : fault s ≡ 0) (side c least p q : ℕ) → axioms_fault (width_of s) (names_of s) (roles_of s) c least s p ≡ 0 → Stands c s p q → place_from side c s p (number (width_of s) s q) ≡ record { side = side; start = q; length = axiom_length (width_of s) s q }
+place_found : (s : List ℕ) (ok : fault s ≡ 0) (side c least p q : ℕ) → axioms_fault (width_of s) (names_of s) (roles_of s) c least s p ≡ 0 → Stands c s p q
+    → place_from side c s p (number (width_of s) s q) ≡ record { side = side; start = q; length = axiom_length (width_of s) s q }
 unfolding place_from axioms_fault
 place_found s ok side zero least p q h absent = elim absent [ ]
 place_found s ok side (suc c) least p q h here = rw (place_from, eq-eqb (number (width_of s) s p) (number (width_of s) s p) refl)
-place_found s ok side (suc c) least p q h (there i) = rw (place_from, ne_eqb (number (width_of s) s p) (number (width_of s) s q) (λ e. omega (arith, rises s ok c least p q h i))) (place_found s ok side c (suc (number (width_of s) s p)) (p + axiom_length (width_of s) s p) q (later_none s c least p h).1 i)
+place_found s ok side (suc c) least p q h (there i) = rw (place_from, ne_eqb (number (width_of s) s p) (number (width_of s) s q) (λ e. omega (arith, rises s ok c least p q h i)))
+    (place_found s ok side c (suc (number (width_of s) s p)) (p + axiom_length (width_of s) s p) q (later_none s c least p h).1 i)
 
 place_none : (s : List ℕ) (side c p x : ℕ) → ((q : ℕ) → Stands c s p q → number (width_of s) s q ≡ x → ⊥) → place_from side c s p x ≡ nowhere
 unfolding place_from
@@ -77,7 +82,8 @@ module _ {s t : List ℕ} (r : Release s t) (side x : ℕ) where
     place_row = record { row = omega (arith, r.decoded.rows) }
 
     pub place_blank : kind_at t x ≡ 0 → nowhere ≡ place_in side s x
-    place_blank z = sym (place_none s side (count_of s) (first_place s) x (λ q i e. no_kind_0 (get_or s (q + width_of s) 0) (sym (holds r.decoded i).kind ∙ (ap (kind_at t) e ∙ z)) (tail_kind (sound_at s r.accepted i).tail)))
+    place_blank z = sym (place_none s side (count_of s) (first_place s) x
+        (λ q i e. no_kind_0 (get_or s (q + width_of s) 0) (sym (holds r.decoded i).kind ∙ (ap (kind_at t) e ∙ z)) (tail_kind (sound_at s r.accepted i).tail)))
 
     module _ (some : kind_at t x ≡ 0 → ⊥) where
       record Found : Type 0 where
@@ -218,7 +224,8 @@ first_holds s t side x p e h = rw (ne_eqb _ _ h) at (rw (← e) at (shown_within
 
 -- the bytes and the place of the part, once it is known which file holds it
 module _ (first second : Bor (List ℕ)) (side x : ℕ) (place : Place) (e : place ≡ shown_place first.now second.now side x) (held : Bor (List ℕ)) (h : holder first second place ≡ held) where
-  pub part_bytes : take (place.start + place.length - place.start) (drop place.start held.now) ≡ take (shown_place first.now second.now side x).length (drop (shown_place first.now second.now side x).start (holder first second (shown_place first.now second.now side x)).now)
+  pub part_bytes : take (place.start + place.length - place.start) (drop place.start held.now) ≡ take (shown_place first.now second.now side x).length
+      (drop (shown_place first.now second.now side x).start (holder first second (shown_place first.now second.now side x)).now)
   part_bytes = let z : place.start + place.length - place.start ≡ place.length = omega arith in rw (← e, h, z)
 
   pub part_block : held.ref_ptr.0 ≡ (holder first second (shown_place first.now second.now side x)).ref_ptr.0

@@ -33,7 +33,8 @@ module _ (t : List ℕ) (i k r f p : ℕ) (room : i + 4 ≤ length t) where
   stored_1 = get_or-set_other t3 (i + 3) (i + 1) p 0 (omega arith) ∙ (get_or-set_other t2 (i + 2) (i + 1) f 0 (omega arith) ∙ get_or-set_same t1 (i + 1) r 0 (simp length-set (omega arith)))
 
   stored_0 : get_or t4 i 0 ≡ k
-  stored_0 = get_or-set_other t3 (i + 3) i p 0 (omega arith) ∙ (get_or-set_other t2 (i + 2) i f 0 (omega arith) ∙ (get_or-set_other t1 (i + 1) i r 0 (omega arith) ∙ get_or-set_same t i k 0 (omega arith)))
+  stored_0 = get_or-set_other t3 (i + 3) i p 0 (omega arith) ∙
+      (get_or-set_other t2 (i + 2) i f 0 (omega arith) ∙ (get_or-set_other t1 (i + 1) i r 0 (omega arith) ∙ get_or-set_same t i k 0 (omega arith)))
 
   elsewhere : (j : ℕ) → (j ≡ i → ⊥) → (j ≡ i + 1 → ⊥) → (j ≡ i + 2 → ⊥) → (j ≡ i + 3 → ⊥) → get_or t4 j 0 ≡ get_or t j 0
   elsewhere j a b c d = get_or-set_other t3 (i + 3) j p 0 d ∙ (get_or-set_other t2 (i + 2) j f 0 c ∙ (get_or-set_other t1 (i + 1) j r 0 b ∙ get_or-set_other t i j k 0 a))

@@ -15,7 +15,8 @@ nowhere = record { side = 1; start = 0; length = 0 }
 -- the axiom of x among c axioms from place p on, in the file on the given side
 unfoldable pub place_from : ℕ → ℕ → List ℕ → ℕ → ℕ → Place
 place_from side zero s p x = nowhere
-place_from side (suc c) s p x = pick (eqb (number (width_of s) s p) x) (record { side = side; start = p; length = axiom_length (width_of s) s p }) (place_from side c s (p + axiom_length (width_of s) s p) x)
+place_from side (suc c) s p x = pick (eqb (number (width_of s) s p) x) (record { side = side; start = p; length = axiom_length (width_of s) s p })
+    (place_from side c s (p + axiom_length (width_of s) s p) x)
 
 abbrev pub place_in : ℕ → List ℕ → ℕ → Place
 place_in side s x = place_from side (count_of s) s (first_place s) x

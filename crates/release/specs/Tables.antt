@@ -6,7 +6,8 @@
 use Rattle.std.specs.Prelude.{◌≡◌, true, false, List, ℕ, suc, ◌+◌, ◌*◌, ◌≤◌, ◌<◌, length, get_or}
 use Rattle.el.specs.Lists.{In}
 use Rattle.el.specs.Axioms.{Axiom, is_conjunction, parts_of, role_of, filler_of}
-use Rattle.release.specs.Files.{number, numbers, width_of, header_length, first_place, most_names, most_roles, names_of, count_of, joins, restricts, axiom_length, axioms_fault, fault, IsWidth, kind_of}
+use Rattle.release.specs.Files.{number, numbers, width_of, header_length, first_place, most_names, most_roles, names_of, count_of, joins, restricts, axiom_length, axioms_fault}
+use Rattle.release.specs.Files.{fault, IsWidth, kind_of}
 use Rattle.release.specs.Readings.{checked}
 use Rattle.release.specs.Entries.{node_number, entry_of}
 use Rattle.release.specs.declared.axiom.Entry.{Entry}

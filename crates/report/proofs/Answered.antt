@@ -15,11 +15,13 @@ use Rattle.meanings.specs.declared.Comparison.TheVariants.{Accepted, Refused}
 use Rattle.report.specs.Answered.{answer_text, answer_to}
 
 module _ {a : Comparison} (bs : List ℕ) {o q : List ℕ} {r : Written} where
-  pub accepted_written : (counts : Compared) → a ≡ Accepted counts → WrittenAs (report_answer counts.names counts.roles bs o) (report_text counts.names counts.roles bs) o q r → WrittenAs (answer_to a bs o) (answer_text a bs) o q r
+  pub accepted_written : (counts : Compared) → a ≡ Accepted counts → WrittenAs (report_answer counts.names counts.roles bs o) (report_text counts.names counts.roles bs) o q r
+      → WrittenAs (answer_to a bs o) (answer_text a bs) o q r
   unfolding answer_to answer_text
   accepted_written counts e w = subst (λ (x : Comparison). WrittenAs (answer_to x bs o) (answer_text x bs) o q r) (sym e) w
 
-  pub refused_written : (refusal : Refusal) → a ≡ Refused refusal → WrittenAs (fitted (refusal_line refusal.number refusal.side) o) (refusal_line refusal.number refusal.side) o q r → WrittenAs (answer_to a bs o) (answer_text a bs) o q r
+  pub refused_written : (refusal : Refusal) → a ≡ Refused refusal
+      → WrittenAs (fitted (refusal_line refusal.number refusal.side) o) (refusal_line refusal.number refusal.side) o q r → WrittenAs (answer_to a bs o) (answer_text a bs) o q r
   unfolding answer_to answer_text
   refused_written refusal e w = subst (λ (x : Comparison). WrittenAs (answer_to x bs o) (answer_text x bs) o q r) (sym e) w
 

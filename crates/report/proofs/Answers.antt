@@ -53,7 +53,8 @@ module _ (n m : ℕ) (result o : List ℕ) where
   result_too_short {a} h e =
       subst (λ (w : Written). WrittenAs w (report_text n m result) o o a) (sym (refuses_result h)) (record { answers = e; leaves = refl })
 
-  pub result_long_enough : {a : Written} {q : List ℕ} → n ≤ length result → WrittenAs (fitted (report_text n m result) o) (report_text n m result) o q a → WrittenAs (report_answer n m result o) (report_text n m result) o q a
+  pub result_long_enough : {a : Written} {q : List ℕ} → n ≤ length result → WrittenAs (fitted (report_text n m result) o) (report_text n m result) o q a
+      → WrittenAs (report_answer n m result o) (report_text n m result) o q a
   result_long_enough {a} {q} h written =
       subst (λ (w : Written). WrittenAs w (report_text n m result) o q a) (sym (goes_on h)) written
 

@@ -64,7 +64,8 @@ module _ (v : List ℕ) (x : ℕ) (w : List ℕ) (y : ℕ) where
           pub newline_room : {r : List ℕ} {e : ℕ} → Put q'' n'' (decimal y) r e → Room r e (newline ∷ [])
           newline_room last = room_then after_then_room last
 
-  pub two_numbers_put : {o a b c d r : List ℕ} {p i j k l e : ℕ} → Put o p v a i → Put a i (decimal x) b j → Put b j w c k → Put c k (decimal y) d l → Put d l (newline ∷ []) r e → Put o p (two_numbers v x w y) r e
+  pub two_numbers_put : {o a b c d r : List ℕ} {p i j k l e : ℕ} → Put o p v a i → Put a i (decimal x) b j → Put b j w c k → Put c k (decimal y) d l → Put d l (newline ∷ []) r e
+      → Put o p (two_numbers v x w y) r e
   unfolding two_numbers
   two_numbers_put word number then other end = put_then word (put_then number (put_then then (put_then other end)))
 

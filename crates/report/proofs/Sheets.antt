@@ -61,7 +61,8 @@ module _ (i : ℕ) {r : Row} {a b c d : ℕ} (chosen : a ≡ r.chosen) (left : b
   pub row_rest : {o : List ℕ} {p : ℕ} → Room o p (row_line i r) → Rest o p (row_line i r) o p row_pieces
   row_rest {o} {p} room = subst (λ (t : List ℕ). Rest o p (row_line i r) o p t) same_row (rest_whole room)
 
-  pub row_length : length (row_line i r) ≡ length (worded branch_word i) + (length (worded chosen_word a) + (length (worded row_left_word b) + (length (worded right_word c) + (length (worded share_word d) + 1))))
+  pub row_length : length (row_line i r) ≡ length
+      (worded branch_word i) + (length (worded chosen_word a) + (length (worded row_left_word b) + (length (worded right_word c) + (length (worded share_word d) + 1))))
   row_length = ap length same_row ∙ simp length-append
 
 -- the lines of rows, one at a time
@@ -130,6 +131,7 @@ module _ {a : Comparison} (q : ℕ) (rs : List Row) {o p : List ℕ} {w : Writte
   accepted_sheet {n} counts e f written =
       subst (λ (x : Comparison). SheetWritten x q rs o p w) (sym e) (subst (λ (k : ℕ). WrittenAs (fitted (first_lines k rs) o) (first_lines k rs) o p w) f written)
 
-  pub refused_sheet : (refusal : Refusal) → a ≡ Refused refusal → WrittenAs (fitted (refusal_line refusal.number refusal.side) o) (refusal_line refusal.number refusal.side) o p w → SheetWritten a q rs o p w
+  pub refused_sheet : (refusal : Refusal) → a ≡ Refused refusal → WrittenAs (fitted (refusal_line refusal.number refusal.side) o) (refusal_line refusal.number refusal.side) o p w
+      → SheetWritten a q rs o p w
   unfolding sheet_text
   refused_sheet refusal e written = subst (λ (x : Comparison). SheetWritten x q rs o p w) (sym e) written

@@ -1,7 +1,6 @@
 use Rattle.marks.proofs.Passes.{closed_further}
 use Rattle.backward.proofs.Tested.{setting, setting_stays, named, squares, name_grows, below_grows, follows_grows}
 use Rattle.backward.proofs.Meaning.{backwarded}
-use borrow.Author.Rules.{rules}
 use Rattle.backward.proofs.mark_lost_below.Goals as goal
 
 pub sort-requires : goal.sort-requires
@@ -14,7 +13,13 @@ pub hand_all_up-requires : goal.hand_all_up-requires
 hand_all_up-requires c = squares (setting_stays c.mark_names.ensures (setting c.requires.edges c.requires.comparing))
 
 pub close-requires : goal.close-requires
-close-requires c = record { names_in_bounds = c.requires.names_in_bounds; setting = setting_stays c.hand_all_up.ensures (setting_stays c.mark_names.ensures (setting c.requires.edges c.requires.comparing)) }
+close-requires c = record {
+  names_in_bounds = c.requires.names_in_bounds;
+  setting = setting_stays c.hand_all_up.ensures (setting_stays c.mark_names.ensures (setting c.requires.edges c.requires.comparing));
+}
 
 pub returns : goal.returns
-returns c = record { of_signature = λ g handed. backwarded handed c.requires.comparing (closed_further (name_grows c.mark_names.ensures) (closed_further (follows_grows (below_grows c.hand_all_up.ensures)) c.close.ensures)) }
+returns c = record {
+  of_signature = λ g handed. backwarded handed c.requires.comparing
+      (closed_further (name_grows c.mark_names.ensures) (closed_further (follows_grows (below_grows c.hand_all_up.ensures)) c.close.ensures));
+}

@@ -1,6 +1,6 @@
 -- Each turn finds one row more, and the end says what is promised of the answer, the rows and the memory.
-use Rattle.std.proofs.Common.{◌≡◌, ◌<◌, ◌≤◌, length, arith, refl, ◌∙◌}
-use Rattle.branches.proofs.Sheets.{sheet_long, sheet_more, turn, enough_rows, endable, says}
+use Rattle.std.proofs.Common.{◌≡◌, ◌<◌, length, arith, refl, ◌∙◌}
+use Rattle.branches.proofs.Sheets.{sheet_more, turn, enough_rows, endable, says}
 use Rattle.branches.proofs.compare_branches.Goals as goal
 
 pub row_at-row-requires : goal.row_at-row-requires

@@ -1,7 +1,6 @@
 use Rattle.marks.proofs.Passes.{closed_further}
 use Rattle.classification.proofs.Marking.{setting_stays}
 use Rattle.classification.proofs.Meaning.{setting, classified}
-use borrow.Author.Rules.{rules}
 use Rattle.classification.proofs.classify.Goals as goal
 
 pub begin-requires : goal.begin-requires

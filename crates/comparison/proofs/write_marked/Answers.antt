@@ -1,5 +1,4 @@
 use Rattle.comparison.proofs.Pipeline.{readable, marking}
-use borrow.Author.Rules.{rules}
 use Rattle.comparison.proofs.write_marked.Goals as goal
 
 pub write_bytes-requires : goal.write_bytes-requires

@@ -1,5 +1,4 @@
 use Rattle.layout.proofs.Layouts.{name_inside, name_outside}
-use borrow.Author.Rules.{rules}
 use Rattle.layout.proofs.has_name.Goals as goal
 
 pub returns-then-name-layout : goal.returns-then-name-layout

@@ -1,8 +1,6 @@
-use Prim.Native.Nat.{◌≤◌, ◌-◌}
-use mathlib.Core.Path.{◌≡◌, refl}
+use mathlib.Core.Path.{refl}
 use borrow.Author.Rules.{rules}
-use lib.ListN.{length, length-set}
-use Rattle.marks.specs.Memory.{Zeroed}
+use lib.ListN.{length-set}
 use Rattle.marks.proofs.Squares.{zeroed_none, zeroed_more, zeroed_end}
 use Rattle.marks.proofs.clear.Goals as goal
 

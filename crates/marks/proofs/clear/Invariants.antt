@@ -1,9 +1,7 @@
 use Prim.Native.Nat.{◌≤◌, ◌-◌}
-use mathlib.Core.Path.{◌≡◌, refl}
-use borrow.Author.Rules.{rules}
-use lib.ListN.{length, length-set}
+use mathlib.Core.Path.{◌≡◌}
+use lib.ListN.{length}
 use Rattle.marks.specs.Memory.{Zeroed}
-use Rattle.marks.proofs.Squares.{zeroed_none, zeroed_more, zeroed_end}
 use Rattle.marks.proofs.clear.Given as goal
 
 -- the bytes before i are 0, and the others as they were

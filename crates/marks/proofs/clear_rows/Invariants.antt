@@ -1,8 +1,7 @@
-use native.Mathlib.Omega.{arith}
 use mathlib.Core.Path.{◌≡◌}
 use Prim.Native.Nat.{◌≤◌, ◌-◌}
 use Rattle.marks.specs.Squares.{span as rows}
-use Rattle.marks.proofs.Squares.{RowsZero, rows_none, rows_more, rows_unmarked, span_is, behind_small}
+use Rattle.marks.proofs.Squares.{RowsZero}
 use Rattle.marks.proofs.clear_rows.Given as goal
 
 abbrev pub invariant-loop-i : goal.invariant-loop-i

@@ -1,5 +1,4 @@
 use Rattle.marks.proofs.Squares.{tells_marked, tells_unmarked}
-use borrow.Author.Rules.{rules}
 use Rattle.marks.proofs.is_marked.Goals as goal
 
 pub returns-then-bit-eq1 : goal.returns-then-bit-eq1

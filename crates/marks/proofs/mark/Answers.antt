@@ -1,5 +1,4 @@
 use Rattle.marks.proofs.Squares.{put_found, put_fresh}
-use borrow.Author.Rules.{rules}
 use Rattle.marks.proofs.mark.Goals as goal
 
 pub returns-then-bit-eq1 : goal.returns-then-bit-eq1

@@ -1,6 +1,5 @@
 use native.Mathlib.Omega.{arith}
 use Rattle.marks.proofs.Squares.{product_small, place_of}
-use borrow.Author.Rules.{rules}
 use Rattle.marks.proofs.place.Goals as goal
 
 pub overflow_mul-result : goal.overflow_mul-result

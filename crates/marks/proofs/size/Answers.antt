@@ -1,6 +1,5 @@
 use native.Mathlib.Omega.{arith}
 use Rattle.marks.proofs.Squares.{size_is, size_small}
-use borrow.Author.Rules.{rules}
 use Rattle.marks.proofs.size.Goals as goal
 
 pub overflow_mul-result : goal.overflow_mul-result

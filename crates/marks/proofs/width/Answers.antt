@@ -1,5 +1,4 @@
 use Rattle.marks.proofs.Squares.{width_is}
-use borrow.Author.Rules.{rules}
 use Rattle.marks.proofs.width.Goals as goal
 
 pub returns : goal.returns

@@ -1,7 +1,6 @@
 use Rattle.meanings.proofs.Judging.{first_refused, second_refused, names_differ, roles_differ, counts_same}
 use native.Mathlib.Omega.{arith}
 use mathlib.Core.Path.{refl}
-use borrow.Author.Rules.{rules}
 use Rattle.meanings.proofs.agree.Goals as goal
 
 pub returns-in_default : goal.returns-in_default

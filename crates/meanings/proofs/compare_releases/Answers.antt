@@ -1,6 +1,5 @@
 use Rattle.release.proofs.Rows.{blank_table}
 use Rattle.meanings.proofs.Promise.{limited, refuses, room, given, compares}
-use borrow.Author.Rules.{rules}
 use Rattle.meanings.proofs.compare_releases.Goals as goal
 
 pub read_release-first_checked-requires : goal.read_release-first_checked-requires
@@ -24,4 +23,5 @@ compare_tables-requires c = let a = c.args in
 pub returns : goal.returns
 returns c =
     let a = c.args in
-    compares c.read_release-first_checked.ensures c.read_release-second_checked.ensures a.signature.now a.result_bytes.now a.work.now _ c.judge-answer.ensures _ c.in-Accepted.is _ _ c.compare_tables.auto.result_bytes c.compare_tables.auto.work c.compare_tables.ensures
+    compares c.read_release-first_checked.ensures c.read_release-second_checked.ensures a.signature.now a.result_bytes.now a.work.now _ c.judge-answer.ensures _ c.in-Accepted.is _
+    _ c.compare_tables.auto.result_bytes c.compare_tables.auto.work c.compare_tables.ensures

@@ -1,5 +1,4 @@
 use Rattle.meanings.proofs.Judging.{work_length_lem}
-use borrow.Author.Rules.{rules}
 use Rattle.meanings.proofs.lacks_work.Goals as goal
 
 pub returns : goal.returns

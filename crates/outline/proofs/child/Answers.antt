@@ -1,5 +1,4 @@
 use Rattle.outline.specs.Atoms.{child_at}
-use borrow.Author.Rules.{rules}
 use Rattle.outline.proofs.child.Goals as goal
 
 pub returns : goal.returns

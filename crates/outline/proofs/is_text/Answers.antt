@@ -1,9 +1,6 @@
 -- `is_text` meets its contract. The loop keeps that the bytes are a concept's exactly where `pending` concepts stand from `at` on.
-use Prim.Native.Nat.{◌≤◌, ◌-◌, ◌+◌}
 use native.Mathlib.Omega.{arith}
-use borrow.Author.Rules.{rules}
-use lib.ListN.{length}
-use Rattle.outline.proofs.Readable.{Scan, scan_start, too_long, ends_early, ends_no_kind, after_top, after_both, cut_name, cut_role, large_name, after_name, large_role, after_role, by_the_end}
+use Rattle.outline.proofs.Readable.{scan_start, too_long, ends_early, ends_no_kind, after_top, after_both, cut_name, cut_role, large_name, after_name, large_role, after_role, by_the_end}
 use Rattle.outline.proofs.is_text.Goals as goal
 
 pub returns-then-bytes-gt-LONGEST : goal.returns-then-bytes-gt-LONGEST
@@ -55,8 +52,13 @@ loop-pending-smaller-in-1 c = omega (arith, c.requires, c.if-bytes-next.false)
 
 pub loop-pending-preserved-in-1 : goal.loop-pending-preserved-in-1
 loop-pending-preserved-in-1 c =
-    let v = c.loop-pending.invariant in
-    (v.0, c.if-bytes-next.false, omega (arith, c.requires), after_name v.3 c.loop-pending-test.true c.if-bytes-at.false c.in-1.is c.if-bytes-next.false (rw (c.wide.ensures, c.number_at.ensures) at c.if-names-wide.false))
+    let v = c.loop-pending.invariant in (
+      v.0,
+      c.if-bytes-next.false,
+      omega (arith, c.requires),
+      after_name v.3 c.loop-pending-test.true c.if-bytes-at.false c.in-1.is c.if-bytes-next.false
+          (rw (c.wide.ensures, c.number_at.ensures) at c.if-names-wide.false),
+    )
 
 pub overflow_add-pending : goal.overflow_add-pending
 overflow_add-pending c = omega arith
@@ -76,7 +78,8 @@ pub number_at-requires-in-3 : goal.number_at-requires-in-3
 number_at-requires-in-3 c = record { width = record { some = omega arith; few = omega arith }; inside = omega arith }
 
 pub returns-then-roles-wide : goal.returns-then-roles-wide
-returns-then-roles-wide c = large_role c.loop-pending.invariant.3 c.loop-pending-test.true c.if-bytes-at.false c.in-3.is c.if-bytes-next-2.false (rw (c.wide-in-3.ensures, c.number_at-in-3.ensures) at c.if-roles-wide.true)
+returns-then-roles-wide c = large_role c.loop-pending.invariant.3 c.loop-pending-test.true c.if-bytes-at.false c.in-3.is c.if-bytes-next-2.false
+    (rw (c.wide-in-3.ensures, c.number_at-in-3.ensures) at c.if-roles-wide.true)
 
 pub overflow_add-at-in-3 : goal.overflow_add-at-in-3
 overflow_add-at-in-3 c = omega arith
@@ -86,8 +89,13 @@ loop-pending-smaller c = omega arith
 
 pub loop-pending-preserved : goal.loop-pending-preserved
 loop-pending-preserved c =
-    let v = c.loop-pending.invariant in
-    (v.0, omega arith, omega arith, after_role v.3 c.loop-pending-test.true c.if-bytes-at.false c.in-3.is c.if-bytes-next-2.false (rw (c.wide-in-3.ensures, c.number_at-in-3.ensures) at c.if-roles-wide.false))
+    let v = c.loop-pending.invariant in (
+      v.0,
+      omega arith,
+      omega arith,
+      after_role v.3 c.loop-pending-test.true c.if-bytes-at.false c.in-3.is c.if-bytes-next-2.false
+          (rw (c.wide-in-3.ensures, c.number_at-in-3.ensures) at c.if-roles-wide.false),
+    )
 
 pub returns-in_default : goal.returns-in_default
 returns-in_default c =

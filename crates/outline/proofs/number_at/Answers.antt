@@ -1,7 +1,6 @@
 use Rattle.outline.proofs.Readable.{number_narrow, number_wide}
 use native.Mathlib.Omega.{arith}
 use Prim.Native.Nat.{◌+◌}
-use borrow.Author.Rules.{rules}
 use Rattle.outline.proofs.number_at.Goals as goal
 
 pub overflow_cast-low : goal.overflow_cast-low

@@ -1,11 +1,9 @@
 -- `outline` meets its contract. The loop keeps what is read, pending and written for every concept whose text the bytes are; it ends since
 -- each turn reads a byte.
-use Prim.Native.Nat.{◌-◌}
-use mathlib.Core.Path.{◌≡◌, refl, ◌∙◌}
+use mathlib.Core.Path.{refl, ◌∙◌}
 use native.Mathlib.Omega.{arith}
-use borrow.Author.Rules.{rules}
-use lib.ListN.{length, length-set}
-use Rattle.outline.proofs.Turns.{Numbers, States, byte_there, name_there, role_there, turn_top, turn_both, name_turn, some_turn, starts, ends}
+use lib.ListN.{length-set}
+use Rattle.outline.proofs.Turns.{byte_there, name_there, role_there, turn_top, turn_both, name_turn, some_turn, starts, ends}
 use Rattle.outline.proofs.outline.Goals as goal
 
 pub bounds-owners-0 : goal.bounds-owners-0
@@ -13,8 +11,21 @@ bounds-owners-0 c = omega arith
 
 pub loop-pending-init : goal.loop-pending-init
 loop-pending-init c =
-    let p = c.requires in
-    (record { short = p.text.short; inside = omega arith; high = omega arith; few = omega arith; some_root = omega arith; roots_few = omega arith; stack = simp length-set p.stack; room = p.room }, refl, refl, starts c.args.width c.args.bytes.now c.args.owners.now c.args.atoms.now p.stack)
+    let p = c.requires in (
+      record {
+        short = p.text.short;
+        inside = omega arith;
+        high = omega arith;
+        few = omega arith;
+        some_root = omega arith;
+        roots_few = omega arith;
+        stack = simp length-set p.stack;
+        room = p.room;
+      },
+      refl,
+      refl,
+      starts c.args.width c.args.bytes.now c.args.owners.now c.args.atoms.now p.stack,
+    )
 
 pub overflow_sub-top : goal.overflow_sub-top
 overflow_sub-top c = omega arith
@@ -39,8 +50,12 @@ loop-pending-preserved-in-0 c =
     let v = c.loop-pending.invariant in
     let first = c.loop-pending-test.true in
     let inside = byte_there v.3 c.requires first in
-    let l = v.0 in
-    (record { short = l.short; inside = omega arith; high = omega arith; few = omega arith; some_root = l.some_root; roots_few = l.roots_few; stack = l.stack; room = l.room }, v.1, v.2, record { of = λ n m d t. turn_top (v.3.of n m d t) first c.in-0.is })
+    let l = v.0 in (
+      record { short = l.short; inside = omega arith; high = omega arith; few = omega arith; some_root = l.some_root; roots_few = l.roots_few; stack = l.stack; room = l.room },
+      v.1,
+      v.2,
+      record { of = λ n m d t. turn_top (v.3.of n m d t) first c.in-0.is },
+    )
 
 pub overflow_add-at-in-1 : goal.overflow_add-at-in-1
 overflow_add-at-in-1 c = omega arith
@@ -94,8 +109,21 @@ loop-pending-preserved-in-2 c =
     let v = c.loop-pending.invariant in
     let first = c.loop-pending-test.true in
     let inside = byte_there v.3 c.requires first in
-    let l = v.0 in
-    (record { short = l.short; inside = omega arith; high = omega arith; few = omega arith; some_root = l.some_root; roots_few = l.roots_few; stack = simp length-set l.stack; room = l.room }, rw length-set v.1, v.2, record { of = λ n m d t. turn_both (v.3.of n m d t) first c.in-2.is (omega arith) })
+    let l = v.0 in (
+      record {
+        short = l.short;
+        inside = omega arith;
+        high = omega arith;
+        few = omega arith;
+        some_root = l.some_root;
+        roots_few = l.roots_few;
+        stack = simp length-set l.stack;
+        room = l.room;
+      },
+      rw length-set v.1,
+      v.2,
+      record { of = λ n m d t. turn_both (v.3.of n m d t) first c.in-2.is (omega arith) },
+    )
 
 pub overflow_add-at-in_default : goal.overflow_add-at-in_default
 overflow_add-at-in_default c = omega arith

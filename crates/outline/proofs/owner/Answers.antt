@@ -1,5 +1,4 @@
 use Rattle.outline.specs.Atoms.{owner_at}
-use borrow.Author.Rules.{rules}
 use Rattle.outline.proofs.owner.Goals as goal
 
 pub returns : goal.returns

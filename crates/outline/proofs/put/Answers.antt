@@ -2,7 +2,6 @@ use native.Mathlib.Omega.{arith}
 use mathlib.Core.Path.{refl}
 use lib.ListN.{length-set}
 use Rattle.outline.specs.Atoms.{put_atom}
-use borrow.Author.Rules.{rules}
 use Rattle.outline.proofs.put.Goals as goal
 
 pub bounds-atoms-at-2 : goal.bounds-atoms-at-2

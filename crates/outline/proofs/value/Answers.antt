@@ -1,5 +1,4 @@
 use Rattle.outline.specs.Atoms.{value_at}
-use borrow.Author.Rules.{rules}
 use Rattle.outline.proofs.value.Goals as goal
 
 pub returns : goal.returns

@@ -1,5 +1,4 @@
 use Rattle.points.specs.Grids.{cell}
-use borrow.Author.Rules.{rules}
 use Rattle.points.proofs.set.Goals as goal
 
 pub returns : goal.returns

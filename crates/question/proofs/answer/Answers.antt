@@ -1,6 +1,5 @@
 -- `answer` meets its contract: the memory after each call is what the next one asks.
 use Rattle.question.proofs.Asks.{to_classify, to_decide, answered}
-use borrow.Author.Rules.{rules}
 use Rattle.question.proofs.answer.Goals as goal
 
 pub classify-requires : goal.classify-requires

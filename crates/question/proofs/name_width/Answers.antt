@@ -1,5 +1,4 @@
 use Rattle.question.proofs.Asks.{short_width}
-use borrow.Author.Rules.{rules}
 use Rattle.question.proofs.name_width.Goals as goal
 
 pub returns-then-file-lt4 : goal.returns-then-file-lt4

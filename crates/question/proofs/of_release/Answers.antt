@@ -1,6 +1,5 @@
 use mathlib.Core.Path.{sym, ap}
 use Rattle.question.specs.Answering.{of_release}
-use borrow.Author.Rules.{rules}
 use Rattle.question.proofs.of_release.Goals as goal
 
 pub returns-in-Refused : goal.returns-in-Refused

@@ -1,5 +1,4 @@
 use Rattle.release.proofs.Rows.{blank_table}
-use borrow.Author.Rules.{rules}
 use Rattle.release.proofs.check_release.Goals as goal
 
 pub read_release-requires : goal.read_release-requires

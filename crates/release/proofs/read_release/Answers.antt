@@ -1,7 +1,6 @@
 use mathlib.Core.Path.{sym, ◌∙◌}
 use native.Mathlib.Omega.{arith}
 use Rattle.release.proofs.Checks.{header_sound, has_header, ready, refuses_header, refuses_axioms, read_shaped, refuses_15, accepts}
-use borrow.Author.Rules.{rules}
 use Rattle.release.proofs.read_release.Goals as goal
 
 pub returns-then-head-ne0 : goal.returns-then-head-ne0
@@ -23,13 +22,21 @@ pub read_axioms-fault-requires : goal.read_axioms-fault-requires
 read_axioms-fault-requires c = rw (c.names-names.ensures, c.roles-roles.ensures, c.axioms-axioms.ensures) (ready _ _ (sym c.header_fault-head.ensures ∙ c.if-head-ne0.false) c.requires)
 
 pub returns-then-fault-ne0 : goal.returns-then-fault-ne0
-returns-then-fault-ne0 c = refuses_axioms _ _ (sym c.header_fault-head.ensures ∙ c.if-head-ne0.false) _ (rw (c.names-names.ensures, c.roles-roles.ensures, c.axioms-axioms.ensures) at c.read_axioms-fault.ensures) c.if-fault-ne0.true _ c.refused-then-fault-ne0.ensures
+returns-then-fault-ne0 c = refuses_axioms _ _ (sym c.header_fault-head.ensures ∙ c.if-head-ne0.false) _
+    (rw (c.names-names.ensures, c.roles-roles.ensures, c.axioms-axioms.ensures) at c.read_axioms-fault.ensures) c.if-fault-ne0.true _ c.refused-then-fault-ne0.ensures
 
 pub some_part_defined-requires : goal.some_part_defined-requires
-some_part_defined-requires c = rw c.names-names.ensures (read_shaped _ _ (sym c.header_fault-head.ensures ∙ c.if-head-ne0.false) _ (rw (c.names-names.ensures, c.roles-roles.ensures, c.axioms-axioms.ensures) at c.read_axioms-fault.ensures) c.if-fault-ne0.false)
+some_part_defined-requires c = rw c.names-names.ensures
+    (read_shaped _ _ (sym c.header_fault-head.ensures ∙ c.if-head-ne0.false) _
+    (rw (c.names-names.ensures, c.roles-roles.ensures, c.axioms-axioms.ensures) at c.read_axioms-fault.ensures) c.if-fault-ne0.false)
 
 pub returns-then-some_part_defined : goal.returns-then-some_part_defined
-returns-then-some_part_defined c = refuses_15 _ _ (sym c.header_fault-head.ensures ∙ c.if-head-ne0.false) _ (rw (c.names-names.ensures, c.roles-roles.ensures, c.axioms-axioms.ensures) at c.read_axioms-fault.ensures) c.if-fault-ne0.false _ (rw c.names-names.ensures at c.some_part_defined.ensures) c.if-some_part_defined.true _ c.refused-then-some_part_defined.ensures
+returns-then-some_part_defined c = refuses_15 _ _ (sym c.header_fault-head.ensures ∙ c.if-head-ne0.false) _
+    (rw (c.names-names.ensures, c.roles-roles.ensures, c.axioms-axioms.ensures) at c.read_axioms-fault.ensures) c.if-fault-ne0.false _
+    (rw c.names-names.ensures at c.some_part_defined.ensures) c.if-some_part_defined.true _ c.refused-then-some_part_defined.ensures
 
 pub returns : goal.returns
-returns c = rw (c.names-names.ensures, c.roles-roles.ensures, c.axioms-axioms.ensures) (accepts _ _ (sym c.header_fault-head.ensures ∙ c.if-head-ne0.false) _ (rw (c.names-names.ensures, c.roles-roles.ensures, c.axioms-axioms.ensures) at c.read_axioms-fault.ensures) c.if-fault-ne0.false _ (rw c.names-names.ensures at c.some_part_defined.ensures) c.if-some_part_defined.false)
+returns c = rw (c.names-names.ensures, c.roles-roles.ensures, c.axioms-axioms.ensures)
+    (accepts _ _ (sym c.header_fault-head.ensures ∙ c.if-head-ne0.false) _
+    (rw (c.names-names.ensures, c.roles-roles.ensures, c.axioms-axioms.ensures) at c.read_axioms-fault.ensures) c.if-fault-ne0.false _
+    (rw c.names-names.ensures at c.some_part_defined.ensures) c.if-some_part_defined.false)

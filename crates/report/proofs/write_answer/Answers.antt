@@ -1,5 +1,4 @@
 use Rattle.report.proofs.Answered.{accepted_written, refused_written}
-use borrow.Author.Rules.{rules}
 use Rattle.report.proofs.write_answer.Goals as goal
 
 pub returns-in-Accepted : goal.returns-in-Accepted

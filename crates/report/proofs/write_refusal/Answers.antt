@@ -1,6 +1,5 @@
 -- `write_refusal` meets its contract: the line fits or not.
 use Rattle.report.proofs.Answers.{text_too_long, text_fits, refusal_text}
-use borrow.Author.Rules.{rules}
 use Rattle.report.proofs.write_refusal.Goals as goal
 
 pub returns-then-output-length : goal.returns-then-output-length

@@ -2,7 +2,6 @@
 use native.Mathlib.Omega.{arith}
 use lib.ListN.{length-take}
 use Rattle.report.proofs.Answers.{text_too_long, text_fits, result_too_short, result_long_enough, counted_text}
-use borrow.Author.Rules.{rules}
 use Rattle.report.proofs.write_report.Goals as goal
 
 pub returns-then-result_bytes-name_count : goal.returns-then-result_bytes-name_count

@@ -1,12 +1,8 @@
 use native.Mathlib.Omega.{arith}
 use borrow.Author.Rules.{rules}
-use Prim.Native.Nat.{◌-◌}
-use mathlib.Core.Path.{◌≡◌, refl}
-use lib.ListN.{length}
-use Rattle.layout.specs.Layouts.{mark_square}
-use Rattle.marks.specs.Passes.{Grows, none}
+use mathlib.Core.Path.{refl}
+use Rattle.marks.specs.Passes.{none}
 use Rattle.marks.proofs.Passes.{grows_further}
-use Rattle.backward.specs.Rules.{Follows}
 use Rattle.backward.proofs.Tested.{setting_stays}
 use Rattle.backward.proofs.consequences.put_by_filler.Goals as goal
 
@@ -20,7 +16,10 @@ pub overflow_add-x : goal.overflow_add-x
 overflow_add-x c = omega (arith, c.loop-next-test.true, c.requires.setting.few)
 
 pub next-next-requires-in-loop-next : goal.next-next-requires-in-loop-next
-next-next-requires-in-loop-next c = record { area = (setting_stays c.loop-next.invariant.1 c.requires.setting).places.areas.first; k_bound = (omega arith, c.requires.filler_le_names, omega (arith, c.loop-next-test.true)) }
+next-next-requires-in-loop-next c = record {
+  area = (setting_stays c.loop-next.invariant.1 c.requires.setting).places.areas.first;
+  k_bound = (omega arith, c.requires.filler_le_names, omega (arith, c.loop-next-test.true));
+}
 
 pub is_filling-requires : goal.is_filling-requires
 is_filling-requires c = record { names_in_bounds = c.requires.setting.places.edge_bytes.bytes; rowed = c.requires.setting.places.first_table; x_lt_names = c.loop-next-test.true }

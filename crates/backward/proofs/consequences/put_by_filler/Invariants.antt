@@ -1,13 +1,9 @@
-use native.Mathlib.Omega.{arith}
-use borrow.Author.Rules.{rules}
 use Prim.Native.Nat.{◌-◌}
-use mathlib.Core.Path.{◌≡◌, refl}
+use mathlib.Core.Path.{◌≡◌}
 use lib.ListN.{length}
 use Rattle.layout.specs.Layouts.{mark_square}
-use Rattle.marks.specs.Passes.{Grows, none}
-use Rattle.marks.proofs.Passes.{grows_further}
+use Rattle.marks.specs.Passes.{Grows}
 use Rattle.backward.specs.Rules.{Follows}
-use Rattle.backward.proofs.Tested.{setting_stays}
 use Rattle.backward.proofs.consequences.put_by_filler.Given as goal
 
 -- marks put by the rules

@@ -1,12 +1,8 @@
 use native.Mathlib.Omega.{arith}
 use borrow.Author.Rules.{rules}
-use Prim.Native.Nat.{◌-◌}
-use mathlib.Core.Path.{◌≡◌, refl}
-use lib.ListN.{length}
-use Rattle.layout.specs.Layouts.{mark_square}
-use Rattle.marks.specs.Passes.{Grows, none}
+use mathlib.Core.Path.{refl}
+use Rattle.marks.specs.Passes.{none}
 use Rattle.marks.proofs.Passes.{grows_further}
-use Rattle.backward.specs.Rules.{Follows}
 use Rattle.backward.proofs.Tested.{setting_stays}
 use Rattle.backward.proofs.consequences.put_columns.Goals as goal
 
@@ -20,7 +16,10 @@ pub overflow_add-z : goal.overflow_add-z
 overflow_add-z c = omega (arith, c.loop-next-test.true, c.requires.setting.few)
 
 pub next-next-requires-in-loop-next : goal.next-next-requires-in-loop-next
-next-next-requires-in-loop-next c = record { area = (setting_stays c.loop-next.invariant.1 c.requires.setting).places.areas.second; k_bound = (omega arith, c.requires.x_le_names.1, omega (arith, c.loop-next-test.true)) }
+next-next-requires-in-loop-next c = record {
+  area = (setting_stays c.loop-next.invariant.1 c.requires.setting).places.areas.second;
+  k_bound = (omega arith, c.requires.x_le_names.1, omega (arith, c.loop-next-test.true));
+}
 
 pub put_lost-requires : goal.put_lost-requires
 put_lost-requires c = record { setting = setting_stays c.loop-next.invariant.1 c.requires.setting; x_le_names = (c.requires.x_le_names.0, omega (arith, c.loop-next-test.true)) }

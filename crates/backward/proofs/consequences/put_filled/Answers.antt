@@ -1,12 +1,8 @@
 use native.Mathlib.Omega.{arith}
 use borrow.Author.Rules.{rules}
-use Prim.Native.Nat.{◌-◌}
-use mathlib.Core.Path.{◌≡◌, refl}
-use lib.ListN.{length}
-use Rattle.layout.specs.Layouts.{mark_square}
-use Rattle.marks.specs.Passes.{Grows, none}
+use mathlib.Core.Path.{refl}
+use Rattle.marks.specs.Passes.{none}
 use Rattle.marks.proofs.Passes.{grows_further}
-use Rattle.backward.specs.Rules.{Follows}
 use Rattle.backward.proofs.Tested.{setting_stays, restricted, over_grows}
 use Rattle.backward.proofs.consequences.put_filled.Goals as goal
 
@@ -20,16 +16,29 @@ pub next-next-requires-in-loop-next : goal.next-next-requires-in-loop-next
 next-next-requires-in-loop-next c = omega (arith, c.loop-next-test.true, c.requires.setting.few)
 
 pub is_marked-requires : goal.is_marked-requires
-is_marked-requires c = record { room = (setting_stays c.loop-next.invariant.1 c.requires.setting).places.marks; x_le_names = (omega (arith, c.requires.filling.filler, c.requires.setting.places.first_table.filler c.args.x c.requires.filling.is_name (restricted _ _ c.requires.filling.kind)), omega (arith, c.loop-next-test.true)) }
+is_marked-requires c = record {
+  room = (setting_stays c.loop-next.invariant.1 c.requires.setting).places.marks;
+  x_le_names = (
+    omega (
+      arith,
+      c.requires.filling.filler,
+      c.requires.setting.places.first_table.filler c.args.x c.requires.filling.is_name
+          (restricted _ _ c.requires.filling.kind),
+    ),
+    omega (arith, c.loop-next-test.true),
+  );
+}
 
 pub put_over-requires : goal.put_over-requires
-put_over-requires c = let h = (setting_stays c.loop-next.invariant.1 c.requires.setting).places in record { rowed = (h.first_table, h.second_table); areas = h.areas; x_lt_names = (c.requires.filling.is_name, omega (arith, c.loop-next-test.true)) }
+put_over-requires c = let h = (setting_stays c.loop-next.invariant.1 c.requires.setting).places in record
+    { rowed = (h.first_table, h.second_table); areas = h.areas; x_lt_names = (c.requires.filling.is_name, omega (arith, c.loop-next-test.true)) }
 
 pub loop-next-smaller-then-is_marked : goal.loop-next-smaller-then-is_marked
 loop-next-smaller-then-is_marked c = omega (arith, c.next-next-in-loop-next.ensures.0, c.loop-next-test.true)
 
 pub loop-next-preserved-then-is_marked : goal.loop-next-preserved-then-is_marked
-loop-next-preserved-then-is_marked c = let p = c.requires.filling in (search rules, grows_further c.loop-next.invariant.1 (over_grows p c.loop-next-test.true (c.is_marked.ensures.sound c.if-is_marked.true) c.put_over.ensures))
+loop-next-preserved-then-is_marked c = let p = c.requires.filling in
+    (search rules, grows_further c.loop-next.invariant.1 (over_grows p c.loop-next-test.true (c.is_marked.ensures.sound c.if-is_marked.true) c.put_over.ensures))
 
 pub loop-next-smaller : goal.loop-next-smaller
 loop-next-smaller c = omega (arith, c.next-next-in-loop-next.ensures.0, c.loop-next-test.true)

@@ -1,4 +1,3 @@
-use borrow.Author.Rules.{rules}
 use Rattle.marks.specs.Passes.{none}
 use Rattle.marks.proofs.Passes.{put_grows}
 use Rattle.backward.specs.Rules.{from_definition}

@@ -1,12 +1,8 @@
-use native.Mathlib.Omega.{arith}
-use borrow.Author.Rules.{rules}
 use Prim.Native.Nat.{◌-◌}
-use mathlib.Core.Path.{◌≡◌, refl, sym, ◌∙◌}
+use mathlib.Core.Path.{◌≡◌}
 use lib.ListN.{length}
 use Rattle.layout.specs.Layouts.{mark_square}
-use Rattle.layout.proofs.Layouts.{areas_stay}
-use Rattle.marks.specs.Passes.{Grows, none}
-use Rattle.marks.proofs.Passes.{grows_further, grows_frame, put_grows}
+use Rattle.marks.specs.Passes.{Grows}
 use Rattle.backward.specs.Rules.{Over}
 use Rattle.backward.proofs.consequences.put_over.Given as goal
 

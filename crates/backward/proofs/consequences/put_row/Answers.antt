@@ -1,12 +1,8 @@
 use native.Mathlib.Omega.{arith}
 use borrow.Author.Rules.{rules}
-use Prim.Native.Nat.{suc, ◌≤◌, ◌-◌}
-use mathlib.Core.Path.{◌≡◌, refl}
-use lib.ListN.{length}
-use Rattle.layout.specs.Layouts.{mark_square}
-use Rattle.marks.specs.Passes.{Grows, none}
+use mathlib.Core.Path.{refl}
+use Rattle.marks.specs.Passes.{none}
 use Rattle.marks.proofs.Passes.{grows_further}
-use Rattle.backward.specs.Rules.{Follows}
 use Rattle.backward.proofs.Tested.{setting_stays}
 use Rattle.backward.proofs.consequences.put_row.Goals as goal
 
@@ -23,7 +19,10 @@ pub overflow_add-y : goal.overflow_add-y
 overflow_add-y c = omega (arith, c.loop-y-test.true, c.requires.setting.few)
 
 pub next_unmarked-y-requires-in-loop-y : goal.next_unmarked-y-requires-in-loop-y
-next_unmarked-y-requires-in-loop-y c = record { room = (setting_stays c.put_lost.ensures (setting_stays c.loop-y.invariant.2 c.requires.setting)).places.marks; x_le_names = (c.requires.x_le_names, omega (arith, c.loop-y-test.true)) }
+next_unmarked-y-requires-in-loop-y c = record {
+  room = (setting_stays c.put_lost.ensures (setting_stays c.loop-y.invariant.2 c.requires.setting)).places.marks;
+  x_le_names = (c.requires.x_le_names, omega (arith, c.loop-y-test.true));
+}
 
 pub loop-y-smaller : goal.loop-y-smaller
 loop-y-smaller c = omega (arith, c.next_unmarked-y-in-loop-y.ensures.after, c.next_unmarked-y-in-loop-y.ensures.inside, c.loop-y-test.true)

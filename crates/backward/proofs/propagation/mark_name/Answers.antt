@@ -21,7 +21,9 @@ pub mark-requires : goal.mark-requires
 mark-requires c = record { room = room_stays c.mark_missing.ensures c.requires.named.marks; x_le_names = (c.requires.x_le_names, omega arith) }
 
 pub returns-then-has_name : goal.returns-then-has_name
-returns-then-has_name c = let has = sym c.has_name.ensures ∙ c.if-has_name.true in grows_further (missing_grows c.requires.named c.requires.x_le_names has (empty_zeros 128) c.join.ensures c.mark_missing.ensures) (put_grows c.mark.ensures (record { chosen_name = has; not_second = inl refl }))
+returns-then-has_name c = let has = sym c.has_name.ensures ∙ c.if-has_name.true in grows_further
+    (missing_grows c.requires.named c.requires.x_le_names has (empty_zeros 128) c.join.ensures c.mark_missing.ensures)
+    (put_grows c.mark.ensures (record { chosen_name = has; not_second = inl refl }))
 
 pub returns-else-has_name : goal.returns-else-has_name
 returns-else-has_name c = none

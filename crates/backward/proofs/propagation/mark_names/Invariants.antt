@@ -1,13 +1,9 @@
-use native.Mathlib.Omega.{arith}
-use borrow.Author.Rules.{rules}
 use Prim.Native.Nat.{◌-◌}
-use mathlib.Core.Path.{◌≡◌, refl}
+use mathlib.Core.Path.{◌≡◌}
 use lib.ListN.{length}
 use Rattle.layout.specs.Layouts.{mark_square}
-use Rattle.marks.specs.Passes.{Grows, none}
-use Rattle.marks.proofs.Passes.{grows_further}
+use Rattle.marks.specs.Passes.{Grows}
 use Rattle.backward.specs.Rules.{NameLost}
-use Rattle.backward.proofs.Tested.{named_stays}
 use Rattle.backward.proofs.propagation.mark_names.Given as goal
 
 -- marks put by names

@@ -1,11 +1,8 @@
-use Prim.Native.Nat.{◌≤◌, ◌-◌}
 use native.Mathlib.Omega.{arith}
 use borrow.Author.Rules.{rules}
 use Rattle.el.proofs.Tests.{never, always}
 use Rattle.marks.proofs.Squares.{refuted}
-use Rattle.layout.specs.Searches.{EachBelow}
 use Rattle.layout.proofs.Searches.{each_start, each_more, each_end}
-use Rattle.backward.specs.Rules.{RowPart}
 use Rattle.backward.proofs.Tested.{has_count, has_part, part_small, row_part, no_row_part}
 use Rattle.backward.proofs.rules.all_parts_lost.Goals as goal
 
@@ -19,7 +16,13 @@ pub part-part-requires : goal.part-part-requires
 part-part-requires c = has_part c.requires.shaped c.requires.x_lt_names.0 c.requires.x_lt_names.2 c.count-count.ensures c.loop-i-test.true
 
 pub is_marked-requires : goal.is_marked-requires
-is_marked-requires c = record { room = c.requires.room; x_le_names = (part_small c.requires.shaped c.requires.x_lt_names.0 c.requires.x_lt_names.2 c.count-count.ensures c.loop-i-test.true c.part-part.ensures, c.requires.x_lt_names.1) }
+is_marked-requires c = record {
+  room = c.requires.room;
+  x_le_names = (
+    part_small c.requires.shaped c.requires.x_lt_names.0 c.requires.x_lt_names.2 c.count-count.ensures c.loop-i-test.true c.part-part.ensures,
+    c.requires.x_lt_names.1,
+  );
+}
 
 pub loop-i-preserved : goal.loop-i-preserved
 loop-i-preserved c = (search rules, each_more c.loop-i.invariant.1 (row_part c.part-part.ensures (c.is_marked.ensures.sound c.if-is_marked.true)))

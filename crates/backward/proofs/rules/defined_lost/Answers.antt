@@ -1,7 +1,6 @@
 use mathlib.Core.Path.{sym, ◌∙◌}
 use native.Mathlib.Omega.{arith}
 use Rattle.backward.proofs.Tested.{part_step, row_step, rows}
-use borrow.Author.Rules.{rules}
 use Rattle.backward.proofs.rules.defined_lost.Goals as goal
 
 pub column_lost-requires : goal.column_lost-requires
@@ -11,7 +10,11 @@ pub returns-then-layout-y : goal.returns-then-layout-y
 returns-then-layout-y c = row_step (record { not_joined = λ h. absurd (omega (arith, c.if-layout-y.true)) }) c.column_lost.ensures
 
 pub some_part_lost-requires : goal.some_part_lost-requires
-some_part_lost-requires c = record { shaped = c.requires.setting.second_shaped; room = c.requires.setting.places.marks; x_le_names = (c.requires.x_le_names.0, c.if-layout-y.false, sym c.kind-kind.ensures ∙ c.if-kind-eq2.true) }
+some_part_lost-requires c = record {
+  shaped = c.requires.setting.second_shaped;
+  room = c.requires.setting.places.marks;
+  x_le_names = (c.requires.x_le_names.0, c.if-layout-y.false, sym c.kind-kind.ensures ∙ c.if-kind-eq2.true);
+}
 
 pub returns-then-kind-eq2 : goal.returns-then-kind-eq2
 returns-then-kind-eq2 c = part_step c.if-layout-y.false (sym c.kind-kind.ensures ∙ c.if-kind-eq2.true) c.some_part_lost.ensures

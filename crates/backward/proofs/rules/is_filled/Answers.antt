@@ -1,7 +1,6 @@
 use mathlib.Core.Path.{sym, ◌∙◌}
 use native.Mathlib.Omega.{arith}
 use Rattle.el.proofs.Tests.{never, always}
-use borrow.Author.Rules.{rules}
 use Rattle.backward.proofs.rules.is_filled.Goals as goal
 
 pub returns-then-layout-y : goal.returns-then-layout-y

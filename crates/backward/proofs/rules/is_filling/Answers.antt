@@ -1,6 +1,5 @@
 use mathlib.Core.Path.{sym, ◌∙◌}
 use Rattle.marks.proofs.Squares.{not_false}
-use borrow.Author.Rules.{rules}
 use Rattle.backward.proofs.rules.is_filling.Goals as goal
 
 pub returns-then-kind-ne4 : goal.returns-then-kind-ne4
@@ -10,4 +9,9 @@ pub returns-then-own-filler : goal.returns-then-own-filler
 returns-then-own-filler c = λ e. not_false e
 
 pub returns : goal.returns
-returns c = λ e. record { is_name = c.requires.x_lt_names; kind = sym c.kind-kind.ensures ∙ c.if-kind-ne4.false; filler = sym c.filler-own.ensures ∙ c.if-own-filler.false; with_edge = sym c.has_edge.ensures ∙ e }
+returns c = λ e. record {
+  is_name = c.requires.x_lt_names;
+  kind = sym c.kind-kind.ensures ∙ c.if-kind-ne4.false;
+  filler = sym c.filler-own.ensures ∙ c.if-own-filler.false;
+  with_edge = sym c.has_edge.ensures ∙ e;
+}

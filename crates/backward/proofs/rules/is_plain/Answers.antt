@@ -1,7 +1,6 @@
 use native.Mathlib.Omega.{arith}
 use mathlib.Core.Path.{sym, ◌∙◌}
 use Rattle.el.proofs.Tests.{always, never}
-use borrow.Author.Rules.{rules}
 use Rattle.backward.proofs.rules.is_plain.Goals as goal
 
 pub returns-then-layout-y : goal.returns-then-layout-y

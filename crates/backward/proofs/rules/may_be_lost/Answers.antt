@@ -1,6 +1,5 @@
 use mathlib.Core.Path.{sym, ◌∙◌}
 use Rattle.marks.proofs.Squares.{not_true}
-use borrow.Author.Rules.{rules}
 use Rattle.backward.proofs.rules.may_be_lost.Goals as goal
 
 pub returns-then-layout-x : goal.returns-then-layout-x

@@ -1,12 +1,6 @@
 use Prim.Native.Nat.{◌≤◌, ◌-◌}
-use native.Mathlib.Omega.{arith}
-use borrow.Author.Rules.{rules}
-use Rattle.el.proofs.Tests.{never, always}
-use Rattle.marks.proofs.Squares.{refuted}
 use Rattle.layout.specs.Searches.{NoneBelow}
-use Rattle.layout.proofs.Searches.{none_start, none_more, none_end}
 use Rattle.backward.specs.Rules.{ColumnPart}
-use Rattle.backward.proofs.Tested.{has_count, has_part, part_small, column_part, no_column_part}
 use Rattle.backward.proofs.rules.some_part_lost.Given as goal
 
 -- none found so far

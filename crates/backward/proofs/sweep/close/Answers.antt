@@ -1,12 +1,8 @@
 use native.Mathlib.Omega.{arith}
 use borrow.Author.Rules.{rules}
-use mathlib.Core.Path.{◌≡◌, refl}
-use lib.ListN.{length}
-use Rattle.layout.specs.Layouts.{mark_square}
-use Rattle.marks.specs.Squares.{unset}
-use Rattle.marks.specs.Passes.{Grows, none}
+use mathlib.Core.Path.{refl}
+use Rattle.marks.specs.Passes.{none}
 use Rattle.marks.proofs.Passes.{grows_further, kept_grows, unset_falls, pass_closed, closed_further}
-use Rattle.backward.specs.Rules.{Step}
 use Rattle.backward.proofs.Tested.{setting_stays, setting_kept, follows_grows}
 use Rattle.backward.proofs.sweep.close.Goals as goal
 

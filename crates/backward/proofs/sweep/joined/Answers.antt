@@ -1,12 +1,7 @@
 use native.Mathlib.Omega.{arith}
 use borrow.Author.Rules.{rules}
-use Prim.Native.Nat.{◌≤◌, ◌-◌, ◌+◌}
-use mathlib.Core.Path.{◌≡◌, refl, sym, ◌∙◌}
-use lib.ListN.{length}
-use Rattle.layout.specs.Layouts.{mark_square}
-use Rattle.marks.specs.Passes.{Pass, Below}
+use mathlib.Core.Path.{refl, sym, ◌∙◌}
 use Rattle.marks.proofs.Passes.{room_stays, turns_none, turn_both, pass_as, pass_none, below_end}
-use Rattle.backward.specs.Rules.{PartLost, Cell}
 use Rattle.backward.proofs.Tested.{shaped_row, not_joined_column}
 use Rattle.backward.proofs.sweep.joined.Goals as goal
 
@@ -23,7 +18,11 @@ pub overflow_add-next : goal.overflow_add-next
 overflow_add-next c = omega (arith, c.loop-next-test.true, c.requires.room.small.few)
 
 pub look_at_parts-new-requires : goal.look_at_parts-new-requires
-look_at_parts-new-requires c = record { shaped = c.requires.shaped; room = room_stays c.loop-next.invariant.2.grows c.requires.room; x_le_names = (c.loop-next-test.true, c.requires.y_lt_names, sym c.kind-kind.ensures ∙ c.if-kind-ne2.false) }
+look_at_parts-new-requires c = record {
+  shaped = c.requires.shaped;
+  room = room_stays c.loop-next.invariant.2.grows c.requires.room;
+  x_le_names = (c.loop-next-test.true, c.requires.y_lt_names, sym c.kind-kind.ensures ∙ c.if-kind-ne2.false);
+}
 
 pub loop-next-smaller : goal.loop-next-smaller
 loop-next-smaller c = omega (arith, c.loop-next-test.true)

@@ -1,4 +1,3 @@
-use borrow.Author.Rules.{rules}
 use Rattle.marks.proofs.Squares.{refuted}
 use Rattle.backward.proofs.Tested.{cell_put, cell_none}
 use Rattle.backward.proofs.sweep.look.Goals as goal

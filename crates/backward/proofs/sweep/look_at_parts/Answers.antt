@@ -1,5 +1,4 @@
 use native.Mathlib.Omega.{arith}
-use borrow.Author.Rules.{rules}
 use Rattle.marks.proofs.Squares.{refuted}
 use Rattle.backward.proofs.Tested.{cell_marked, cell_put, cell_none}
 use Rattle.backward.proofs.sweep.look_at_parts.Goals as goal

@@ -20,7 +20,8 @@ pub mark-nothing-requires : goal.mark-nothing-requires
 mark-nothing-requires c = record { room = room_stays c.absorb_missing-names.ensures.grows c.requires.named.marks; x_le_names = (c.requires.x_le_names, omega arith) }
 
 pub returns-then-has_name : goal.returns-then-has_name
-returns-then-has_name c = name_row c.requires.named c.requires.x_le_names (sym c.has_name.ensures ∙ c.if-has_name.true) (empty_zeros 128) c.join.ensures c.absorb_missing-names.ensures c.mark-nothing.ensures
+returns-then-has_name c = name_row c.requires.named c.requires.x_le_names (sym c.has_name.ensures ∙ c.if-has_name.true) (empty_zeros 128) c.join.ensures
+    c.absorb_missing-names.ensures c.mark-nothing.ensures
 
 pub returns : goal.returns
 returns c = pass_none (record { cells = record { at = λ y h. record { marked = λ p. absurd (not_both p.chosen_name (sym c.has_name.ensures ∙ c.if-has_name.false)) } } })

@@ -1,13 +1,8 @@
 use native.Mathlib.Omega.{arith}
 use borrow.Author.Rules.{rules}
-use Prim.Native.Nat.{◌-◌}
-use mathlib.Core.Path.{◌≡◌, refl}
-use lib.ListN.{length}
-use Rattle.layout.specs.Layouts.{mark_square}
-use Rattle.marks.specs.Passes.{Pass, Below}
+use mathlib.Core.Path.{refl}
 use Rattle.marks.proofs.Passes.{turns_none, turn_both}
-use Rattle.backward.specs.Rules.{Own}
-use Rattle.backward.proofs.Tested.{setting_stays, rows, named, Looked, looked, looked_end}
+use Rattle.backward.proofs.Tested.{setting_stays, rows, named, looked, looked_end}
 use Rattle.backward.proofs.sweep.names.Goals as goal
 
 pub loop-next-init : goal.loop-next-init
@@ -20,10 +15,16 @@ pub plain-by_row-requires : goal.plain-by_row-requires
 plain-by_row-requires c = record { rows = rows (setting_stays c.loop-next.invariant.1.grows c.requires.setting); x_le_names = omega (arith, c.loop-next-test.true) }
 
 pub name-by_name-requires : goal.name-by_name-requires
-name-by_name-requires c = record { named = named (setting_stays c.plain-by_row.ensures.grows (setting_stays c.loop-next.invariant.1.grows c.requires.setting)) c.requires.names_in_bounds; x_le_names = omega (arith, c.loop-next-test.true) }
+name-by_name-requires c = record {
+  named = named (setting_stays c.plain-by_row.ensures.grows (setting_stays c.loop-next.invariant.1.grows c.requires.setting))
+      c.requires.names_in_bounds;
+  x_le_names = omega (arith, c.loop-next-test.true);
+}
 
 pub joined-by_column-requires : goal.joined-by_column-requires
-joined-by_column-requires c = let h = setting_stays c.name-by_name.ensures.grows (setting_stays c.plain-by_row.ensures.grows (setting_stays c.loop-next.invariant.1.grows c.requires.setting)) in record { shaped = h.second_shaped; room = h.places.marks; y_lt_names = c.loop-next-test.true }
+joined-by_column-requires c = let h = setting_stays c.name-by_name.ensures.grows
+    (setting_stays c.plain-by_row.ensures.grows (setting_stays c.loop-next.invariant.1.grows c.requires.setting)) in record
+    { shaped = h.second_shaped; room = h.places.marks; y_lt_names = c.loop-next-test.true }
 
 pub loop-next-smaller : goal.loop-next-smaller
 loop-next-smaller c = omega (arith, c.loop-next-test.true)

@@ -1,6 +1,5 @@
 use mathlib.Core.Path.{refl}
 use Rattle.backward.proofs.Tested.{setting_stays, quiet_changed, quiet_unchanged}
-use borrow.Author.Rules.{rules}
 use Rattle.backward.proofs.sweep.pass.Goals as goal
 
 pub returns-then-names : goal.returns-then-names

@@ -1,4 +1,3 @@
-use borrow.Author.Rules.{rules}
 use Rattle.marks.proofs.Passes.{pass_none}
 use Rattle.backward.proofs.Tested.{no_rule_row}
 use Rattle.backward.proofs.sweep.plain.Goals as goal

@@ -1,12 +1,7 @@
 use native.Mathlib.Omega.{arith}
 use borrow.Author.Rules.{rules}
-use Prim.Native.Nat.{suc, ◌≤◌, ◌-◌}
-use mathlib.Core.Path.{◌≡◌, refl}
-use lib.ListN.{length}
-use Rattle.layout.specs.Layouts.{mark_square}
-use Rattle.marks.specs.Passes.{Pass, Below}
+use mathlib.Core.Path.{refl}
 use Rattle.marks.proofs.Passes.{room_stays, turns_none, turn_both, turns_to, pass_as, below_end}
-use Rattle.backward.specs.Rules.{PlainLost, Cell}
 use Rattle.backward.proofs.Tested.{rows_stay, marked_cells}
 use Rattle.backward.proofs.sweep.row.Goals as goal
 
@@ -23,7 +18,10 @@ pub overflow_add-y : goal.overflow_add-y
 overflow_add-y c = omega (arith, c.loop-y-test.true, c.requires.rows.places.marks.small.few)
 
 pub next_unmarked-y-requires-in-loop-y : goal.next_unmarked-y-requires-in-loop-y
-next_unmarked-y-requires-in-loop-y c = record { room = room_stays c.look-new.ensures.grows (rows_stay c.loop-y.invariant.2.grows c.requires.rows).places.marks; x_le_names = (c.requires.x_le_names, omega (arith, c.loop-y-test.true)) }
+next_unmarked-y-requires-in-loop-y c = record {
+  room = room_stays c.look-new.ensures.grows (rows_stay c.loop-y.invariant.2.grows c.requires.rows).places.marks;
+  x_le_names = (c.requires.x_le_names, omega (arith, c.loop-y-test.true));
+}
 
 pub loop-y-smaller : goal.loop-y-smaller
 loop-y-smaller c = omega (arith, c.next_unmarked-y-in-loop-y.ensures.after, c.next_unmarked-y-in-loop-y.ensures.inside, c.loop-y-test.true)

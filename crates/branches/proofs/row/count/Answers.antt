@@ -1,10 +1,7 @@
-use borrow.Author.Rules.{rules}
-use Rattle.branches.proofs.Counts.{is, count_next, count_all}
+use Rattle.branches.proofs.Counts.{count_next, count_all}
 use Rattle.el.specs.Lists.{count}
-use lib.ListN.{length, take}
 use native.Mathlib.Omega.{arith}
-use Prim.Native.Nat.{◌-◌, ◌≤◌}
-use mathlib.Core.Path.{◌≡◌, refl}
+use mathlib.Core.Path.{refl}
 use Rattle.branches.proofs.row.count.Goals as goal
 
 pub loop-i-init : goal.loop-i-init

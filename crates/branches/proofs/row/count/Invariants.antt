@@ -1,10 +1,8 @@
-use borrow.Author.Rules.{rules}
-use Rattle.branches.proofs.Counts.{is, count_next, count_all}
+use Rattle.branches.proofs.Counts.{is}
 use Rattle.el.specs.Lists.{count}
 use lib.ListN.{length, take}
-use native.Mathlib.Omega.{arith}
 use Prim.Native.Nat.{◌-◌, ◌≤◌}
-use mathlib.Core.Path.{◌≡◌, refl}
+use mathlib.Core.Path.{◌≡◌}
 use Rattle.branches.proofs.row.count.Given as goal
 
 abbrev pub invariant-loop-i : goal.invariant-loop-i

@@ -1,5 +1,4 @@
 use Rattle.branches.proofs.Counts.{share_none, share_some}
-use borrow.Author.Rules.{rules}
 use Rattle.branches.proofs.row.share.Goals as goal
 
 pub returns-then-chosen-eq0 : goal.returns-then-chosen-eq0

@@ -1,5 +1,4 @@
 use Rattle.branches.proofs.Counts.{told}
-use borrow.Author.Rules.{rules}
 use Rattle.branches.proofs.row.tell.Goals as goal
 
 pub returns : goal.returns

@@ -1,7 +1,6 @@
 use Rattle.branches.proofs.Beginning.{refuses, small_names, both_given, begins}
 use Rattle.meanings.proofs.Promise.{limited}
 use Rattle.release.proofs.Rows.{blank_table}
-use borrow.Author.Rules.{rules}
 use Rattle.branches.proofs.steps.begin.Goals as goal
 
 pub read_release-first_checked-requires : goal.read_release-first_checked-requires
@@ -20,7 +19,11 @@ pub size-requires : goal.size-requires
 size-requires c = small_names c.read_release-first_checked.ensures c.read_release-second_checked.ensures _ _ _ _ _ c.judge-answer.ensures _ c.in-Accepted.is
 
 pub prepare-requires : goal.prepare-requires
-prepare-requires c = record { both_given = both_given c.read_release-first_checked.ensures c.read_release-second_checked.ensures _ _ _ _ _ c.judge-answer.ensures _ c.in-Accepted.is; size = record { is = c.size.ensures.0; small = c.size.ensures.1 } }
+prepare-requires c = record {
+  both_given = both_given c.read_release-first_checked.ensures c.read_release-second_checked.ensures _ _ _ _ _ c.judge-answer.ensures _
+      c.in-Accepted.is;
+  size = record { is = c.size.ensures.0; small = c.size.ensures.1 };
+}
 
 pub returns : goal.returns
 returns c = begins c.read_release-first_checked.ensures c.read_release-second_checked.ensures _ _ _ _ _ c.judge-answer.ensures _ c.in-Accepted.is c.size.ensures.0 c.prepare.ensures

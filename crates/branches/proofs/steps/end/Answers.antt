@@ -1,7 +1,5 @@
 use Rattle.branches.proofs.Sheets.{refused_end, accepted_end}
-use Rattle.marks.specs.Memory.{size}
 use native.Mathlib.Omega.{arith}
-use borrow.Author.Rules.{rules}
 use Rattle.branches.proofs.steps.end.Goals as goal
 
 pub returns-in_default : goal.returns-in_default

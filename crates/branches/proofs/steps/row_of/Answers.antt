@@ -3,7 +3,6 @@ use Rattle.branches.specs.Rows.{row_of}
 use lib.Seq.{length-take-le}
 use native.Mathlib.Omega.{arith}
 use mathlib.Core.Path.{sym, ap, ◌∙◌}
-use borrow.Author.Rules.{rules}
 use Rattle.branches.proofs.steps.row_of.Goals as goal
 
 pub compare_prepared-requires : goal.compare_prepared-requires
@@ -22,4 +21,8 @@ pub tell-requires : goal.tell-requires
 tell-requires c = let p = few_names c.requires.given in (take_few _ _ p, take_few _ _ p)
 
 pub returns : goal.returns
-returns c = let p = c.requires.given in (c.tell.ensures ∙ ap (row_of _) (bytes_told p (omega (arith, few_names p, c.compare_prepared.ensures.reported.long)) c.compare_prepared.ensures.reported), c.compare_prepared.ensures.same)
+returns c = let p = c.requires.given in (
+  c.tell.ensures ∙ ap (row_of _)
+      (bytes_told p (omega (arith, few_names p, c.compare_prepared.ensures.reported.long)) c.compare_prepared.ensures.reported),
+  c.compare_prepared.ensures.same,
+)

@@ -1,5 +1,4 @@
 -- All rows of the array are lent, so what is said of the part is said of the array.
-use borrow.Author.Rules.{rules}
 use Rattle.branches.proofs.Sheets.{all_lent}
 use Rattle.branches.proofs.values.fill_rows.Goals as goal
 

@@ -1,4 +1,3 @@
-use borrow.Author.Rules.{rules}
 use Rattle.marks.proofs.Squares.{frame_area}
 use Rattle.marks.proofs.Passes.{kept_grows, grows_further}
 use Rattle.classification.proofs.Marking.{setting_stays, taking_grows}

@@ -1,10 +1,7 @@
 use native.Mathlib.Omega.{arith}
 use borrow.Author.Rules.{rules}
-use mathlib.Core.Path.{◌≡◌, refl}
-use Prim.Native.Nat.{suc, ◌-◌}
-use lib.ListN.{length}
-use Rattle.marks.specs.Passes.{Grows, none}
-use Rattle.marks.specs.Inclusions.{Taking}
+use mathlib.Core.Path.{refl}
+use Rattle.marks.specs.Passes.{none}
 use Rattle.marks.proofs.Squares.{frame_area}
 use Rattle.marks.proofs.Passes.{room_stays, grows_frame, grows_further}
 use Rattle.classification.proofs.Marking.{handed_down}
@@ -20,7 +17,8 @@ pub overflow_add-b : goal.overflow_add-b
 overflow_add-b c = omega (arith, c.loop-next-test.true, c.requires.area.room.small.few)
 
 pub next-next-requires-in-loop-next : goal.next-next-requires-in-loop-next
-next-next-requires-in-loop-next c = record { area = frame_area (grows_frame c.loop-next.invariant.1) c.requires.area; k_bound = (omega arith, c.requires.x_le_names, omega (arith, c.loop-next-test.true)) }
+next-next-requires-in-loop-next c = record
+    { area = frame_area (grows_frame c.loop-next.invariant.1) c.requires.area; k_bound = (omega arith, c.requires.x_le_names, omega (arith, c.loop-next-test.true)) }
 
 pub is_marked-requires : goal.is_marked-requires
 is_marked-requires c = record { room = room_stays c.loop-next.invariant.1 c.requires.area.room; x_le_names = (c.loop-next-test.true, c.requires.x_le_names) }

@@ -1,5 +1,4 @@
 use Rattle.marks.specs.Passes.{none}
-use borrow.Author.Rules.{rules}
 use Rattle.classification.proofs.consequences.hand_over.Goals as goal
 
 pub returns-then-seems_within : goal.returns-then-seems_within

@@ -1,11 +1,8 @@
 use native.Mathlib.Omega.{arith}
 use borrow.Author.Rules.{rules}
-use Prim.Native.Nat.{suc, ◌-◌}
-use mathlib.Core.Path.{◌≡◌, refl}
-use lib.ListN.{length}
-use Rattle.marks.specs.Passes.{Grows, none}
+use mathlib.Core.Path.{refl}
+use Rattle.marks.specs.Passes.{none}
 use Rattle.marks.proofs.Passes.{grows_further}
-use Rattle.classification.specs.Steps.{Step}
 use Rattle.classification.proofs.Marking.{setting_stays}
 use Rattle.classification.proofs.consequences.put_above.Goals as goal
 
@@ -25,7 +22,12 @@ pub is_marked-requires : goal.is_marked-requires
 is_marked-requires c = record { room = (setting_stays c.loop-next.invariant.1 c.requires.setting).room; x_le_names = (c.requires.x_le_names, c.loop-next-test.true) }
 
 pub put_beside-requires : goal.put_beside-requires
-put_beside-requires c = record { setting = setting_stays c.loop-next.invariant.1 c.requires.setting; row = c.requires.x_le_names; column = c.loop-next-test.true; marked = c.is_marked.ensures.sound c.if-is_marked.true }
+put_beside-requires c = record {
+  setting = setting_stays c.loop-next.invariant.1 c.requires.setting;
+  row = c.requires.x_le_names;
+  column = c.loop-next-test.true;
+  marked = c.is_marked.ensures.sound c.if-is_marked.true;
+}
 
 pub loop-next-smaller-then-is_marked : goal.loop-next-smaller-then-is_marked
 loop-next-smaller-then-is_marked c = omega (arith, c.loop-next-test.true, c.next-next-in-loop-next.ensures)

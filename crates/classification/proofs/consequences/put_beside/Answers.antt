@@ -1,6 +1,5 @@
 use Rattle.marks.proofs.Passes.{grows_further}
 use Rattle.classification.proofs.Marking.{setting_stays, row_grows}
-use borrow.Author.Rules.{rules}
 use Rattle.classification.proofs.consequences.put_beside.Goals as goal
 
 pub hand_over-requires : goal.hand_over-requires

@@ -1,12 +1,8 @@
-use native.Mathlib.Omega.{arith}
-use borrow.Author.Rules.{rules}
-use mathlib.Core.Path.{◌≡◌, refl, sym, ◌∙◌}
+use mathlib.Core.Path.{◌≡◌}
 use Prim.Native.Nat.{suc, ◌-◌}
 use lib.ListN.{length}
-use Rattle.marks.specs.Passes.{Grows, none}
-use Rattle.marks.proofs.Passes.{grows_further}
+use Rattle.marks.specs.Passes.{Grows}
 use Rattle.classification.specs.Steps.{Step}
-use Rattle.classification.proofs.Marking.{shaped_row, setting_stays, restriction_of}
 use Rattle.classification.proofs.consequences.put_by_fillers.Given as goal
 
 abbrev pub invariant-loop-next : goal.invariant-loop-next

@@ -1,11 +1,8 @@
 use native.Mathlib.Omega.{arith}
 use borrow.Author.Rules.{rules}
-use mathlib.Core.Path.{◌≡◌, refl}
-use Prim.Native.Nat.{suc, ◌-◌}
-use lib.ListN.{length}
-use Rattle.marks.specs.Passes.{Grows, none}
+use mathlib.Core.Path.{refl}
+use Rattle.marks.specs.Passes.{none}
 use Rattle.marks.proofs.Passes.{grows_further}
-use Rattle.classification.specs.Steps.{Step}
 use Rattle.classification.proofs.Marking.{in_row_at, in_row_stays, gather_grows}
 use Rattle.classification.proofs.consequences.put_gathered.Goals as goal
 
@@ -19,7 +16,8 @@ pub overflow_add-z : goal.overflow_add-z
 overflow_add-z c = omega (arith, c.loop-next-test.true, c.requires.setting.few)
 
 pub next-next-requires-in-loop-next : goal.next-next-requires-in-loop-next
-next-next-requires-in-loop-next c = record { area = (in_row_stays c.loop-next.invariant.1 c.requires).setting.area; k_bound = (omega arith, omega (arith, c.requires.name), omega (arith, c.loop-next-test.true)) }
+next-next-requires-in-loop-next c = record
+    { area = (in_row_stays c.loop-next.invariant.1 c.requires).setting.area; k_bound = (omega arith, omega (arith, c.requires.name), omega (arith, c.loop-next-test.true)) }
 
 pub gathers-requires : goal.gathers-requires
 gathers-requires c = in_row_at (in_row_stays c.loop-next.invariant.1 c.requires) c.loop-next-test.true
@@ -31,13 +29,15 @@ pub loop-next-smaller-then-mark : goal.loop-next-smaller-then-mark
 loop-next-smaller-then-mark c = omega (arith, c.loop-next-test.true, c.next-next-in-loop-next.ensures)
 
 pub loop-next-preserved-then-mark : goal.loop-next-preserved-then-mark
-loop-next-preserved-then-mark c = let g = c.loop-next.invariant.1 in (search rules, grows_further g (gather_grows (in_row_at (in_row_stays g c.requires) c.loop-next-test.true) (c.gathers.ensures.sound c.if-gathers.true) c.mark.ensures))
+loop-next-preserved-then-mark c = let g = c.loop-next.invariant.1 in
+    (search rules, grows_further g (gather_grows (in_row_at (in_row_stays g c.requires) c.loop-next-test.true) (c.gathers.ensures.sound c.if-gathers.true) c.mark.ensures))
 
 pub loop-next-smaller-else-mark : goal.loop-next-smaller-else-mark
 loop-next-smaller-else-mark c = omega (arith, c.loop-next-test.true, c.next-next-in-loop-next.ensures)
 
 pub loop-next-preserved-else-mark : goal.loop-next-preserved-else-mark
-loop-next-preserved-else-mark c = let g = c.loop-next.invariant.1 in (search rules, grows_further g (gather_grows (in_row_at (in_row_stays g c.requires) c.loop-next-test.true) (c.gathers.ensures.sound c.if-gathers.true) c.mark.ensures))
+loop-next-preserved-else-mark c = let g = c.loop-next.invariant.1 in
+    (search rules, grows_further g (gather_grows (in_row_at (in_row_stays g c.requires) c.loop-next-test.true) (c.gathers.ensures.sound c.if-gathers.true) c.mark.ensures))
 
 pub loop-next-smaller : goal.loop-next-smaller
 loop-next-smaller c = omega (arith, c.loop-next-test.true, c.next-next-in-loop-next.ensures)

@@ -1,12 +1,8 @@
-use native.Mathlib.Omega.{arith}
-use borrow.Author.Rules.{rules}
-use mathlib.Core.Path.{◌≡◌, refl}
+use mathlib.Core.Path.{◌≡◌}
 use Prim.Native.Nat.{suc, ◌-◌}
 use lib.ListN.{length}
-use Rattle.marks.specs.Passes.{Grows, none}
-use Rattle.marks.proofs.Passes.{grows_further}
+use Rattle.marks.specs.Passes.{Grows}
 use Rattle.classification.specs.Steps.{Step}
-use Rattle.classification.proofs.Marking.{in_row_at, in_row_stays, gather_grows}
 use Rattle.classification.proofs.consequences.put_gathered.Given as goal
 
 abbrev pub invariant-loop-next : goal.invariant-loop-next

@@ -1,11 +1,8 @@
 use native.Mathlib.Omega.{arith}
 use borrow.Author.Rules.{rules}
-use mathlib.Core.Path.{◌≡◌, refl}
-use Prim.Native.Nat.{suc, ◌-◌}
-use lib.ListN.{length}
-use Rattle.marks.specs.Passes.{Grows, none}
+use mathlib.Core.Path.{refl}
+use Rattle.marks.specs.Passes.{none}
 use Rattle.marks.proofs.Passes.{grows_further}
-use Rattle.classification.specs.Steps.{Step}
 use Rattle.classification.proofs.Marking.{shaped_row, over_stays, over_grows}
 use Rattle.classification.proofs.consequences.put_over.Goals as goal
 
@@ -40,13 +37,21 @@ pub loop-next-smaller-then-mark : goal.loop-next-smaller-then-mark
 loop-next-smaller-then-mark c = omega (arith, c.loop-next-test.true, c.next-next-in-loop-next.ensures)
 
 pub loop-next-preserved-then-mark : goal.loop-next-preserved-then-mark
-loop-next-preserved-then-mark c = let g = c.loop-next.invariant.1 in (search rules, grows_further g (over_grows (over_stays g c.requires) c.loop-next-test.true c.kind.ensures c.if-kind-eq4.true c.filler.ensures c.if-filler-y.true c.role-role.ensures c.role.ensures c.if-role.true c.mark.ensures))
+loop-next-preserved-then-mark c = let g = c.loop-next.invariant.1 in (
+  search rules,
+  grows_further g (over_grows (over_stays g c.requires) c.loop-next-test.true c.kind.ensures c.if-kind-eq4.true c.filler.ensures c.if-filler-y.true
+      c.role-role.ensures c.role.ensures c.if-role.true c.mark.ensures),
+)
 
 pub loop-next-smaller-else-mark : goal.loop-next-smaller-else-mark
 loop-next-smaller-else-mark c = omega (arith, c.loop-next-test.true, c.next-next-in-loop-next.ensures)
 
 pub loop-next-preserved-else-mark : goal.loop-next-preserved-else-mark
-loop-next-preserved-else-mark c = let g = c.loop-next.invariant.1 in (search rules, grows_further g (over_grows (over_stays g c.requires) c.loop-next-test.true c.kind.ensures c.if-kind-eq4.true c.filler.ensures c.if-filler-y.true c.role-role.ensures c.role.ensures c.if-role.true c.mark.ensures))
+loop-next-preserved-else-mark c = let g = c.loop-next.invariant.1 in (
+  search rules,
+  grows_further g (over_grows (over_stays g c.requires) c.loop-next-test.true c.kind.ensures c.if-kind-eq4.true c.filler.ensures c.if-filler-y.true
+      c.role-role.ensures c.role.ensures c.if-role.true c.mark.ensures),
+)
 
 pub loop-next-smaller-else-role : goal.loop-next-smaller-else-role
 loop-next-smaller-else-role c = omega (arith, c.loop-next-test.true, c.next-next-in-loop-next.ensures)

@@ -1,7 +1,5 @@
 use native.Mathlib.Omega.{arith}
 use mathlib.Core.Path.{sym, ◌∙◌}
-use Prim.Native.Nat.{◌-◌}
-use Rattle.marks.specs.Squares.{Kept}
 use Rattle.marks.proofs.Squares.{kept_same, kept_further, frame_area}
 use Rattle.classification.proofs.Marking.{shaped_row, joined}
 use Rattle.classification.proofs.hints.list.Goals as goal
@@ -16,7 +14,10 @@ pub is_restriction-requires : goal.is_restriction-requires
 is_restriction-requires c = shaped_row c.requires.0 c.loop-next-test.true
 
 pub list_restriction-requires : goal.list_restriction-requires
-list_restriction-requires c = record { shaped = (c.requires.0, frame_area c.loop-next.invariant.extends.frame c.requires.1); b_lt_names = (c.loop-next-test.true, sym c.is_restriction.ensures ∙ c.if-is_restriction.true) }
+list_restriction-requires c = record {
+  shaped = (c.requires.0, frame_area c.loop-next.invariant.extends.frame c.requires.1);
+  b_lt_names = (c.loop-next-test.true, sym c.is_restriction.ensures ∙ c.if-is_restriction.true);
+}
 
 pub loop-next-smaller-then-is_restriction : goal.loop-next-smaller-then-is_restriction
 loop-next-smaller-then-is_restriction c = omega (arith, c.loop-next-test.true)
@@ -28,7 +29,10 @@ pub kind-requires : goal.kind-requires
 kind-requires c = shaped_row c.requires.0 c.loop-next-test.true
 
 pub list_conjunction-requires : goal.list_conjunction-requires
-list_conjunction-requires c = record { shaped = (c.requires.0, frame_area c.loop-next.invariant.extends.frame c.requires.1); z_lt_names = (c.loop-next-test.true, joined c.kind.ensures c.if-kind-eq2.true) }
+list_conjunction-requires c = record {
+  shaped = (c.requires.0, frame_area c.loop-next.invariant.extends.frame c.requires.1);
+  z_lt_names = (c.loop-next-test.true, joined c.kind.ensures c.if-kind-eq2.true);
+}
 
 pub loop-next-smaller-then-kind-eq2 : goal.loop-next-smaller-then-kind-eq2
 loop-next-smaller-then-kind-eq2 c = omega (arith, c.loop-next-test.true)

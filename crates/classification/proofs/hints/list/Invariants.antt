@@ -1,9 +1,5 @@
-use native.Mathlib.Omega.{arith}
-use mathlib.Core.Path.{sym, ◌∙◌}
 use Prim.Native.Nat.{◌-◌}
 use Rattle.marks.specs.Squares.{Kept}
-use Rattle.marks.proofs.Squares.{kept_same, kept_further, frame_area}
-use Rattle.classification.proofs.Marking.{shaped_row, joined}
 use Rattle.classification.proofs.hints.list.Given as goal
 
 abbrev pub invariant-loop-next : goal.invariant-loop-next

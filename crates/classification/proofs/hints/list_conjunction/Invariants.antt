@@ -1,9 +1,5 @@
-use native.Mathlib.Omega.{arith}
-use borrow.Author.Rules.{rules}
 use Prim.Native.Nat.{◌≤◌, ◌-◌}
 use Rattle.marks.specs.Squares.{Kept}
-use Rattle.marks.proofs.Squares.{kept_same, kept_further, frame_area}
-use Rattle.release.proofs.DefinedParts.{has_count, has_part}
 use Rattle.classification.proofs.hints.list_conjunction.Given as goal
 
 abbrev pub invariant-loop-i : goal.invariant-loop-i

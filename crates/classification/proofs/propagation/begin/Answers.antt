@@ -1,7 +1,6 @@
 use native.Mathlib.Omega.{arith}
 use Rattle.marks.proofs.Passes.{grows_further}
 use Rattle.classification.proofs.Marking.{setting_stays}
-use borrow.Author.Rules.{rules}
 use Rattle.classification.proofs.propagation.begin.Goals as goal
 
 pub start_top-some-requires : goal.start_top-some-requires

@@ -1,11 +1,7 @@
 use native.Mathlib.Omega.{arith}
-use borrow.Author.Rules.{rules}
-use Prim.Native.Nat.{suc, ◌≤◌, ◌-◌}
-use mathlib.Core.Path.{◌≡◌, refl, ◌∙◌}
-use lib.ListN.{length}
-use Rattle.marks.specs.Passes.{Grows, none}
+use mathlib.Core.Path.{refl, ◌∙◌}
+use Rattle.marks.specs.Passes.{none}
 use Rattle.marks.proofs.Passes.{grows_further, grows_frame}
-use Rattle.classification.specs.Steps.{Step}
 use Rattle.classification.proofs.Marking.{setting_stays, shaped_row}
 use Rattle.classification.proofs.propagation.hand_on_rows.Goals as goal
 
@@ -31,7 +27,12 @@ pub loop-next-smaller-then-is_conjunction : goal.loop-next-smaller-then-is_conju
 loop-next-smaller-then-is_conjunction c = omega (arith, c.loop-next-test.true)
 
 pub loop-next-preserved-then-is_conjunction : goal.loop-next-preserved-then-is_conjunction
-loop-next-preserved-then-is_conjunction c = (omega (arith, c.loop-next-test.true), (grows_frame c.hand_on_row.ensures).long ∙ c.loop-next.invariant.1, grows_further c.loop-next.invariant.2 c.hand_on_row.ensures)
+loop-next-preserved-then-is_conjunction c = (
+  omega (arith, c.loop-next-test.true),
+  (grows_frame c.hand_on_row.ensures).long ∙ c.loop-next.invariant.1,
+  grows_further
+      c.loop-next.invariant.2 c.hand_on_row.ensures,
+)
 
 pub loop-next-smaller : goal.loop-next-smaller
 loop-next-smaller c = omega (arith, c.loop-next-test.true)

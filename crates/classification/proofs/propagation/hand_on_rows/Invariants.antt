@@ -1,12 +1,8 @@
-use native.Mathlib.Omega.{arith}
-use borrow.Author.Rules.{rules}
 use Prim.Native.Nat.{suc, ◌≤◌, ◌-◌}
-use mathlib.Core.Path.{◌≡◌, refl, ◌∙◌}
+use mathlib.Core.Path.{◌≡◌}
 use lib.ListN.{length}
-use Rattle.marks.specs.Passes.{Grows, none}
-use Rattle.marks.proofs.Passes.{grows_further, grows_frame}
+use Rattle.marks.specs.Passes.{Grows}
 use Rattle.classification.specs.Steps.{Step}
-use Rattle.classification.proofs.Marking.{setting_stays, shaped_row}
 use Rattle.classification.proofs.propagation.hand_on_rows.Given as goal
 
 abbrev pub invariant-loop-next : goal.invariant-loop-next

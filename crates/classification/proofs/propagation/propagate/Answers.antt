@@ -1,10 +1,8 @@
 use borrow.Author.Rules.{rules}
-use mathlib.Core.Path.{◌≡◌, refl}
-use lib.ListN.{length}
-use Rattle.marks.specs.Passes.{Grows, none}
+use mathlib.Core.Path.{refl}
+use Rattle.marks.specs.Passes.{none}
 use Rattle.marks.proofs.Squares.{frame_area}
 use Rattle.marks.proofs.Passes.{kept_grows, grows_further}
-use Rattle.classification.specs.Steps.{Step}
 use Rattle.classification.proofs.Marking.{setting_stays}
 use Rattle.classification.proofs.propagation.propagate.Goals as goal
 

@@ -1,11 +1,7 @@
-use borrow.Author.Rules.{rules}
-use mathlib.Core.Path.{◌≡◌, refl}
+use mathlib.Core.Path.{◌≡◌}
 use lib.ListN.{length}
-use Rattle.marks.specs.Passes.{Grows, none}
-use Rattle.marks.proofs.Squares.{frame_area}
-use Rattle.marks.proofs.Passes.{kept_grows, grows_further}
+use Rattle.marks.specs.Passes.{Grows}
 use Rattle.classification.specs.Steps.{Step}
-use Rattle.classification.proofs.Marking.{setting_stays}
 use Rattle.classification.proofs.propagation.propagate.Given as goal
 
 abbrev pub invariant-loop-left : goal.invariant-loop-left

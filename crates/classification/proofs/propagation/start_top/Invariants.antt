@@ -1,12 +1,8 @@
 use Prim.Native.Nat.{◌≤◌, ◌-◌}
-use mathlib.Core.Path.{◌≡◌, refl}
-use native.Mathlib.Omega.{arith}
-use borrow.Author.Rules.{rules}
+use mathlib.Core.Path.{◌≡◌}
 use lib.ListN.{length}
-use Rattle.marks.specs.Passes.{Grows, none}
-use Rattle.marks.proofs.Passes.{grows_further}
+use Rattle.marks.specs.Passes.{Grows}
 use Rattle.classification.specs.Steps.{Step}
-use Rattle.classification.proofs.Marking.{setting_stays, in_top_row, gather_grows}
 use Rattle.classification.proofs.propagation.start_top.Given as goal
 
 -- marks put by the rules

@@ -1,6 +1,5 @@
 use Rattle.marks.proofs.Passes.{due_there}
 use Rattle.classification.proofs.Marking.{fillers_small, not_due, due_fill}
-use borrow.Author.Rules.{rules}
 use Rattle.classification.proofs.rules.fills.Goals as goal
 
 pub returns-then-is_marked : goal.returns-then-is_marked

@@ -1,6 +1,5 @@
 use Rattle.marks.proofs.Squares.{refuted}
 use Rattle.classification.proofs.Marking.{gathered_there, gather_pass, gathered_not}
-use borrow.Author.Rules.{rules}
 use Rattle.classification.proofs.rules.gather.Goals as goal
 
 pub returns-then-is_marked : goal.returns-then-is_marked

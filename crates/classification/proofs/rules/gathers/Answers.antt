@@ -2,7 +2,6 @@ use mathlib.Core.Path.{◌∙◌}
 use Rattle.el.proofs.Tests.{never}
 use Rattle.release.proofs.DefinedParts.{has_count}
 use Rattle.classification.proofs.Marking.{conjunctive, joined}
-use borrow.Author.Rules.{rules}
 use Rattle.classification.proofs.rules.gathers.Goals as goal
 
 pub returns-then-kind-ne2 : goal.returns-then-kind-ne2

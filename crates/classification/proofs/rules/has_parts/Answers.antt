@@ -1,11 +1,8 @@
-use Prim.Native.Nat.{◌≤◌, ◌-◌}
 use mathlib.Core.Path.{refl}
 use native.Mathlib.Omega.{arith}
 use borrow.Author.Rules.{rules}
 use Rattle.release.proofs.DefinedParts.{has_part}
-use Rattle.marks.specs.Passes.{Below}
 use Rattle.marks.proofs.Passes.{below_none, below_more}
-use Rattle.classification.specs.Steps.{PartMarked}
 use Rattle.classification.proofs.Marking.{conjunctive, joined, part_small, part_marked, not_gathers, gathers_all}
 use Rattle.classification.proofs.rules.has_parts.Goals as goal
 
@@ -16,7 +13,14 @@ pub part-part-requires : goal.part-part-requires
 part-part-requires c = has_part _ _ _ _ (conjunctive c.requires.in_row (joined refl c.requires.defined_conjunction.kind)) _ (omega (arith, c.loop-i-test.true, c.requires.defined_conjunction.count))
 
 pub is_marked-requires : goal.is_marked-requires
-is_marked-requires c = record { room = c.requires.in_row.setting.room; x_le_names = (c.requires.in_row.row, part_small c.requires.in_row (joined refl c.requires.defined_conjunction.kind) (omega (arith, c.loop-i-test.true, c.requires.defined_conjunction.count)) c.part-part.ensures) }
+is_marked-requires c = record {
+  room = c.requires.in_row.setting.room;
+  x_le_names = (
+    c.requires.in_row.row,
+    part_small c.requires.in_row (joined refl c.requires.defined_conjunction.kind)
+        (omega (arith, c.loop-i-test.true, c.requires.defined_conjunction.count)) c.part-part.ensures,
+  );
+}
 
 pub loop-i-preserved : goal.loop-i-preserved
 loop-i-preserved c = (search rules, below_more c.loop-i.invariant.1 (part_marked c.part-part.ensures c.is_marked.ensures c.if-is_marked.true))

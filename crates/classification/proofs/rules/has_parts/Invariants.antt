@@ -1,12 +1,6 @@
 use Prim.Native.Nat.{◌≤◌, ◌-◌}
-use mathlib.Core.Path.{refl}
-use native.Mathlib.Omega.{arith}
-use borrow.Author.Rules.{rules}
-use Rattle.release.proofs.DefinedParts.{has_part}
 use Rattle.marks.specs.Passes.{Below}
-use Rattle.marks.proofs.Passes.{below_none, below_more}
 use Rattle.classification.specs.Steps.{PartMarked}
-use Rattle.classification.proofs.Marking.{conjunctive, joined, part_small, part_marked, not_gathers, gathers_all}
 use Rattle.classification.proofs.rules.has_parts.Given as goal
 
 -- the conjuncts before i are marked

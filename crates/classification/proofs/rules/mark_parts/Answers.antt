@@ -1,12 +1,8 @@
-use Prim.Native.Nat.{◌≤◌, ◌-◌}
-use mathlib.Core.Path.{◌≡◌, refl}
+use mathlib.Core.Path.{refl}
 use native.Mathlib.Omega.{arith}
 use borrow.Author.Rules.{rules}
-use lib.ListN.{length}
 use Rattle.release.proofs.DefinedParts.{has_count, has_part}
-use Rattle.marks.specs.Passes.{Pass, Below}
 use Rattle.marks.proofs.Passes.{room_stays, turns_none, turn_changed, turn_unchanged, turns_end}
-use Rattle.classification.specs.Steps.{Step, PartMarked}
 use Rattle.classification.proofs.Marking.{source_stays, conjunctive, part_small, part_pass}
 use Rattle.classification.proofs.rules.mark_parts.Goals as goal
 
@@ -20,17 +16,30 @@ pub part-part-requires : goal.part-part-requires
 part-part-requires c = has_part _ _ _ _ (conjunctive c.requires.source.in_row c.requires.b_value) _ (omega (arith, c.loop-i-test.true, c.count-count.ensures))
 
 pub mark-requires : goal.mark-requires
-mark-requires c = let h = c.requires.source.in_row in record { room = room_stays c.loop-i.invariant.2.grows h.setting.room; x_le_names = (h.row, part_small h c.requires.b_value (omega (arith, c.loop-i-test.true, c.count-count.ensures)) c.part-part.ensures) }
+mark-requires c = let h = c.requires.source.in_row in record {
+  room = room_stays c.loop-i.invariant.2.grows h.setting.room;
+  x_le_names = (h.row, part_small h c.requires.b_value (omega (arith, c.loop-i-test.true, c.count-count.ensures)) c.part-part.ensures);
+}
 
 pub loop-i-preserved-then-mark : goal.loop-i-preserved-then-mark
 loop-i-preserved-then-mark c =
-    let p = c.loop-i.invariant.2 in
-    (search rules, search rules, turn_changed p (part_pass (source_stays p.grows c.requires.source) c.requires.b_value (omega (arith, c.loop-i-test.true, c.count-count.ensures)) c.part-part.ensures c.mark.ensures) c.if-mark.true)
+    let p = c.loop-i.invariant.2 in (
+      search rules,
+      search rules,
+      turn_changed p
+          (part_pass (source_stays p.grows c.requires.source) c.requires.b_value (omega (arith, c.loop-i-test.true, c.count-count.ensures)) c.part-part.ensures c.mark.ensures)
+          c.if-mark.true,
+    )
 
 pub loop-i-preserved : goal.loop-i-preserved
 loop-i-preserved c =
-    let p = c.loop-i.invariant.2 in
-    (search rules, search rules, turn_unchanged p (part_pass (source_stays p.grows c.requires.source) c.requires.b_value (omega (arith, c.loop-i-test.true, c.count-count.ensures)) c.part-part.ensures c.mark.ensures) c.if-mark.false)
+    let p = c.loop-i.invariant.2 in (
+      search rules,
+      search rules,
+      turn_unchanged p
+          (part_pass (source_stays p.grows c.requires.source) c.requires.b_value (omega (arith, c.loop-i-test.true, c.count-count.ensures)) c.part-part.ensures c.mark.ensures)
+          c.if-mark.false,
+    )
 
 pub returns : goal.returns
 returns c = turns_end (omega (arith, c.loop-i-test.false, c.count-count.ensures)) c.loop-i.invariant.2

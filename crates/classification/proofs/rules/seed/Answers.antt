@@ -1,5 +1,4 @@
 use Rattle.classification.proofs.Marking.{seeds_changed, seeds_unchanged}
-use borrow.Author.Rules.{rules}
 use Rattle.classification.proofs.rules.seed.Goals as goal
 
 pub returns-then-mark : goal.returns-then-mark

@@ -1,11 +1,7 @@
 use native.Mathlib.Omega.{arith}
 use borrow.Author.Rules.{rules}
-use Prim.Native.Nat.{◌≤◌, ◌-◌}
-use mathlib.Core.Path.{◌≡◌, refl}
-use lib.ListN.{length}
-use Rattle.marks.specs.Passes.{Pass, Below}
+use mathlib.Core.Path.{refl}
 use Rattle.marks.proofs.Passes.{turns_none, turn_both, turns_end}
-use Rattle.classification.specs.Steps.{Step, AxiomSettled}
 use Rattle.classification.proofs.Marking.{seeded_stays}
 use Rattle.classification.proofs.sweep.axioms.Goals as goal
 

@@ -1,12 +1,8 @@
 use native.Mathlib.Omega.{arith}
 use borrow.Author.Rules.{rules}
-use Prim.Native.Nat.{suc, ◌≤◌, ◌-◌}
-use mathlib.Core.Path.{◌≡◌, refl}
-use lib.ListN.{length}
+use mathlib.Core.Path.{refl}
 use Rattle.release.proofs.DefinedParts.{has_count}
-use Rattle.marks.specs.Passes.{Pass, Below}
 use Rattle.marks.proofs.Passes.{turns_none, turn_both, turns_end}
-use Rattle.classification.specs.Steps.{Step, GatheredAt}
 use Rattle.classification.proofs.Marking.{setting_stays, defined_parts, gathered_at}
 use Rattle.classification.proofs.sweep.gather_column.Goals as goal
 
@@ -17,7 +13,11 @@ pub loop-x-init : goal.loop-x-init
 loop-x-init c = (search rules, refl, turns_none)
 
 pub gather-gathered-requires : goal.gather-gathered-requires
-gather-gathered-requires c = record { in_row = record { setting = setting_stays c.loop-x.invariant.2.grows c.requires.setting; row = omega (arith, c.loop-x-test.true); name = c.requires.y_lt_names }; defined_conjunction = record { kind = c.requires.y_value; count = c.count-count.ensures } }
+gather-gathered-requires c = record {
+  in_row = record
+      { setting = setting_stays c.loop-x.invariant.2.grows c.requires.setting; row = omega (arith, c.loop-x-test.true); name = c.requires.y_lt_names };
+  defined_conjunction = record { kind = c.requires.y_value; count = c.count-count.ensures };
+}
 
 pub overflow_add-x : goal.overflow_add-x
 overflow_add-x c = omega (arith, c.loop-x-test.true, c.requires.setting.few)

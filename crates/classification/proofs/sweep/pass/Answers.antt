@@ -3,7 +3,6 @@ use Rattle.marks.proofs.Passes.{grows_further, pass_changed}
 use Rattle.marks.proofs.Passes.{pass_found}
 use Rattle.classification.proofs.Marking.{setting_stays}
 use Rattle.classification.proofs.Settled.{pass_settled}
-use borrow.Author.Rules.{rules}
 use Rattle.classification.proofs.sweep.pass.Goals as goal
 
 pub returns-then-seed_all : goal.returns-then-seed_all
@@ -16,7 +15,8 @@ pub returns-then-axioms : goal.returns-then-axioms
 returns-then-axioms c = pass_changed c.seed_all.ensures c.axioms.ensures c.if-axioms.true
 
 pub take_all-requires : goal.take_all-requires
-take_all-requires c = let h = setting_stays (grows_further c.seed_all.ensures.grows c.axioms.ensures.grows) c.requires in record { room = (h.room, h.room); alike = record { same = refl; few = h.few } }
+take_all-requires c = let h = setting_stays (grows_further c.seed_all.ensures.grows c.axioms.ensures.grows) c.requires in record
+    { room = (h.room, h.room); alike = record { same = refl; few = h.few } }
 
 pub returns : goal.returns
 returns c = pass_settled c.seed_all.ensures c.if-seed_all.false c.axioms.ensures c.if-axioms.false c.take_all.ensures

@@ -1,4 +1,3 @@
-use borrow.Author.Rules.{rules}
 use Rattle.marks.proofs.Squares.{frame_area, kept_further}
 use Rattle.classification.proofs.sweep.prepare.Goals as goal
 

@@ -1,11 +1,7 @@
 use native.Mathlib.Omega.{arith}
 use borrow.Author.Rules.{rules}
-use Prim.Native.Nat.{suc, ◌≤◌, ◌-◌}
-use mathlib.Core.Path.{◌≡◌, refl}
-use lib.ListN.{length}
-use Rattle.marks.specs.Passes.{Pass, Below}
+use mathlib.Core.Path.{refl}
 use Rattle.marks.proofs.Passes.{turns_none, turn_both, turns_end}
-use Rattle.classification.specs.Steps.{Step, Seeded}
 use Rattle.classification.proofs.Marking.{setting_stays}
 use Rattle.classification.proofs.sweep.seed_all.Goals as goal
 

@@ -1,17 +1,14 @@
-use native.Mathlib.Omega.{arith}
-use borrow.Author.Rules.{rules}
 use Prim.Native.Nat.{suc, ◌≤◌, ◌-◌}
-use mathlib.Core.Path.{◌≡◌, refl}
+use mathlib.Core.Path.{◌≡◌}
 use lib.ListN.{length}
 use Rattle.marks.specs.Passes.{Pass, Below}
-use Rattle.marks.proofs.Passes.{turns_none, turn_both, turns_end}
 use Rattle.classification.specs.Steps.{Step, Seeded}
-use Rattle.classification.proofs.Marking.{setting_stays}
 use Rattle.classification.proofs.sweep.seed_all.Given as goal
 
 -- a pass that has finished the rows before next
 abbrev pub invariant-loop-next : goal.invariant-loop-next
-invariant-loop-next l = (l.next ≤ suc l.square.names) × (length l.work ≡ length l.initial.work) × Pass (Step l.file l.table l.square) l.square (Below (Seeded l.square) l.next) l.initial.work l.work l.changed
+invariant-loop-next l = (l.next ≤ suc l.square.names) × (length l.work ≡ length l.initial.work) × Pass (Step l.file l.table l.square) l.square (Below (Seeded l.square) l.next)
+    l.initial.work l.work l.changed
 
 abbrev pub decreases-loop-next : goal.decreases-loop-next
 decreases-loop-next l = suc l.square.names - l.next

@@ -1,9 +1,7 @@
 use Rattle.comparison.proofs.Cleared.{between_none, between_more, between_end}
-use Rattle.comparison.specs.Compared.{ZeroedBetween}
-use lib.ListN.{length, length-set}
+use lib.ListN.{length-set}
 use native.Mathlib.Omega.{arith}
-use Prim.Native.Nat.{◌*◌, ◌-◌, ◌≤◌}
-use mathlib.Core.Path.{◌≡◌, refl}
+use mathlib.Core.Path.{refl}
 use Rattle.comparison.proofs.marking.unmark.Goals as goal
 
 pub overflow_mul-i : goal.overflow_mul-i

@@ -1,9 +1,7 @@
-use Rattle.comparison.proofs.Cleared.{between_none, between_more, between_end}
 use Rattle.comparison.specs.Compared.{ZeroedBetween}
-use lib.ListN.{length, length-set}
-use native.Mathlib.Omega.{arith}
+use lib.ListN.{length}
 use Prim.Native.Nat.{◌*◌, ◌-◌, ◌≤◌}
-use mathlib.Core.Path.{◌≡◌, refl}
+use mathlib.Core.Path.{◌≡◌}
 use Rattle.comparison.proofs.marking.unmark.Given as goal
 
 abbrev pub invariant-loop-i : goal.invariant-loop-i

@@ -1,6 +1,5 @@
 use Rattle.comparison.proofs.Pipeline.{few, prepared}
 use native.Mathlib.Omega.{arith}
-use borrow.Author.Rules.{rules}
 use Rattle.comparison.proofs.preparation.prepare.Goals as goal
 
 pub turn_second-requires : goal.turn_second-requires

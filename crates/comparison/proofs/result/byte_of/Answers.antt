@@ -1,6 +1,5 @@
 use mathlib.Core.Path.{sym, ◌∙◌}
 use Rattle.comparison.proofs.Bytes.{byte_inside, byte_outside}
-use borrow.Author.Rules.{rules}
 use Rattle.comparison.proofs.result.byte_of.Goals as goal
 
 pub returns-then-has_name : goal.returns-then-has_name

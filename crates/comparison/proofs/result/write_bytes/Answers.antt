@@ -1,8 +1,6 @@
-use Prim.Native.Nat.{◌≤◌, ◌-◌}
-use mathlib.Core.Path.{◌≡◌, refl}
+use mathlib.Core.Path.{refl}
 use borrow.Author.Rules.{rules}
-use lib.ListN.{length, length-set}
-use Rattle.comparison.specs.Bytes.{Written}
+use lib.ListN.{length-set}
 use Rattle.comparison.proofs.Bytes.{written_none, written_more, written_end}
 use Rattle.comparison.proofs.result.write_bytes.Goals as goal
 

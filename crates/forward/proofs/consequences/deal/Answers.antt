@@ -1,5 +1,4 @@
 -- What is seen of row x changes no mark; then its marks are handed down and its edges looked at, both by the rules.
-use borrow.Author.Rules.{rules}
 use Rattle.marks.proofs.Passes.{grows_further, kept_grows}
 use Rattle.forward.proofs.Tested.{setting_stays, seen_stays, above_grows}
 use Rattle.forward.proofs.consequences.deal.Goals as goal

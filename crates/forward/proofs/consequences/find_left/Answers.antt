@@ -1,7 +1,5 @@
 -- The nodes left are a hint, so only places in the array are at stake. Invariant: no more are counted than it has places.
 use native.Mathlib.Omega.{arith}
-use Prim.Native.Nat.{suc, ◌≤◌, ◌-◌}
-use borrow.Author.Rules.{rules}
 use Rattle.forward.proofs.consequences.find_left.Goals as goal
 
 pub next-next-requires : goal.next-next-requires

@@ -1,15 +1,9 @@
 -- The rows below x, one after the other. Invariant: marks of rows above were put in rows below.
 use native.Mathlib.Omega.{arith}
-use borrow.Author.Rules.{rules}
-use Prim.Native.Nat.{suc, ◌≤◌, ◌-◌}
-use mathlib.Core.Path.{◌≡◌, refl, ◌∙◌}
-use lib.ListN.{length}
-use Rattle.marks.specs.Squares.{Room, Area}
-use Rattle.marks.specs.Passes.{Grows, none}
+use mathlib.Core.Path.{refl, ◌∙◌}
+use Rattle.marks.specs.Passes.{none}
 use Rattle.marks.proofs.Squares.{frame_room, frame_area}
 use Rattle.marks.proofs.Passes.{grows_frame, grows_further}
-use Rattle.layout.specs.Layouts.{first_square, mark_square}
-use Rattle.forward.specs.Rules.{FromAbove}
 use Rattle.forward.proofs.Tested.{row_from_above}
 use Rattle.forward.proofs.consequences.hand_down.Goals as goal
 

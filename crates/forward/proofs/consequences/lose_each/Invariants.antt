@@ -1,13 +1,10 @@
 -- The nodes noted, one after the other. Invariant: marks that the rules allow were put, if the answer so far says so.
-use native.Mathlib.Omega.{arith}
 use Prim.Native.Nat.{◌≤◌, ◌-◌}
-use mathlib.Core.Path.{◌≡◌, refl, ◌∙◌}
+use mathlib.Core.Path.{◌≡◌}
 use lib.ListN.{length}
-use Rattle.marks.specs.Passes.{Pass, Anything, anything}
-use Rattle.marks.proofs.Passes.{grows_frame, pass_none, pass_both}
+use Rattle.marks.specs.Passes.{Pass, Anything}
 use Rattle.layout.specs.Layouts.{mark_square}
 use Rattle.forward.specs.Rules.{Setting, Follows}
-use Rattle.forward.proofs.Tested.{setting_stays}
 use Rattle.forward.proofs.consequences.lose_each.Given as goal
 
 abbrev pub invariant-loop-i : goal.invariant-loop-i

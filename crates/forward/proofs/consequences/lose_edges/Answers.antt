@@ -1,12 +1,8 @@
 -- The edges that end at a node, one after the other. Invariant: marks that the rules allow were put.
 use native.Mathlib.Omega.{arith}
-use Prim.Native.Nat.{suc, ◌-◌}
-use mathlib.Core.Path.{◌≡◌, refl, ◌∙◌}
-use lib.ListN.{length}
-use Rattle.marks.specs.Passes.{Grows, none}
+use mathlib.Core.Path.{refl, ◌∙◌}
+use Rattle.marks.specs.Passes.{none}
 use Rattle.marks.proofs.Passes.{grows_frame, grows_further}
-use Rattle.layout.specs.Layouts.{mark_square}
-use Rattle.forward.specs.Rules.{Setting, Follows}
 use Rattle.forward.proofs.Tested.{edge_by, setting_stays}
 use Rattle.forward.proofs.consequences.lose_edges.Goals as goal
 

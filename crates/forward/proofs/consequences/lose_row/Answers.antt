@@ -10,7 +10,12 @@ use Rattle.forward.proofs.consequences.lose_row.Goals as goal
 pub keep_partners-requires : goal.keep_partners-requires
 keep_partners-requires c = let setting = c.requires.setting in
     let edge = c.requires.edge in
-    let places = setting.places in record { rowed = (places.first_table, places.second_table); room = (places.marks, setting.below (omega (arith, edge.is_name))); spans = (record { inside = omega (arith, setting.few) }, empty_zeros 128); x_lt_names = (edge.is_name, edge_end setting edge, setting.few) }
+    let places = setting.places in record {
+      rowed = (places.first_table, places.second_table);
+      room = (places.marks, setting.below (omega (arith, edge.is_name)));
+      spans = (record { inside = omega (arith, setting.few) }, empty_zeros 128);
+      x_lt_names = (edge.is_name, edge_end setting edge, setting.few);
+    }
 
 pub returns-then-keep_partners : goal.returns-then-keep_partners
 returns-then-keep_partners c =

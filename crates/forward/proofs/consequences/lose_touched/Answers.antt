@@ -1,6 +1,5 @@
 -- The edge of x, by whether a few nodes are left: either way the marks put are those of the function called.
 use native.Mathlib.Omega.{arith}
-use borrow.Author.Rules.{rules}
 use Rattle.forward.proofs.consequences.lose_touched.Goals as goal
 
 pub find_left-count-requires : goal.find_left-count-requires

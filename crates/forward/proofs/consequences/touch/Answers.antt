@@ -1,9 +1,6 @@
 -- The line is a hint, so only its length is at stake. Invariant: the line keeps its length.
 use native.Mathlib.Omega.{arith}
-use borrow.Author.Rules.{rules}
-use Prim.Native.Nat.{suc, ◌-◌}
-use mathlib.Core.Path.{◌≡◌, refl, ◌∙◌}
-use lib.ListN.{length}
+use mathlib.Core.Path.{refl, ◌∙◌}
 use Rattle.forward.proofs.consequences.touch.Goals as goal
 
 pub next-next-requires : goal.next-next-requires
@@ -22,7 +19,12 @@ next-next-requires-in-loop-next c =
     (c.requires.names_le_most_names, omega (arith, c.loop-next-test.true))
 
 pub touch_by-requires : goal.touch_by-requires
-touch_by-requires c = record { rowed = c.requires.rowed; area = c.requires.area; spans = record { inside = omega (arith, c.requires.spans.inside, c.loop-next.invariant) }; filler_le_names = c.loop-next-test.true }
+touch_by-requires c = record {
+  rowed = c.requires.rowed;
+  area = c.requires.area;
+  spans = record { inside = omega (arith, c.requires.spans.inside, c.loop-next.invariant) };
+  filler_le_names = c.loop-next-test.true;
+}
 
 pub loop-next-smaller : goal.loop-next-smaller
 loop-next-smaller c =

@@ -1,8 +1,6 @@
 -- The line is a hint, so only its length is at stake. Invariant: the line keeps its length.
-use native.Mathlib.Omega.{arith}
-use borrow.Author.Rules.{rules}
 use Prim.Native.Nat.{suc, ◌-◌}
-use mathlib.Core.Path.{◌≡◌, refl, ◌∙◌}
+use mathlib.Core.Path.{◌≡◌}
 use lib.ListN.{length}
 use Rattle.forward.proofs.consequences.touch.Given as goal
 

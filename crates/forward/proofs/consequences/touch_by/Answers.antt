@@ -1,9 +1,6 @@
 -- The line is a hint, so only its length and the places in the table are at stake. Invariant: the line keeps its length.
 use native.Mathlib.Omega.{arith}
-use borrow.Author.Rules.{rules}
-use Prim.Native.Nat.{suc, ◌-◌}
-use mathlib.Core.Path.{◌≡◌, refl, ◌∙◌}
-use lib.ListN.{length}
+use mathlib.Core.Path.{refl, ◌∙◌}
 use Rattle.forward.proofs.Tested.{rowed_row}
 use Rattle.forward.proofs.consequences.touch_by.Goals as goal
 

@@ -1,10 +1,7 @@
 -- The line is a hint, so only its length and the places in the table are at stake. Invariant: the line keeps its length.
-use native.Mathlib.Omega.{arith}
-use borrow.Author.Rules.{rules}
 use Prim.Native.Nat.{suc, ◌-◌}
-use mathlib.Core.Path.{◌≡◌, refl, ◌∙◌}
+use mathlib.Core.Path.{◌≡◌}
 use lib.ListN.{length}
-use Rattle.forward.proofs.Tested.{rowed_row}
 use Rattle.forward.proofs.consequences.touch_by.Given as goal
 
 abbrev pub invariant-loop-next : goal.invariant-loop-next

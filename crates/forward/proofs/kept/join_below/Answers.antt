@@ -1,6 +1,5 @@
 -- What lies below a name is its row of the turned inclusions.
 use native.Mathlib.Omega.{arith}
-use borrow.Author.Rules.{rules}
 use Rattle.forward.proofs.Tested.{second_small, join_asks, joined_below}
 use Rattle.forward.proofs.kept.join_below.Goals as goal
 

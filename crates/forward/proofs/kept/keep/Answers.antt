@@ -1,9 +1,7 @@
 -- All names, one after the other. Invariant: the line has just what the names before this one keep.
 use native.Mathlib.Omega.{arith}
-use Prim.Native.Nat.{◌≤◌, ◌-◌}
-use mathlib.Core.Path.{◌≡◌, refl, ◌∙◌}
-use lib.ListN.{length}
-use Rattle.forward.proofs.Tested.{KeptTo, kept_none, kept_more, kept_end}
+use mathlib.Core.Path.{refl, ◌∙◌}
+use Rattle.forward.proofs.Tested.{kept_none, kept_more, kept_end}
 use Rattle.forward.proofs.kept.keep.Goals as goal
 
 pub loop-next-init : goal.loop-next-init
@@ -15,7 +13,12 @@ overflow_add-next c =
     omega (arith, c.loop-next-test.true, c.requires.end_le_names.1)
 
 pub keep_by-requires : goal.keep_by-requires
-keep_by-requires c = record { rowed = c.requires.rowed; room = c.requires.room; spans = record { inside = omega (arith, c.requires.spans.0.inside, c.loop-next.invariant.1) }; end_le_names = (c.requires.end_le_names.0, c.loop-next-test.true) }
+keep_by-requires c = record {
+  rowed = c.requires.rowed;
+  room = c.requires.room;
+  spans = record { inside = omega (arith, c.requires.spans.0.inside, c.loop-next.invariant.1) };
+  end_le_names = (c.requires.end_le_names.0, c.loop-next-test.true);
+}
 
 pub loop-next-smaller : goal.loop-next-smaller
 loop-next-smaller c =

@@ -1,9 +1,8 @@
 -- All names, one after the other. Invariant: the line has just what the names before this one keep.
-use native.Mathlib.Omega.{arith}
 use Prim.Native.Nat.{◌≤◌, ◌-◌}
-use mathlib.Core.Path.{◌≡◌, refl, ◌∙◌}
+use mathlib.Core.Path.{◌≡◌}
 use lib.ListN.{length}
-use Rattle.forward.proofs.Tested.{KeptTo, kept_none, kept_more, kept_end}
+use Rattle.forward.proofs.Tested.{KeptTo}
 use Rattle.forward.proofs.kept.keep.Given as goal
 
 abbrev pub invariant-loop-next : goal.invariant-loop-next

@@ -1,5 +1,4 @@
 -- A name that serves keeps what lies below it; one that does not keeps nothing.
-use borrow.Author.Rules.{rules}
 use Rattle.marks.proofs.Squares.{refuted}
 use Rattle.forward.proofs.Tested.{kept_by, kept_not}
 use Rattle.forward.proofs.kept.keep_by.Goals as goal

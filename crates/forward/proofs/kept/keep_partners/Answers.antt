@@ -1,5 +1,4 @@
 -- The line of kept nodes for the role and the end of the edge of x, and whether the row is full by it.
-use borrow.Author.Rules.{rules}
 use Rattle.forward.proofs.Tested.{rowed_row}
 use Rattle.forward.proofs.kept.keep_partners.Goals as goal
 

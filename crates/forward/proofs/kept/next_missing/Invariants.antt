@@ -1,8 +1,6 @@
 -- The next node that a line leaves open. Invariant: from `from` on up to y, each node is in the line or marked, and y is not marked.
-use native.Mathlib.Omega.{arith}
 use Prim.Native.Nat.{suc, ◌-◌}
-use Rattle.marks.proofs.Squares.{refuted}
-use Rattle.forward.proofs.Tested.{MissingTo, missing_start, missing_more, missing_found, missing_none}
+use Rattle.forward.proofs.Tested.{MissingTo}
 use Rattle.forward.proofs.kept.next_missing.Given as goal
 
 abbrev pub invariant-loop-y : goal.invariant-loop-y

@@ -20,7 +20,14 @@ filler-filler-requires c =
     rowed_row c.requires.rowed c.requires.end_le_names.1
 
 pub is_marked-requires : goal.is_marked-requires
-is_marked-requires c = record { room = c.requires.room; x_le_names = (c.requires.end_le_names.0, rw c.filler-filler.ensures (c.requires.rowed.filler _ c.requires.end_le_names.1 (sym c.is_restriction.ensures ∙ c.if-is_restriction.true))) }
+is_marked-requires c = record {
+  room = c.requires.room;
+  x_le_names = (
+    c.requires.end_le_names.0,
+    rw c.filler-filler.ensures
+        (c.requires.rowed.filler _ c.requires.end_le_names.1 (sym c.is_restriction.ensures ∙ c.if-is_restriction.true)),
+  );
+}
 
 pub returns-then-is_marked : goal.returns-then-is_marked
 returns-then-is_marked c = never (serves_marked c.filler-filler.ensures (c.is_marked.ensures.sound c.if-is_marked.true))

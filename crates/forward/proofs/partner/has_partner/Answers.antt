@@ -1,16 +1,10 @@
 -- The search for a partner. Invariant of the loop over the candidates: those before this one are no partners; of the loop over the
 -- successors of one: `end` is marked with those before this one.
 use native.Mathlib.Omega.{arith}
-use Prim.Native.Nat.{suc, ◌≤◌, ◌-◌}
-use mathlib.Core.Path.{◌≡◌, refl}
-use mathlib.Core.Bool.{false}
+use mathlib.Core.Path.{refl}
 use Rattle.el.proofs.Tests.{always}
-use Rattle.marks.specs.Squares.{Marked}
 use Rattle.marks.proofs.Squares.{refuted}
-use Rattle.layout.specs.Searches.{NoneBelow}
-use Rattle.layout.specs.Layouts.{second_square}
-use Rattle.forward.specs.Rules.{Partner, Successor}
-use Rattle.forward.proofs.Tested.{MarkedTo, tells_none, marked_start, marked_more, marked_all, successor_serves}
+use Rattle.forward.proofs.Tested.{tells_none, marked_start, marked_more, marked_all, successor_serves}
 use Rattle.forward.proofs.Tested.{found_at, none_start, none_more, none_all}
 use Rattle.forward.proofs.partner.has_partner.Goals as goal
 

@@ -1,6 +1,5 @@
 -- One pair: where the search finds a partner nothing is left to mark, else the mark is one that the rules allow.
 use native.Mathlib.Omega.{arith}
-use borrow.Author.Rules.{rules}
 use Rattle.marks.proofs.Squares.{refuted}
 use Rattle.marks.proofs.Passes.{pass_none}
 use Rattle.forward.proofs.Tested.{rowed_row, end_small, edge_lost, cell_kept, cell_lost}

@@ -1,7 +1,6 @@
 -- The next successor of a name: the filler of its axiom, where that is a restriction with the role and not before `from`.
 use native.Mathlib.Omega.{arith}
 use mathlib.Core.Path.{sym, ◌∙◌}
-use borrow.Author.Rules.{rules}
 use Rattle.forward.proofs.Tested.{rowed_row, successor_other, successor_before, successor_not, successor_found}
 use Rattle.forward.proofs.partner.next_successor.Goals as goal
 

@@ -1,12 +1,8 @@
 -- The rows that wait, for a number of turns. Invariant: marks that the rules allow were put.
 use native.Mathlib.Omega.{arith}
-use borrow.Author.Rules.{rules}
-use mathlib.Core.Path.{◌≡◌, refl, ◌∙◌}
-use lib.ListN.{length}
-use Rattle.marks.specs.Passes.{Grows, none}
+use mathlib.Core.Path.{refl, ◌∙◌}
+use Rattle.marks.specs.Passes.{none}
 use Rattle.marks.proofs.Passes.{grows_frame, grows_further}
-use Rattle.layout.specs.Layouts.{mark_square}
-use Rattle.forward.specs.Rules.{Setting, Follows}
 use Rattle.forward.proofs.Tested.{setting_stays}
 use Rattle.forward.proofs.propagation.deal_with_all.Goals as goal
 

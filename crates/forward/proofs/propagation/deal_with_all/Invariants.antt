@@ -1,13 +1,9 @@
 -- The rows that wait, for a number of turns. Invariant: marks that the rules allow were put.
-use native.Mathlib.Omega.{arith}
-use borrow.Author.Rules.{rules}
-use mathlib.Core.Path.{◌≡◌, refl, ◌∙◌}
+use mathlib.Core.Path.{◌≡◌}
 use lib.ListN.{length}
-use Rattle.marks.specs.Passes.{Grows, none}
-use Rattle.marks.proofs.Passes.{grows_frame, grows_further}
+use Rattle.marks.specs.Passes.{Grows}
 use Rattle.layout.specs.Layouts.{mark_square}
 use Rattle.forward.specs.Rules.{Setting, Follows}
-use Rattle.forward.proofs.Tested.{setting_stays}
 use Rattle.forward.proofs.propagation.deal_with_all.Given as goal
 
 abbrev pub invariant-loop-left : goal.invariant-loop-left

@@ -2,7 +2,6 @@
 use native.Mathlib.Omega.{arith}
 use Rattle.marks.specs.Passes.{none}
 use Rattle.forward.proofs.Tested.{rowed_row, edge_by, end_small}
-use borrow.Author.Rules.{rules}
 use Rattle.forward.proofs.propagation.first_edge.Goals as goal
 
 pub has_edge-requires : goal.has_edge-requires

@@ -3,14 +3,22 @@ use mathlib.Core.Path.{refl}
 use Rattle.marks.proofs.Squares.{frame_room}
 use Rattle.marks.proofs.Passes.{grows_frame, grows_further}
 use Rattle.forward.proofs.Tested.{setting_stays, taking_grows}
-use borrow.Author.Rules.{rules}
 use Rattle.forward.proofs.propagation.first_row.Goals as goal
 
 pub take-requires : goal.take-requires
-take-requires c = record { room = (c.requires.setting.places.first, c.requires.setting.places.marks); alike = record { same = refl; few = c.requires.setting.few }; spans = c.requires.spans; x_le_names = c.requires.x_le_names }
+take-requires c = record {
+  room = (c.requires.setting.places.first, c.requires.setting.places.marks);
+  alike = record { same = refl; few = c.requires.setting.few };
+  spans = c.requires.spans;
+  x_le_names = c.requires.x_le_names;
+}
 
 pub wait_for_above-requires : goal.wait_for_above-requires
-wait_for_above-requires c = record { room = frame_room (grows_frame c.take.ensures.grows) c.requires.setting.places.first; spans = c.requires.spans; x_le_names = (c.requires.x_le_names, c.requires.setting.few) }
+wait_for_above-requires c = record {
+  room = frame_room (grows_frame c.take.ensures.grows) c.requires.setting.places.first;
+  spans = c.requires.spans;
+  x_le_names = (c.requires.x_le_names, c.requires.setting.few);
+}
 
 pub first_edge-requires : goal.first_edge-requires
 first_edge-requires c = record { setting = setting_stays c.take.ensures.grows c.requires.setting; spans = c.requires.spans; x_lt_names = c.if-x-layout.true }

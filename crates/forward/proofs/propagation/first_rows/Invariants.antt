@@ -1,14 +1,10 @@
 -- All rows in their order. Invariant: marks that the rules allow were put, and the line of rows that are done keeps its length.
-use native.Mathlib.Omega.{arith}
-use borrow.Author.Rules.{rules}
 use Prim.Native.Nat.{suc, ◌≤◌, ◌-◌}
-use mathlib.Core.Path.{◌≡◌, refl, ◌∙◌}
+use mathlib.Core.Path.{◌≡◌}
 use lib.ListN.{length}
-use Rattle.marks.specs.Passes.{Grows, none}
-use Rattle.marks.proofs.Passes.{grows_frame, grows_further}
+use Rattle.marks.specs.Passes.{Grows}
 use Rattle.layout.specs.Layouts.{mark_square}
 use Rattle.forward.specs.Rules.{Setting, Follows}
-use Rattle.forward.proofs.Tested.{setting_stays}
 use Rattle.forward.proofs.propagation.first_rows.Given as goal
 
 abbrev pub invariant-loop-k : goal.invariant-loop-k

@@ -8,7 +8,11 @@ use Rattle.forward.proofs.Tested.{names_lost}
 use Rattle.forward.proofs.propagation.mark_name.Goals as goal
 
 pub join_below-requires : goal.join_below-requires
-join_below-requires c = record { beneath = c.requires.named.below (omega (arith, c.requires.x_lt_names)); spans = record { inside = search (rules, c.requires.named.few) }; name_lt_names = c.requires.x_lt_names }
+join_below-requires c = record {
+  beneath = c.requires.named.below (omega (arith, c.requires.x_lt_names));
+  spans = record { inside = search (rules, c.requires.named.few) };
+  name_lt_names = c.requires.x_lt_names;
+}
 
 pub returns-then-has_name : goal.returns-then-has_name
 returns-then-has_name c =

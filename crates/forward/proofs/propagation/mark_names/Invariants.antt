@@ -1,13 +1,10 @@
 -- All names, one after the other. Invariant: marks that names give were put.
-use native.Mathlib.Omega.{arith}
 use Prim.Native.Nat.{◌≤◌, ◌-◌}
-use mathlib.Core.Path.{◌≡◌, refl, ◌∙◌}
+use mathlib.Core.Path.{◌≡◌}
 use lib.ListN.{length}
-use Rattle.marks.specs.Passes.{Grows, none}
-use Rattle.marks.proofs.Passes.{grows_frame, grows_further}
+use Rattle.marks.specs.Passes.{Grows}
 use Rattle.layout.specs.Layouts.{mark_square}
 use Rattle.forward.specs.Rules.{Named, NameLost}
-use Rattle.forward.proofs.Tested.{named_stays}
 use Rattle.forward.proofs.propagation.mark_names.Given as goal
 
 abbrev pub invariant-loop-next : goal.invariant-loop-next

@@ -1,7 +1,5 @@
 -- The order is a hint, so only places in the table and the arrays are at stake. Invariant: the next name is at most the number of names.
 use native.Mathlib.Omega.{arith}
-use borrow.Author.Rules.{rules}
-use Prim.Native.Nat.{◌≤◌, ◌-◌}
 use Rattle.forward.proofs.propagation.sort.Goals as goal
 
 pub overflow_add-next : goal.overflow_add-next

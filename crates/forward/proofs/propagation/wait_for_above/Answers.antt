@@ -1,7 +1,5 @@
 -- Which rows wait is a hint, so only places in the row are at stake. Invariant: the next one is at most the number after the last.
 use native.Mathlib.Omega.{arith}
-use borrow.Author.Rules.{rules}
-use Prim.Native.Nat.{suc, ◌≤◌, ◌-◌}
 use Rattle.forward.proofs.propagation.wait_for_above.Goals as goal
 
 pub next_outside-later-requires : goal.next_outside-later-requires

@@ -1,13 +1,8 @@
 -- Passes until one is quiet. Invariant: marks that the rules allow were put, and where the last pass changed nothing, no row has anything
 -- left to mark. Each pass that changed something leaves fewer marks to put.
-use mathlib.Core.Path.{◌≡◌, refl, ◌∙◌}
-use mathlib.Core.Bool.{false}
-use Prim.Native.Nat.{suc}
-use lib.ListN.{length}
-use Rattle.marks.specs.Passes.{Grows, none, Below}
-use Rattle.marks.proofs.Passes.{grows_frame, grows_further, passes_left, pass_less}
-use Rattle.layout.specs.Layouts.{mark_square}
-use Rattle.forward.specs.Rules.{Setting, Step, Row}
+use mathlib.Core.Path.{refl, ◌∙◌}
+use Rattle.marks.specs.Passes.{none}
+use Rattle.marks.proofs.Passes.{grows_frame, grows_further, pass_less}
 use Rattle.forward.proofs.Tested.{setting_stays, follows_grows}
 use Rattle.forward.proofs.sweep.close.Goals as goal
 

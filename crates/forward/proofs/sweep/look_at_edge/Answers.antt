@@ -14,7 +14,12 @@ pub keep_partners-requires : goal.keep_partners-requires
 keep_partners-requires c = let setting = c.requires.setting in
     let inside = c.requires.x_lt_names in
     let edge = edge_by inside c.has_edge.ensures c.if-has_edge.true in
-    let places = setting.places in record { rowed = (places.first_table, places.second_table); room = (places.marks, setting.below (omega arith)); spans = (record { inside = omega (arith, setting.few) }, empty_zeros 128); x_lt_names = (inside, edge_end setting edge, setting.few) }
+    let places = setting.places in record {
+      rowed = (places.first_table, places.second_table);
+      room = (places.marks, setting.below (omega arith));
+      spans = (record { inside = omega (arith, setting.few) }, empty_zeros 128);
+      x_lt_names = (inside, edge_end setting edge, setting.few);
+    }
 
 pub returns-then-keep_partners : goal.returns-then-keep_partners
 returns-then-keep_partners c =

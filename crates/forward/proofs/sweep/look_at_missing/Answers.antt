@@ -1,12 +1,7 @@
 -- The nodes that a line leaves open, one after the other. Invariant: a pass after which nothing is left to mark at the nodes before y.
 use native.Mathlib.Omega.{arith}
-use Prim.Native.Nat.{suc, ◌≤◌, ◌-◌}
-use mathlib.Core.Path.{◌≡◌, refl, ◌∙◌}
-use lib.ListN.{length}
-use Rattle.marks.specs.Passes.{Pass, Below}
+use mathlib.Core.Path.{refl, ◌∙◌}
 use Rattle.marks.proofs.Passes.{grows_frame, turns_none, turn_both}
-use Rattle.layout.specs.Layouts.{mark_square}
-use Rattle.forward.specs.Rules.{Setting, Follows, EdgeCell}
 use Rattle.forward.proofs.Tested.{setting_stays, cells_to, cells_end}
 use Rattle.forward.proofs.sweep.look_at_missing.Goals as goal
 

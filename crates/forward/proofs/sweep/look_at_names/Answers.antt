@@ -1,12 +1,7 @@
 -- All names, one after the other. Invariant: a pass after which nothing is left to mark by the names before this one.
 use native.Mathlib.Omega.{arith}
-use Prim.Native.Nat.{◌≤◌, ◌-◌}
-use mathlib.Core.Path.{◌≡◌, refl, ◌∙◌}
-use lib.ListN.{length}
-use Rattle.marks.specs.Passes.{Pass, Below}
+use mathlib.Core.Path.{refl, ◌∙◌}
 use Rattle.marks.proofs.Passes.{grows_frame, turns_none, turn_both, turns_end}
-use Rattle.layout.specs.Layouts.{mark_square}
-use Rattle.forward.specs.Rules.{Setting, Step, Looked}
 use Rattle.forward.proofs.Tested.{named, setting_stays, looked}
 use Rattle.forward.proofs.sweep.look_at_names.Goals as goal
 

@@ -1,8 +1,7 @@
-use Prim.Native.Nat.{◌≤◌, ◌-◌}
-use mathlib.Core.Path.{◌≡◌, refl}
+use mathlib.Core.Path.{refl}
 use borrow.Author.Rules.{rules}
-use lib.ListN.{length, length-set}
-use Rattle.layout.proofs.Findings.{FoundTo, found_none, found_more, found_end}
+use lib.ListN.{length-set}
+use Rattle.layout.proofs.Findings.{found_none, found_more, found_end}
 use Rattle.layout.proofs.edges.find_edges.Goals as goal
 
 pub loop-x-init : goal.loop-x-init

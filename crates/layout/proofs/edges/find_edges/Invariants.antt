@@ -1,8 +1,7 @@
 use Prim.Native.Nat.{◌≤◌, ◌-◌}
-use mathlib.Core.Path.{◌≡◌, refl}
-use borrow.Author.Rules.{rules}
-use lib.ListN.{length, length-set}
-use Rattle.layout.proofs.Findings.{FoundTo, found_none, found_more, found_end}
+use mathlib.Core.Path.{◌≡◌}
+use lib.ListN.{length}
+use Rattle.layout.proofs.Findings.{FoundTo}
 use Rattle.layout.proofs.edges.find_edges.Given as goal
 
 abbrev pub invariant-loop-x : goal.invariant-loop-x

@@ -1,5 +1,4 @@
 use Rattle.layout.proofs.Findings.{role_inside, role_outside}
-use borrow.Author.Rules.{rules}
 use Rattle.layout.proofs.edges.has_role.Goals as goal
 
 pub returns-then-role-roles : goal.returns-then-role-roles

@@ -1,6 +1,4 @@
 use native.Mathlib.Omega.{arith}
-use borrow.Author.Rules.{rules}
-use Prim.Native.Nat.{suc, ◌≤◌, ◌-◌, ◌/◌}
 use Rattle.marks.proofs.Squares.{row_inside}
 use Rattle.marks.proofs.hints.is_new.Goals as goal
 
@@ -22,11 +20,19 @@ bounds-work-source c = omega (arith, (row_inside c.requires.room.0 c.requires.na
 
 -- src/waiting.rt:158:24
 pub overflow_add-had : goal.overflow_add-had
-overflow_add-had c = omega (arith, (row_inside {i = c.loop-i.i} c.requires.room.1 (omega (arith, c.requires.names_value)) (omega (arith, c.requires.names_value, c.loop-i-test.true)) c.place-target.ensures).1)
+overflow_add-had c = omega (
+  arith,
+  (row_inside {i = c.loop-i.i} c.requires.room.1 (omega (arith, c.requires.names_value))
+      (omega (arith, c.requires.names_value, c.loop-i-test.true)) c.place-target.ensures).1,
+)
 
 -- src/waiting.rt:158:19
 pub bounds-work-target : goal.bounds-work-target
-bounds-work-target c = omega (arith, (row_inside {i = c.loop-i.i} c.requires.room.1 (omega (arith, c.requires.names_value)) (omega (arith, c.requires.names_value, c.loop-i-test.true)) c.place-target.ensures).0)
+bounds-work-target c = omega (
+  arith,
+  (row_inside {i = c.loop-i.i} c.requires.room.1 (omega (arith, c.requires.names_value))
+      (omega (arith, c.requires.names_value, c.loop-i-test.true)) c.place-target.ensures).0,
+)
 
 -- src/waiting.rt:159:9
 pub overflow_add-i : goal.overflow_add-i

@@ -1,7 +1,4 @@
-use native.Mathlib.Omega.{arith}
-use borrow.Author.Rules.{rules}
 use Prim.Native.Nat.{suc, ◌≤◌, ◌-◌, ◌/◌}
-use Rattle.marks.proofs.Squares.{row_inside}
 use Rattle.marks.proofs.hints.is_new.Given as goal
 
 abbrev pub invariant-loop-i : goal.invariant-loop-i

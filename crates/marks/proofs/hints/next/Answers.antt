@@ -12,7 +12,10 @@ behind-hint-requires c = (c.requires.area.room.small, c.requires.k_bound.0)
 
 -- src/hints.rt:44:9
 pub next_marked-requires : goal.next_marked-requires
-next_marked-requires c = record { room = hint_room c.requires.area (c.is_roomy.ensures c.if-is_roomy.true) c.requires.k_bound.0 c.behind-hint.ensures; x_le_names = (omega (arith, c.requires.k_bound, hint_names _ _ c.behind-hint.ensures), omega (arith, c.requires.k_bound, hint_names _ _ c.behind-hint.ensures)) }
+next_marked-requires c = record {
+  room = hint_room c.requires.area (c.is_roomy.ensures c.if-is_roomy.true) c.requires.k_bound.0 c.behind-hint.ensures;
+  x_le_names = (omega (arith, c.requires.k_bound, hint_names _ _ c.behind-hint.ensures), omega (arith, c.requires.k_bound, hint_names _ _ c.behind-hint.ensures));
+}
 
 -- src/hints.rt:44:9
 pub returns-then-is_roomy : goal.returns-then-is_roomy

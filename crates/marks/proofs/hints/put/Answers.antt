@@ -1,5 +1,4 @@
 use native.Mathlib.Omega.{arith}
-use borrow.Author.Rules.{rules}
 use Rattle.marks.proofs.Squares.{hint_room, hint_kept, hint_names, kept_same}
 use Rattle.marks.proofs.hints.put.Goals as goal
 
@@ -13,7 +12,10 @@ behind-hint-requires c = (c.requires.area.room.small, c.requires.le_k.1)
 
 -- src/hints.rt:32:9
 pub mark-requires : goal.mark-requires
-mark-requires c = record { room = hint_room c.requires.area (c.is_roomy.ensures c.if-is_roomy.true) c.requires.le_k.1 c.behind-hint.ensures; x_le_names = (omega (arith, c.requires.le_k, hint_names _ _ c.behind-hint.ensures), omega (arith, c.requires.le_k, hint_names _ _ c.behind-hint.ensures)) }
+mark-requires c = record {
+  room = hint_room c.requires.area (c.is_roomy.ensures c.if-is_roomy.true) c.requires.le_k.1 c.behind-hint.ensures;
+  x_le_names = (omega (arith, c.requires.le_k, hint_names _ _ c.behind-hint.ensures), omega (arith, c.requires.le_k, hint_names _ _ c.behind-hint.ensures));
+}
 
 -- src/hints.rt:25:1
 pub returns-then-is_roomy : goal.returns-then-is_roomy

@@ -1,6 +1,5 @@
 -- Where there is room behind the square it is what `see_behind` promises of the memory there; else the row is joined to the line.
 use native.Mathlib.Omega.{arith}
-use borrow.Author.Rules.{rules}
 use Rattle.marks.proofs.Squares.{hint_room, hint_kept, hint_names, kept_same}
 use Rattle.marks.proofs.hints.see.Goals as goal
 

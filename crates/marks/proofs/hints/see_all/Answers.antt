@@ -1,5 +1,4 @@
 use native.Mathlib.Omega.{arith}
-use borrow.Author.Rules.{rules}
 use Rattle.marks.proofs.Squares.{hint_room, hint_kept, hint_names, kept_same}
 use Rattle.marks.proofs.hints.see_all.Goals as goal
 
@@ -13,7 +12,10 @@ behind-seen-requires c = (c.requires.room.small, omega arith)
 
 -- src/hints.rt:191:9
 pub see_all_behind-requires : goal.see_all_behind-requires
-see_all_behind-requires c = record { room = (c.requires.room, hint_room c.requires (c.is_roomy.ensures c.if-is_roomy.true) (omega arith) c.behind-seen.ensures); names_value = hint_names _ _ c.behind-seen.ensures }
+see_all_behind-requires c = record {
+  room = (c.requires.room, hint_room c.requires (c.is_roomy.ensures c.if-is_roomy.true) (omega arith) c.behind-seen.ensures);
+  names_value = hint_names _ _ c.behind-seen.ensures;
+}
 
 -- src/hints.rt:185:1
 pub returns-then-is_roomy : goal.returns-then-is_roomy

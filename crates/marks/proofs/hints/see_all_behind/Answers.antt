@@ -1,6 +1,4 @@
 use native.Mathlib.Omega.{arith}
-use Prim.Native.Nat.{suc, ◌≤◌, ◌-◌}
-use Rattle.marks.specs.Squares.{Hints}
 use Rattle.marks.proofs.Squares.{touches_room, hints_none, hints_further}
 use Rattle.marks.proofs.hints.see_all_behind.Goals as goal
 
@@ -14,7 +12,10 @@ overflow_add-next c = omega (arith, c.loop-next-test.true, c.requires.room.0.sma
 
 -- src/waiting.rt:143:9
 pub see_row-requires : goal.see_row-requires
-see_row-requires c = record { room = (touches_room c.loop-next.invariant.1.touches c.requires.room.0, touches_room c.loop-next.invariant.1.touches c.requires.room.1); names_value = (c.requires.names_value, c.loop-next-test.true) }
+see_row-requires c = record {
+  room = (touches_room c.loop-next.invariant.1.touches c.requires.room.0, touches_room c.loop-next.invariant.1.touches c.requires.room.1);
+  names_value = (c.requires.names_value, c.loop-next-test.true);
+}
 
 -- src/waiting.rt:140:5
 pub loop-next-smaller : goal.loop-next-smaller

@@ -1,7 +1,5 @@
-use native.Mathlib.Omega.{arith}
 use Prim.Native.Nat.{suc, ◌≤◌, ◌-◌}
 use Rattle.marks.specs.Squares.{Hints}
-use Rattle.marks.proofs.Squares.{touches_room, hints_none, hints_further}
 use Rattle.marks.proofs.hints.see_all_behind.Given as goal
 
 abbrev pub invariant-loop-next : goal.invariant-loop-next

@@ -1,8 +1,6 @@
 -- The loop's invariant: only hints were put behind the square, and not more bytes are counted than were looked at.
 use native.Mathlib.Omega.{arith}
 use borrow.Author.Rules.{rules}
-use Prim.Native.Nat.{suc, ◌≤◌, ◌-◌, ◌/◌}
-use Rattle.marks.specs.Squares.{Hints}
 use Rattle.marks.proofs.Squares.{row_inside, hints_none, hints_more}
 use Rattle.marks.proofs.hints.see_behind.Goals as goal
 

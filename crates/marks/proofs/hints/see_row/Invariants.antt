@@ -1,8 +1,5 @@
-use native.Mathlib.Omega.{arith}
-use borrow.Author.Rules.{rules}
 use Prim.Native.Nat.{suc, ◌≤◌, ◌-◌, ◌/◌}
 use Rattle.marks.specs.Squares.{Hints}
-use Rattle.marks.proofs.Squares.{row_inside, hints_none, hints_more}
 use Rattle.marks.proofs.hints.see_row.Given as goal
 
 abbrev pub invariant-loop-i : goal.invariant-loop-i

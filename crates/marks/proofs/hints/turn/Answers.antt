@@ -1,6 +1,4 @@
 use native.Mathlib.Omega.{arith}
-use Prim.Native.Nat.{suc, ◌≤◌, ◌-◌}
-use Rattle.marks.specs.Squares.{Kept}
 use Rattle.marks.proofs.Squares.{kept_same, kept_further, frame_area}
 use Rattle.marks.proofs.hints.turn.Goals as goal
 

@@ -1,7 +1,5 @@
-use native.Mathlib.Omega.{arith}
 use Prim.Native.Nat.{suc, ◌≤◌, ◌-◌}
 use Rattle.marks.specs.Squares.{Kept}
-use Rattle.marks.proofs.Squares.{kept_same, kept_further, frame_area}
 use Rattle.marks.proofs.hints.turn.Given as goal
 
 abbrev pub invariant-loop-next : goal.invariant-loop-next

@@ -1,7 +1,5 @@
 use native.Mathlib.Omega.{arith}
 use Rattle.marks.proofs.Squares.{kept_same}
-use Prim.Native.Nat.{suc, ◌≤◌, ◌-◌}
-use Rattle.marks.specs.Squares.{Kept}
 use Rattle.marks.proofs.Squares.{kept_further, frame_area}
 use Rattle.marks.proofs.hints.turn_row.Goals as goal
 
@@ -23,7 +21,10 @@ overflow_add-y c = omega (arith, c.loop-y-test.true, c.requires.area.room.small.
 
 -- src/hints.rt:72:9
 pub next_marked-y-requires-in-loop-y : goal.next_marked-y-requires-in-loop-y
-next_marked-y-requires-in-loop-y c = record { room = (frame_area (kept_further c.loop-y.invariant.1 c.put.ensures).extends.frame c.requires.area).room; x_le_names = (c.requires.le_k.2, omega (arith, c.loop-y-test.true)) }
+next_marked-y-requires-in-loop-y c = record {
+  room = (frame_area (kept_further c.loop-y.invariant.1 c.put.ensures).extends.frame c.requires.area).room;
+  x_le_names = (c.requires.le_k.2, omega (arith, c.loop-y-test.true));
+}
 
 -- src/hints.rt:70:5
 pub loop-y-smaller : goal.loop-y-smaller

@@ -1,8 +1,5 @@
-use native.Mathlib.Omega.{arith}
-use Rattle.marks.proofs.Squares.{kept_same}
 use Prim.Native.Nat.{suc, ◌≤◌, ◌-◌}
 use Rattle.marks.specs.Squares.{Kept}
-use Rattle.marks.proofs.Squares.{kept_further, frame_area}
 use Rattle.marks.proofs.hints.turn_row.Given as goal
 
 abbrev pub invariant-loop-y : goal.invariant-loop-y

@@ -1,6 +1,5 @@
 -- Where nothing is known of what was seen, nothing changes.
 use native.Mathlib.Omega.{arith}
-use borrow.Author.Rules.{rules}
 use Rattle.marks.proofs.Squares.{hint_room, hint_names}
 use Rattle.marks.proofs.Waits.{still_none}
 use Rattle.marks.proofs.hints.wait_for_new.Goals as goal

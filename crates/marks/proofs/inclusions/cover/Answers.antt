@@ -1,5 +1,4 @@
 use Rattle.marks.proofs.Handing.{covering_joined, covering_none}
-use borrow.Author.Rules.{rules}
 use Rattle.marks.proofs.inclusions.cover.Goals as goal
 
 pub returns-then-has : goal.returns-then-has

@@ -1,10 +1,15 @@
 use Rattle.marks.proofs.Passes.{pass_as, pass_none}
 use Rattle.marks.proofs.Handing.{give_chain, near_one, near_none}
-use borrow.Author.Rules.{rules}
 use Rattle.marks.proofs.inclusions.give_near.Goals as goal
 
 pub give_one-requires : goal.give_one-requires
-give_one-requires c = record { room = c.requires.room; alike = c.requires.alike; spans = c.requires.spans; x_le_names = (c.requires.x_le_names, c.if-near-inclusions.true); marked = c.is_marked.ensures.sound c.if-is_marked.true }
+give_one-requires c = record {
+  room = c.requires.room;
+  alike = c.requires.alike;
+  spans = c.requires.spans;
+  x_le_names = (c.requires.x_le_names, c.if-near-inclusions.true);
+  marked = c.is_marked.ensures.sound c.if-is_marked.true;
+}
 
 pub returns-then-is_marked : goal.returns-then-is_marked
 returns-then-is_marked c = pass_as (λ r. near_one give_chain c.if-near-inclusions.true c.give_one.ensures.covering r) c.give_one.ensures.pass

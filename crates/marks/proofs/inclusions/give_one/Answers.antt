@@ -1,5 +1,4 @@
 use Rattle.marks.proofs.Handing.{given}
-use borrow.Author.Rules.{rules}
 use Rattle.marks.proofs.inclusions.give_one.Goals as goal
 
 pub returns : goal.returns

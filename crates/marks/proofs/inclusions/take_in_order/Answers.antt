@@ -1,11 +1,5 @@
 use native.Mathlib.Omega.{arith}
-use borrow.Author.Rules.{rules}
-use Prim.Native.Nat.{suc, ◌≤◌, ◌-◌}
-use mathlib.Core.Path.{◌≡◌, refl, ◌∙◌}
-use lib.ListN.{length}
-use Rattle.marks.specs.Squares.{Room}
-use Rattle.marks.specs.Passes.{Pass}
-use Rattle.marks.specs.Inclusions.{Taking, Takes, Done}
+use mathlib.Core.Path.{refl, ◌∙◌}
 use Rattle.marks.proofs.Passes.{pass_none, pass_both, grows_frame}
 use Rattle.marks.proofs.Squares.{frame_room}
 use Rattle.marks.proofs.Handing.{done_none, done_more}
@@ -18,7 +12,12 @@ pub overflow_add-k : goal.overflow_add-k
 overflow_add-k c = omega (arith, c.loop-k-test.true, c.requires.alike.few)
 
 pub take-taken-requires : goal.take-taken-requires
-take-taken-requires c = record { room = c.loop-k.invariant.1; alike = c.requires.alike; spans = record { inside = omega (arith, c.requires.spans.0.inside, c.loop-k.invariant.2.1) }; x_le_names = c.if-x-inclusions.true }
+take-taken-requires c = record {
+  room = c.loop-k.invariant.1;
+  alike = c.requires.alike;
+  spans = record { inside = omega (arith, c.requires.spans.0.inside, c.loop-k.invariant.2.1) };
+  x_le_names = c.if-x-inclusions.true;
+}
 
 pub add-requires : goal.add-requires
 add-requires c = record { inside = omega (arith, c.requires.spans.0.inside, c.loop-k.invariant.2.1, c.if-x-inclusions.true) }
@@ -27,7 +26,13 @@ pub loop-k-smaller-then-x-inclusions : goal.loop-k-smaller-then-x-inclusions
 loop-k-smaller-then-x-inclusions c = omega (arith, c.loop-k-test.true)
 
 pub loop-k-preserved-then-x-inclusions : goal.loop-k-preserved-then-x-inclusions
-loop-k-preserved-then-x-inclusions c = (omega (arith, c.loop-k-test.true), (frame_room (grows_frame c.take-taken.ensures.grows) c.loop-k.invariant.1.0, frame_room (grows_frame c.take-taken.ensures.grows) c.loop-k.invariant.1.1), ((grows_frame c.take-taken.ensures.grows).long ∙ c.loop-k.invariant.2.0, c.done-1.given ∙ c.loop-k.invariant.2.1), pass_both (λ d g. done_more c.add.ensures d g) c.loop-k.invariant.3 c.take-taken.ensures)
+loop-k-preserved-then-x-inclusions c = (
+  omega (arith, c.loop-k-test.true),
+  (frame_room (grows_frame c.take-taken.ensures.grows) c.loop-k.invariant.1.0, frame_room (grows_frame c.take-taken.ensures.grows) c.loop-k.invariant.1.1),
+  ((grows_frame c.take-taken.ensures.grows).long ∙ c.loop-k.invariant.2.0, c.done-1.given ∙ c.loop-k.invariant.2.1),
+  pass_both (λ d g. done_more c.add.ensures d g)
+      c.loop-k.invariant.3 c.take-taken.ensures,
+)
 
 pub loop-k-smaller : goal.loop-k-smaller
 loop-k-smaller c = omega (arith, c.loop-k-test.true)

@@ -1,5 +1,4 @@
 use Rattle.marks.proofs.Handing.{taken}
-use borrow.Author.Rules.{rules}
 use Rattle.marks.proofs.inclusions.take_one.Goals as goal
 
 pub returns : goal.returns

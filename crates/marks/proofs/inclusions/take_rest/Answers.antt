@@ -1,13 +1,8 @@
 use native.Mathlib.Omega.{arith}
-use Prim.Native.Nat.{suc, ◌≤◌, ◌-◌}
-use mathlib.Core.Path.{◌≡◌, refl, ◌∙◌}
-use lib.ListN.{length}
-use Rattle.marks.specs.Squares.{Room}
-use Rattle.marks.specs.Passes.{Pass}
-use Rattle.marks.specs.Inclusions.{Taking, Takes}
+use mathlib.Core.Path.{refl, ◌∙◌}
 use Rattle.marks.proofs.Passes.{pass_none, pass_as, pass_both, grows_frame}
 use Rattle.marks.proofs.Squares.{frame_room}
-use Rattle.marks.proofs.Handing.{RestTo, rest_none, rest_done, rest_more, rest_end}
+use Rattle.marks.proofs.Handing.{rest_none, rest_done, rest_more, rest_end}
 use Rattle.marks.proofs.inclusions.take_rest.Goals as goal
 
 pub loop-next-init : goal.loop-next-init
@@ -23,7 +18,13 @@ pub loop-next-smaller-then-has : goal.loop-next-smaller-then-has
 loop-next-smaller-then-has c = omega (arith, c.loop-next-test.true)
 
 pub loop-next-preserved-then-has : goal.loop-next-preserved-then-has
-loop-next-preserved-then-has c = (omega (arith, c.loop-next-test.true), c.loop-next.invariant.1, c.loop-next.invariant.2, pass_as (rest_done c.loop-next-test.true (c.has.ensures.sound c.if-has.true)) c.loop-next.invariant.3)
+loop-next-preserved-then-has c = (
+  omega (arith, c.loop-next-test.true),
+  c.loop-next.invariant.1,
+  c.loop-next.invariant.2,
+  pass_as
+      (rest_done c.loop-next-test.true (c.has.ensures.sound c.if-has.true)) c.loop-next.invariant.3,
+)
 
 pub take-taken-requires : goal.take-taken-requires
 take-taken-requires c = record { room = c.loop-next.invariant.1; alike = c.requires.alike; spans = c.requires.spans; x_le_names = c.loop-next-test.true }
@@ -32,7 +33,12 @@ pub loop-next-smaller : goal.loop-next-smaller
 loop-next-smaller c = omega (arith, c.loop-next-test.true)
 
 pub loop-next-preserved : goal.loop-next-preserved
-loop-next-preserved c = (omega (arith, c.loop-next-test.true), (frame_room (grows_frame c.take-taken.ensures.grows) c.loop-next.invariant.1.0, frame_room (grows_frame c.take-taken.ensures.grows) c.loop-next.invariant.1.1), (grows_frame c.take-taken.ensures.grows).long ∙ c.loop-next.invariant.2, pass_both rest_more c.loop-next.invariant.3 c.take-taken.ensures)
+loop-next-preserved c = (
+  omega (arith, c.loop-next-test.true),
+  (frame_room (grows_frame c.take-taken.ensures.grows) c.loop-next.invariant.1.0, frame_room (grows_frame c.take-taken.ensures.grows) c.loop-next.invariant.1.1),
+  (grows_frame c.take-taken.ensures.grows).long ∙ c.loop-next.invariant.2,
+  pass_both rest_more c.loop-next.invariant.3 c.take-taken.ensures,
+)
 
 pub shape_of-work : goal.shape_of-work
 shape_of-work c = c.loop-next.invariant.2

@@ -1,17 +1,15 @@
-use native.Mathlib.Omega.{arith}
 use Prim.Native.Nat.{suc, ◌≤◌, ◌-◌}
-use mathlib.Core.Path.{◌≡◌, refl, ◌∙◌}
+use mathlib.Core.Path.{◌≡◌}
 use lib.ListN.{length}
 use Rattle.marks.specs.Squares.{Room}
 use Rattle.marks.specs.Passes.{Pass}
 use Rattle.marks.specs.Inclusions.{Taking, Takes}
-use Rattle.marks.proofs.Passes.{pass_none, pass_as, pass_both, grows_frame}
-use Rattle.marks.proofs.Squares.{frame_room}
-use Rattle.marks.proofs.Handing.{RestTo, rest_none, rest_done, rest_more, rest_end}
+use Rattle.marks.proofs.Handing.{RestTo}
 use Rattle.marks.proofs.inclusions.take_rest.Given as goal
 
 abbrev pub invariant-loop-next : goal.invariant-loop-next
-invariant-loop-next l = (l.next ≤ suc l.inclusions.names) × (Room l.inclusions l.work × Room l.marks l.work) × (length l.work ≡ length l.initial.work) × Pass (Taking l.inclusions l.marks) l.marks (RestTo l.inclusions.names (Takes l.inclusions l.marks) l.done l.next) l.initial.work l.work l.changed
+invariant-loop-next l = (l.next ≤ suc l.inclusions.names) × (Room l.inclusions l.work × Room l.marks l.work) × (length l.work ≡ length l.initial.work) × Pass
+    (Taking l.inclusions l.marks) l.marks (RestTo l.inclusions.names (Takes l.inclusions l.marks) l.done l.next) l.initial.work l.work l.changed
 
 abbrev pub decreases-loop-next : goal.decreases-loop-next
 decreases-loop-next l = suc l.inclusions.names - l.next

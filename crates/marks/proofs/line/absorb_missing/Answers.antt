@@ -1,10 +1,9 @@
 use native.Mathlib.Omega.{arith}
 use borrow.Author.Rules.{rules}
-use Prim.Native.Nat.{suc, ◌≤◌, ◌-◌}
-use mathlib.Core.Path.{◌≡◌, refl, ◌∙◌}
+use mathlib.Core.Path.{refl, ◌∙◌}
 use Rattle.marks.proofs.Passes.{pass_none, pass_still}
 use Rattle.marks.proofs.Squares.{frame_room, refuted}
-use Rattle.marks.proofs.Lines.{FullTo, filled_none, filled_has, filled_there, filled_end, missing_pass}
+use Rattle.marks.proofs.Lines.{filled_none, filled_has, filled_there, filled_end, missing_pass}
 use Rattle.marks.proofs.line.absorb_missing.Goals as goal
 
 pub returns-then-seems_full : goal.returns-then-seems_full
@@ -41,7 +40,12 @@ pub loop-y-smaller : goal.loop-y-smaller
 loop-y-smaller c = omega (arith, c.loop-y-test.true)
 
 pub loop-y-preserved : goal.loop-y-preserved
-loop-y-preserved c = (omega (arith, c.loop-y-test.true), c.mark.ensures.same c.if-mark.false ∙ c.loop-y.invariant.1, filled_there c.mark.ensures.there (rw (c.mark.ensures.same c.if-mark.false) c.loop-y.invariant.2))
+loop-y-preserved c = (
+  omega (arith, c.loop-y-test.true),
+  c.mark.ensures.same c.if-mark.false ∙ c.loop-y.invariant.1,
+  filled_there c.mark.ensures.there
+      (rw (c.mark.ensures.same c.if-mark.false) c.loop-y.invariant.2),
+)
 
 pub returns : goal.returns
 returns c = pass_still c.loop-y.invariant.1 (filled_end c.loop-y-test.false c.loop-y.invariant.2)

@@ -1,10 +1,6 @@
-use native.Mathlib.Omega.{arith}
-use borrow.Author.Rules.{rules}
 use Prim.Native.Nat.{suc, ◌≤◌, ◌-◌}
-use mathlib.Core.Path.{◌≡◌, refl, ◌∙◌}
-use Rattle.marks.proofs.Passes.{pass_none, pass_still}
-use Rattle.marks.proofs.Squares.{frame_room, refuted}
-use Rattle.marks.proofs.Lines.{FullTo, filled_none, filled_has, filled_there, filled_end, missing_pass}
+use mathlib.Core.Path.{◌≡◌}
+use Rattle.marks.proofs.Lines.{FullTo}
 use Rattle.marks.proofs.line.absorb_missing.Given as goal
 
 abbrev pub invariant-loop-y : goal.invariant-loop-y

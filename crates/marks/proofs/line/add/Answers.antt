@@ -1,5 +1,4 @@
 use Rattle.marks.proofs.Lines.{or_added}
-use borrow.Author.Rules.{rules}
 use Rattle.marks.proofs.line.add.Goals as goal
 
 pub bounds-line-y : goal.bounds-line-y

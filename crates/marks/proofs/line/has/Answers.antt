@@ -1,5 +1,4 @@
 use Rattle.marks.proofs.Lines.{tells_has, tells_has_not}
-use borrow.Author.Rules.{rules}
 use Rattle.marks.proofs.line.has.Goals as goal
 
 pub bounds-line-y : goal.bounds-line-y

@@ -1,8 +1,7 @@
 use native.Mathlib.Omega.{arith}
 use borrow.Author.Rules.{rules}
-use Prim.Native.Nat.{suc, ◌≤◌, ◌-◌, ◌/◌}
 use Rattle.marks.proofs.Squares.{row_inside}
-use Rattle.marks.proofs.Lines.{JoinedTo, join_none, join_more, join_end}
+use Rattle.marks.proofs.Lines.{join_none, join_more, join_end}
 use Rattle.marks.proofs.line.join.Goals as goal
 
 pub loop-i-init : goal.loop-i-init
@@ -27,7 +26,11 @@ pub loop-i-smaller : goal.loop-i-smaller
 loop-i-smaller c = omega (arith, c.loop-i-test.true)
 
 pub loop-i-preserved : goal.loop-i-preserved
-loop-i-preserved c = (omega (arith, c.loop-i-test.true), join_more (omega (arith, c.loop-i-test.true, c.requires.spans.inside, c.loop-i.invariant.1.long)) c.place-source.ensures.is c.loop-i.invariant.1)
+loop-i-preserved c = (
+  omega (arith, c.loop-i-test.true),
+  join_more (omega (arith, c.loop-i-test.true, c.requires.spans.inside, c.loop-i.invariant.1.long))
+      c.place-source.ensures.is c.loop-i.invariant.1,
+)
 
 pub shape_of-line : goal.shape_of-line
 shape_of-line c = c.loop-i.invariant.1.long

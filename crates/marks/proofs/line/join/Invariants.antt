@@ -1,8 +1,5 @@
-use native.Mathlib.Omega.{arith}
-use borrow.Author.Rules.{rules}
 use Prim.Native.Nat.{suc, ◌≤◌, ◌-◌, ◌/◌}
-use Rattle.marks.proofs.Squares.{row_inside}
-use Rattle.marks.proofs.Lines.{JoinedTo, join_none, join_more, join_end}
+use Rattle.marks.proofs.Lines.{JoinedTo}
 use Rattle.marks.proofs.line.join.Given as goal
 
 abbrev pub invariant-loop-i : goal.invariant-loop-i

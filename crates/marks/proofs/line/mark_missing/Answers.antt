@@ -1,10 +1,8 @@
 use native.Mathlib.Omega.{arith}
 use borrow.Author.Rules.{rules}
-use Prim.Native.Nat.{suc, ◌≤◌, ◌-◌, ◌/◌}
-use mathlib.Core.Path.{◌≡◌, refl}
-use lib.ListN.{length, length-set}
-use Rattle.marks.specs.Passes.{Grows, none}
-use Rattle.marks.specs.Lines.{Missing}
+use mathlib.Core.Path.{refl}
+use lib.ListN.{length-set}
+use Rattle.marks.specs.Passes.{none}
 use Rattle.marks.proofs.Squares.{row_inside}
 use Rattle.marks.proofs.Lines.{missing_further}
 use Rattle.marks.proofs.line.mark_missing.Goals as goal
@@ -34,7 +32,12 @@ pub loop-i-smaller : goal.loop-i-smaller
 loop-i-smaller c = omega (arith, c.loop-i-test.true)
 
 pub loop-i-preserved : goal.loop-i-preserved
-loop-i-preserved c = (omega (arith, c.loop-i-test.true), simp length-set c.loop-i.invariant.1, missing_further c.loop-i.i c.loop-i.invariant.2 c.requires.room c.requires.x_le_names c.loop-i-test.true c.place-target.ensures.is)
+loop-i-preserved c = (
+  omega (arith, c.loop-i-test.true),
+  simp length-set c.loop-i.invariant.1,
+  missing_further c.loop-i.i c.loop-i.invariant.2 c.requires.room
+      c.requires.x_le_names c.loop-i-test.true c.place-target.ensures.is,
+)
 
 pub shape_of-work : goal.shape_of-work
 shape_of-work c = c.loop-i.invariant.1

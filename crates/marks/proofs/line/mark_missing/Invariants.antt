@@ -1,12 +1,8 @@
-use native.Mathlib.Omega.{arith}
-use borrow.Author.Rules.{rules}
 use Prim.Native.Nat.{suc, ◌≤◌, ◌-◌, ◌/◌}
-use mathlib.Core.Path.{◌≡◌, refl}
-use lib.ListN.{length, length-set}
-use Rattle.marks.specs.Passes.{Grows, none}
+use mathlib.Core.Path.{◌≡◌}
+use lib.ListN.{length}
+use Rattle.marks.specs.Passes.{Grows}
 use Rattle.marks.specs.Lines.{Missing}
-use Rattle.marks.proofs.Squares.{row_inside}
-use Rattle.marks.proofs.Lines.{missing_further}
 use Rattle.marks.proofs.line.mark_missing.Given as goal
 
 abbrev pub invariant-loop-i : goal.invariant-loop-i

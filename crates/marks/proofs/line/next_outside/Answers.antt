@@ -1,8 +1,6 @@
 use mathlib.Core.Path.{refl}
 use native.Mathlib.Omega.{arith}
-use borrow.Author.Rules.{rules}
-use Prim.Native.Nat.{◌+◌, ◌-◌}
-use Rattle.marks.proofs.Lines.{InBefore, out_start, out_none}
+use Rattle.marks.proofs.Lines.{out_start, out_none}
 use Rattle.marks.proofs.Scans.{row_at_lem, line_at, out_found, out_block}
 use Rattle.marks.proofs.WordBits.{end_after}
 use Rattle.marks.proofs.line.next_outside.Goals as goal

@@ -1,9 +1,5 @@
-use native.Mathlib.Omega.{arith}
-use borrow.Author.Rules.{rules}
 use Prim.Native.Nat.{suc, ◌≤◌, ◌-◌, ◌/◌}
-use borrow.Author.Tests.{eqb-true}
-use Rattle.marks.proofs.Squares.{row_inside}
-use Rattle.marks.proofs.Lines.{SeenFull, full_none, full_more, full_end}
+use Rattle.marks.proofs.Lines.{SeenFull}
 use Rattle.marks.proofs.line.seems_full.Given as goal
 
 abbrev pub invariant-loop-i : goal.invariant-loop-i

@@ -1,7 +1,6 @@
 -- What stands at the place is copied out; past the end stands the number that is no node.
 use mathlib.Core.Path.{◌∙◌}
 use native.Mathlib.Omega.{arith}
-use borrow.Author.Rules.{rules}
 use Rattle.marks.proofs.Orders.{node_inside, node_outside}
 use Rattle.marks.proofs.order.at.Goals as goal
 

@@ -1,6 +1,5 @@
 -- One law for each way: the node is put, the node is none, the place is none.
 use native.Mathlib.Omega.{arith}
-use borrow.Author.Rules.{rules}
 use Rattle.marks.proofs.Orders.{placed_inside, placed_none, placed_far}
 use Rattle.marks.proofs.order.put.Goals as goal
 

@@ -1,10 +1,6 @@
 -- The loop's invariant: no counter outgrows the turns, and what stands in the order stood there or is a node. The measure is the turns left.
 use native.Mathlib.Omega.{arith}
 use borrow.Author.Rules.{rules}
-use Prim.Native.Nat.{◌+◌, ◌≤◌}
-use mathlib.Core.Path.{◌≡◌}
-use lib.ListN.{length}
-use Rattle.marks.specs.Orders.{NodesPlaced}
 use Rattle.marks.proofs.Orders.{nodes_none, nodes_more}
 use Rattle.marks.proofs.order.sort.Goals as goal
 

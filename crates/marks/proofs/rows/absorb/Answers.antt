@@ -1,10 +1,6 @@
-use Rattle.marks.proofs.Passes.{HasMark, pass_none, pass_still, below_none, marks_to, marks_more, marks_end, absorb_pass}
+use Rattle.marks.proofs.Passes.{pass_none, pass_still, below_none, marks_to, marks_more, marks_end, absorb_pass}
 use native.Mathlib.Omega.{arith}
-use borrow.Author.Rules.{rules}
-use Prim.Native.Nat.{suc, ◌≤◌, ◌-◌}
-use mathlib.Core.Path.{◌≡◌, refl, ◌∙◌}
-use Rattle.marks.specs.Squares.{Marked}
-use Rattle.marks.specs.Passes.{Below}
+use mathlib.Core.Path.{refl, ◌∙◌}
 use Rattle.marks.proofs.Squares.{frame_room}
 use Rattle.marks.proofs.rows.absorb.Goals as goal
 
@@ -30,13 +26,20 @@ pub overflow_add-y : goal.overflow_add-y
 overflow_add-y c = omega (arith, c.loop-y-test.true, c.requires.room.small.few)
 
 pub next_marked-y-requires-in-loop-y : goal.next_marked-y-requires-in-loop-y
-next_marked-y-requires-in-loop-y c = record { room = frame_room c.mark.ensures.extends.frame (rw c.loop-y.invariant.1 c.requires.room); x_le_names = (c.requires.from_le_names.0, omega (arith, c.loop-y-test.true)) }
+next_marked-y-requires-in-loop-y c = record
+    { room = frame_room c.mark.ensures.extends.frame (rw c.loop-y.invariant.1 c.requires.room); x_le_names = (c.requires.from_le_names.0, omega (arith, c.loop-y-test.true)) }
 
 pub loop-y-smaller : goal.loop-y-smaller
 loop-y-smaller c = omega (arith, c.loop-y-test.true, c.next_marked-y-in-loop-y.ensures.after)
 
 pub loop-y-preserved : goal.loop-y-preserved
-loop-y-preserved c = (c.next_marked-y-in-loop-y.ensures.inside, c.mark.ensures.same c.if-mark.false ∙ c.loop-y.invariant.1, marks_to c.next_marked-y-in-loop-y.ensures (marks_more c.mark.ensures c.if-mark.false c.loop-y.invariant.2), c.next_marked-y-in-loop-y.ensures.found)
+loop-y-preserved c = (
+  c.next_marked-y-in-loop-y.ensures.inside,
+  c.mark.ensures.same c.if-mark.false ∙ c.loop-y.invariant.1,
+  marks_to c.next_marked-y-in-loop-y.ensures
+      (marks_more c.mark.ensures c.if-mark.false c.loop-y.invariant.2),
+  c.next_marked-y-in-loop-y.ensures.found,
+)
 
 pub returns : goal.returns
 returns c = pass_still c.loop-y.invariant.1 (marks_end c.loop-y-test.false c.loop-y.invariant.2)

@@ -1,11 +1,8 @@
-use Rattle.marks.proofs.Passes.{HasMark, pass_none, pass_still, below_none, marks_to, marks_more, marks_end, absorb_pass}
-use native.Mathlib.Omega.{arith}
-use borrow.Author.Rules.{rules}
+use Rattle.marks.proofs.Passes.{HasMark}
 use Prim.Native.Nat.{suc, ◌≤◌, ◌-◌}
-use mathlib.Core.Path.{◌≡◌, refl, ◌∙◌}
+use mathlib.Core.Path.{◌≡◌}
 use Rattle.marks.specs.Squares.{Marked}
 use Rattle.marks.specs.Passes.{Below}
-use Rattle.marks.proofs.Squares.{frame_room}
 use Rattle.marks.proofs.rows.absorb.Given as goal
 
 abbrev pub invariant-loop-y : goal.invariant-loop-y

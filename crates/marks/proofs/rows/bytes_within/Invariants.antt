@@ -1,10 +1,5 @@
 use Prim.Native.Nat.{suc, ◌*◌, ◌-◌, ◌/◌}
-use native.Mathlib.Omega.{arith}
-use borrow.Author.Rules.{rules}
-use borrow.Author.Tests.{eqb-true}
-use Rattle.marks.proofs.Squares.{row_inside}
-use Rattle.marks.proofs.Scans.{SeenWithin, seen_none, seen_more, seen_within}
-use Rattle.marks.proofs.WordBits.{byte_read}
+use Rattle.marks.proofs.Scans.{SeenWithin}
 use Rattle.marks.proofs.rows.bytes_within.Given as goal
 
 abbrev pub invariant-loop-i : goal.invariant-loop-i

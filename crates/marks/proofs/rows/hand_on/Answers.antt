@@ -1,9 +1,8 @@
-use Prim.Native.Nat.{suc, ◌≤◌, ◌-◌, ◌/◌}
-use mathlib.Core.Path.{◌≡◌, refl}
+use mathlib.Core.Path.{refl}
 use native.Mathlib.Omega.{arith}
 use borrow.Author.Rules.{rules}
-use lib.ListN.{length, length-set}
-use Rattle.marks.specs.Passes.{Grows, none, FromRow}
+use lib.ListN.{length-set}
+use Rattle.marks.specs.Passes.{none}
 use Rattle.marks.proofs.Squares.{row_inside}
 use Rattle.marks.proofs.Passes.{hand_further}
 use Rattle.marks.proofs.rows.hand_on.Goals as goal
@@ -36,7 +35,12 @@ pub loop-i-smaller : goal.loop-i-smaller
 loop-i-smaller c = omega (arith, c.loop-i-test.true)
 
 pub loop-i-preserved : goal.loop-i-preserved
-loop-i-preserved c = (omega (arith, c.loop-i-test.true), simp length-set c.loop-i.invariant.1, hand_further c.loop-i.i c.loop-i.invariant.2 c.requires.room c.requires.from_le_names.0 c.requires.from_le_names.1 c.loop-i-test.true c.place-source.ensures.is c.place-target.ensures.is)
+loop-i-preserved c = (
+  omega (arith, c.loop-i-test.true),
+  simp length-set c.loop-i.invariant.1,
+  hand_further c.loop-i.i c.loop-i.invariant.2 c.requires.room
+      c.requires.from_le_names.0 c.requires.from_le_names.1 c.loop-i-test.true c.place-source.ensures.is c.place-target.ensures.is,
+)
 
 pub returns : goal.returns
 returns c = c.loop-i.invariant.2

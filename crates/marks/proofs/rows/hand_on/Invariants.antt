@@ -1,11 +1,7 @@
 use Prim.Native.Nat.{suc, ◌≤◌, ◌-◌, ◌/◌}
-use mathlib.Core.Path.{◌≡◌, refl}
-use native.Mathlib.Omega.{arith}
-use borrow.Author.Rules.{rules}
-use lib.ListN.{length, length-set}
-use Rattle.marks.specs.Passes.{Grows, none, FromRow}
-use Rattle.marks.proofs.Squares.{row_inside}
-use Rattle.marks.proofs.Passes.{hand_further}
+use mathlib.Core.Path.{◌≡◌}
+use lib.ListN.{length}
+use Rattle.marks.specs.Passes.{Grows, FromRow}
 use Rattle.marks.proofs.rows.hand_on.Given as goal
 
 abbrev pub invariant-loop-i : goal.invariant-loop-i

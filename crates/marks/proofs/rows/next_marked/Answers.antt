@@ -1,8 +1,6 @@
 use mathlib.Core.Path.{refl}
 use native.Mathlib.Omega.{arith}
-use borrow.Author.Rules.{rules}
-use Prim.Native.Nat.{◌+◌, ◌-◌}
-use Rattle.marks.proofs.Squares.{NoneBefore, next_start, next_none}
+use Rattle.marks.proofs.Squares.{next_start, next_none}
 use Rattle.marks.proofs.Scans.{row_at_lem, next_found, next_block}
 use Rattle.marks.proofs.WordBits.{end_after}
 use Rattle.marks.proofs.rows.next_marked.Goals as goal

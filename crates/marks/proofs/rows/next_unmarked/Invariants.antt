@@ -1,8 +1,5 @@
 use Prim.Native.Nat.{◌+◌, ◌-◌}
-use mathlib.Core.Path.{refl}
-use native.Mathlib.Omega.{arith}
-use borrow.Author.Rules.{rules}
-use Rattle.marks.proofs.Squares.{AllBefore, all_start, unmarked_here, all_one, all_byte, unmarked_none}
+use Rattle.marks.proofs.Squares.{AllBefore}
 use Rattle.marks.proofs.rows.next_unmarked.Given as goal
 
 -- all is marked before y

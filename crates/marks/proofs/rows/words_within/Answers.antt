@@ -1,9 +1,7 @@
-use mathlib.Core.Path.{◌≡◌, refl}
-use Prim.Native.Nat.{◌+◌, ◌*◌, ◌-◌, ◌/◌, ◌%◌}
+use mathlib.Core.Path.{refl}
 use native.Mathlib.Omega.{arith}
-use borrow.Author.Rules.{rules}
 use borrow.Author.Tests.{eqb-true}
-use Rattle.marks.proofs.Scans.{SeenWithin, seen_none, seen_more, seen_within, word_inside}
+use Rattle.marks.proofs.Scans.{seen_none, seen_more, seen_within, word_inside}
 use Rattle.marks.proofs.rows.words_within.Goals as goal
 
 -- src/rows.rt:26:5

@@ -1,9 +1,6 @@
-use mathlib.Core.Path.{◌≡◌, refl}
+use mathlib.Core.Path.{◌≡◌}
 use Prim.Native.Nat.{◌+◌, ◌*◌, ◌-◌, ◌/◌, ◌%◌}
-use native.Mathlib.Omega.{arith}
-use borrow.Author.Rules.{rules}
-use borrow.Author.Tests.{eqb-true}
-use Rattle.marks.proofs.Scans.{SeenWithin, seen_none, seen_more, seen_within, word_inside}
+use Rattle.marks.proofs.Scans.{SeenWithin}
 use Rattle.marks.proofs.rows.words_within.Given as goal
 
 abbrev pub invariant-loop-i : goal.invariant-loop-i

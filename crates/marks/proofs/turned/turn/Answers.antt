@@ -1,7 +1,4 @@
 use native.Mathlib.Omega.{arith}
-use Prim.Native.Nat.{suc, ◌≤◌, ◌-◌}
-use Rattle.marks.specs.Squares.{Touches}
-use Rattle.marks.specs.Inclusions.{TurnedBelow}
 use Rattle.marks.proofs.Squares.{touches_same, touches_further, touches_room}
 use Rattle.marks.proofs.Turning.{turned_none, turned_all}
 use Rattle.marks.proofs.turned.turn.Goals as goal
@@ -16,7 +13,11 @@ overflow_add-next c = omega (arith, c.loop-next-test.true, c.requires.room.0.sma
 
 -- src/turned.rt:35:9
 pub turn_row-requires : goal.turn_row-requires
-turn_row-requires c = record { room = (touches_room c.loop-next.invariant.1 c.requires.room.0, touches_room c.loop-next.invariant.1 c.requires.room.1); names_value = (c.requires.names_value.0, c.requires.names_value.1, c.loop-next-test.true); turned_below = c.loop-next.invariant.2 }
+turn_row-requires c = record {
+  room = (touches_room c.loop-next.invariant.1 c.requires.room.0, touches_room c.loop-next.invariant.1 c.requires.room.1);
+  names_value = (c.requires.names_value.0, c.requires.names_value.1, c.loop-next-test.true);
+  turned_below = c.loop-next.invariant.2;
+}
 
 -- src/turned.rt:32:5
 pub loop-next-smaller : goal.loop-next-smaller

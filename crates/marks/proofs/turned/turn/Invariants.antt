@@ -1,9 +1,6 @@
-use native.Mathlib.Omega.{arith}
 use Prim.Native.Nat.{suc, ◌≤◌, ◌-◌}
 use Rattle.marks.specs.Squares.{Touches}
 use Rattle.marks.specs.Inclusions.{TurnedBelow}
-use Rattle.marks.proofs.Squares.{touches_same, touches_further, touches_room}
-use Rattle.marks.proofs.Turning.{turned_none, turned_all}
 use Rattle.marks.proofs.turned.turn.Given as goal
 
 abbrev pub invariant-loop-next : goal.invariant-loop-next

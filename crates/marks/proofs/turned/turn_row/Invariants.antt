@@ -1,8 +1,6 @@
-use native.Mathlib.Omega.{arith}
 use Prim.Native.Nat.{suc, ◌≤◌, ◌-◌}
 use Rattle.marks.specs.Squares.{Marked, Touches}
-use Rattle.marks.proofs.Squares.{touches_same, touches_further, touches_room}
-use Rattle.marks.proofs.Turning.{TurnedTo, turned_start, turned_more, turned_end}
+use Rattle.marks.proofs.Turning.{TurnedTo}
 use Rattle.marks.proofs.turned.turn_row.Given as goal
 
 abbrev pub invariant-loop-y : goal.invariant-loop-y

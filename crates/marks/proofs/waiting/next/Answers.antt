@@ -1,6 +1,5 @@
 use native.Mathlib.Omega.{arith}
 use borrow.Author.Rules.{rules}
-use Prim.Native.Nat.{◌+◌, ◌-◌, ◌≤◌}
 use Rattle.marks.proofs.WordBits.{end_after, end_near}
 use Rattle.marks.proofs.waiting.next.Goals as goal
 
@@ -34,7 +33,11 @@ loop-y-smaller c = omega (arith, c.loop-y-test.true, c.block_end-y.ensures, end_
 
 -- src/waiting.rt:191:5
 pub loop-y-preserved : goal.loop-y-preserved
-loop-y-preserved c = (omega (arith, c.loop-y.invariant, c.block_end-y.ensures, end_after c.args.names c.loop-y.y), omega (arith, c.loop-y-test.true, c.requires.0, c.block_end-y.ensures, end_near c.args.names c.loop-y.y))
+loop-y-preserved c = (
+  omega (arith, c.loop-y.invariant, c.block_end-y.ensures, end_after c.args.names c.loop-y.y),
+  omega
+      (arith, c.loop-y-test.true, c.requires.0, c.block_end-y.ensures, end_near c.args.names c.loop-y.y),
+)
 
 -- src/waiting.rt:198:5
 pub overflow_add-result-2 : goal.overflow_add-result-2

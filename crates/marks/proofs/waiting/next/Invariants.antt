@@ -1,7 +1,4 @@
-use native.Mathlib.Omega.{arith}
-use borrow.Author.Rules.{rules}
 use Prim.Native.Nat.{◌+◌, ◌-◌, ◌≤◌}
-use Rattle.marks.proofs.WordBits.{end_after, end_near}
 use Rattle.marks.proofs.waiting.next.Given as goal
 
 abbrev pub invariant-loop-y : goal.invariant-loop-y

@@ -1,6 +1,5 @@
 -- Where none waits nothing changes; else `take_one`.
 use native.Mathlib.Omega.{arith}
-use borrow.Author.Rules.{rules}
 use Rattle.marks.proofs.Waits.{take_one}
 use Rattle.marks.proofs.waiting.take.Goals as goal
 

@@ -1,6 +1,5 @@
 -- Where the row waits already, or the ring is full, nothing changes; else `wait_more`.
 use native.Mathlib.Omega.{arith}
-use borrow.Author.Rules.{rules}
 use Rattle.marks.proofs.Waits.{wait_more}
 use Rattle.marks.proofs.waiting.wait.Goals as goal
 

@@ -1,8 +1,6 @@
 -- The loop's invariant: `x` is at most the number after the last row, and each row that waited goes on waiting.
 use native.Mathlib.Omega.{arith}
-use Prim.Native.Nat.{suc, ◌≤◌, ◌-◌}
 use borrow.Author.Rules.{rules}
-use Rattle.marks.specs.Waits.{StillWaiting}
 use Rattle.marks.proofs.Waits.{still_none, still_further}
 use Rattle.marks.proofs.waiting.wait_all.Goals as goal
 

@@ -1,6 +1,5 @@
 use mathlib.Core.Path.{sym}
 use Rattle.marks.proofs.WordBits.{end_of_word, end_of_byte}
-use borrow.Author.Rules.{rules}
 use Rattle.marks.proofs.words.block_end.Goals as goal
 
 -- src/words.rt:52:9

@@ -1,5 +1,4 @@
 use borrow.Author.Tests.{le-leb, lt-leb}
-use borrow.Author.Rules.{rules}
 use Rattle.marks.proofs.words.or_none.Goals as goal
 
 -- src/words.rt:63:9

@@ -1,5 +1,4 @@
 use Rattle.marks.proofs.WordBits.{rest_of_word, rest_of_byte}
-use borrow.Author.Rules.{rules}
 use Rattle.marks.proofs.words.rest.Goals as goal
 
 -- src/words.rt:41:9

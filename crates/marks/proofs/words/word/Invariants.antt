@@ -1,8 +1,5 @@
-use native.Mathlib.Omega.{arith}
-use borrow.Author.Rules.{rules}
 use Prim.Native.Nat.{◌+◌, ◌-◌, ◌*◌, ◌≤◌}
 use Rattle.marks.specs.Words.{Reads}
-use Rattle.marks.proofs.WordBits.{reads_start, read_fits, reads_step, reads_end}
 use Rattle.marks.proofs.words.word.Given as goal
 
 abbrev pub invariant-loop-i : goal.invariant-loop-i

@@ -35,7 +35,16 @@ pub filler-node-requires : goal.filler-node-requires
 filler-node-requires c = record { row = omega (arith, c.requires.of_atom.setting.ranges.shaped.rows) }
 
 pub is_above-requires : goal.is_above-requires
-is_above-requires c = record { ranges = c.requires.of_atom.setting.ranges; grid = c.requires.of_atom.rows; k_lt_most_roots = (omega (arith, c.requires.of_atom.child, c.child-filler.ensures), omega (arith, c.filler-node.ensures, c.requires.of_atom.setting.ranges.shaped.filler _ c.requires.y_lt_names (kind_4_restricts (sym c.kind-kind.ensures ∙ c.if-kind-ne4.false)))) }
+is_above-requires c = record {
+  ranges = c.requires.of_atom.setting.ranges;
+  grid = c.requires.of_atom.rows;
+  k_lt_most_roots = (
+    omega (arith, c.requires.of_atom.child, c.child-filler.ensures),
+    omega
+        (arith, c.filler-node.ensures, c.requires.of_atom.setting.ranges.shaped.filler _ c.requires.y_lt_names (kind_4_restricts (sym c.kind-kind.ensures ∙ c.if-kind-ne4.false))),
+  );
+}
 
 pub returns : goal.returns
-returns c = below_as_some (omega (arith, c.child-filler.ensures, c.if-filler-eq0.false)) (sym c.kind-kind.ensures ∙ c.if-kind-ne4.false) (sym c.role.ensures ∙ (c.if-role-name.false ∙ c.value-name.ensures)) c.child-filler.ensures c.filler-node.ensures c.is_above.ensures
+returns c = below_as_some (omega (arith, c.child-filler.ensures, c.if-filler-eq0.false)) (sym c.kind-kind.ensures ∙ c.if-kind-ne4.false)
+    (sym c.role.ensures ∙ (c.if-role-name.false ∙ c.value-name.ensures)) c.child-filler.ensures c.filler-node.ensures c.is_above.ensures

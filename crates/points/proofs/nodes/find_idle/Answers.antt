@@ -1,8 +1,6 @@
 use native.Mathlib.Omega.{arith}
-use mathlib.Core.Path.{◌≡◌, refl, ◌∙◌}
-use Prim.Native.Nat.{◌-◌}
-use lib.ListN.{length}
-use Rattle.points.proofs.LosingNodes.{IdleBefore, idle_none, idle_more, idle_end}
+use mathlib.Core.Path.{refl, ◌∙◌}
+use Rattle.points.proofs.LosingNodes.{idle_none, idle_more, idle_end}
 use Rattle.points.proofs.nodes.find_idle.Goals as goal
 
 pub loop-next-init : goal.loop-next-init
@@ -12,7 +10,10 @@ pub overflow_add-next : goal.overflow_add-next
 overflow_add-next c = omega (arith, c.loop-next-test.true, c.requires.ranged.0.few)
 
 pub serves-requires : goal.serves-requires
-serves-requires c = record { has_row = (record { row = omega (arith, c.loop-next-test.true, c.requires.ranged.0.rows) }, c.requires.ranged.0.fillers _ c.loop-next-test.true); grid = (c.requires.ranged.1, c.requires.spans.2) }
+serves-requires c = record {
+  has_row = (record { row = omega (arith, c.loop-next-test.true, c.requires.ranged.0.rows) }, c.requires.ranged.0.fillers _ c.loop-next-test.true);
+  grid = (c.requires.ranged.1, c.requires.spans.2);
+}
 
 pub loop-next-smaller-then-serves : goal.loop-next-smaller-then-serves
 loop-next-smaller-then-serves c = omega (arith, c.loop-next-test.true)

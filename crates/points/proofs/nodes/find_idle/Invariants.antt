@@ -1,8 +1,7 @@
-use native.Mathlib.Omega.{arith}
-use mathlib.Core.Path.{◌≡◌, refl, ◌∙◌}
+use mathlib.Core.Path.{◌≡◌}
 use Prim.Native.Nat.{◌-◌}
 use lib.ListN.{length}
-use Rattle.points.proofs.LosingNodes.{IdleBefore, idle_none, idle_more, idle_end}
+use Rattle.points.proofs.LosingNodes.{IdleBefore}
 use Rattle.points.proofs.nodes.find_idle.Given as goal
 
 abbrev pub invariant-loop-next : goal.invariant-loop-next

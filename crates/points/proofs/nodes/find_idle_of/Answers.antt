@@ -1,6 +1,5 @@
 use native.Mathlib.Omega.{arith}
 use Rattle.points.proofs.LosingNodes.{idle_of}
-use borrow.Author.Rules.{rules}
 use Rattle.points.proofs.nodes.find_idle_of.Goals as goal
 
 pub find_idle-requires : goal.find_idle-requires

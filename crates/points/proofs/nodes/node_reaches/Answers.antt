@@ -1,7 +1,5 @@
 use native.Mathlib.Omega.{arith}
-use borrow.Author.Rules.{rules}
-use Prim.Native.Nat.{◌-◌}
-use Rattle.points.proofs.LosingNodes.{NoneBefore, none_start, none_more, none_end, one_found}
+use Rattle.points.proofs.LosingNodes.{none_start, none_more, none_end, one_found}
 use Rattle.points.proofs.nodes.node_reaches.Goals as goal
 
 pub next_outside-b-requires : goal.next_outside-b-requires

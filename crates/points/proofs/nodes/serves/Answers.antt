@@ -16,7 +16,10 @@ pub filler-node-requires : goal.filler-node-requires
 filler-node-requires c = c.requires.has_row.0
 
 pub is_set-requires : goal.is_set-requires
-is_set-requires c = record { grid = c.requires.grid.0; k_lt_most_roots = (c.requires.grid.1, omega (arith, c.filler-node.ensures, c.requires.has_row.1 (sym c.is_restriction.ensures ∙ c.if-is_restriction.true))) }
+is_set-requires c = record {
+  grid = c.requires.grid.0;
+  k_lt_most_roots = (c.requires.grid.1, omega (arith, c.filler-node.ensures, c.requires.has_row.1 (sym c.is_restriction.ensures ∙ c.if-is_restriction.true)));
+}
 
 pub returns-then-is_set : goal.returns-then-is_set
 returns-then-is_set c = filler_lost c.filler-node.ensures c.is_set.ensures c.if-is_set.true

@@ -1,7 +1,6 @@
 -- `root_reaches` meets its contract: no atom of the root before `next` does.
-use Prim.Native.Nat.{◌≤◌, ◌-◌}
 use native.Mathlib.Omega.{arith}
-use Rattle.points.proofs.LosingRoots.{from_root, NoneBefore, none_start, none_other, none_own, none_end, one_found}
+use Rattle.points.proofs.LosingRoots.{from_root, none_start, none_other, none_own, none_end, one_found}
 use Rattle.points.proofs.roots.root_reaches.Goals as goal
 
 pub loop-next-init : goal.loop-next-init

@@ -3,7 +3,6 @@ use native.Mathlib.Omega.{arith}
 use Rattle.question.proofs.Verdicts.{zeros_grid, verdict_lost, verdict_kept}
 use Rattle.marks.proofs.Squares.{refuted}
 use Rattle.marks.proofs.Lines.{empty_zeros}
-use borrow.Author.Rules.{rules}
 use Rattle.question.proofs.evaluation.decide.Goals as goal
 
 pub outline-above_extent-requires : goal.outline-above_extent-requires
@@ -19,7 +18,16 @@ fill_above-requires c =
 pub lose_all-requires : goal.lose_all-requires
 lose_all-requires c =
     let p = c.requires in
-    record { world = p.world; from = (c.outline-below_extent.ensures _ _ _ p.below_text).shape; filled = c.fill_above.ensures; shape = (c.outline-above_extent.ensures _ _ _ p.above_text).shape; nodes = zeros_grid 16384 (omega arith); roots = zeros_grid 16384 (omega arith); nodes_empty = empty_zeros 16384; roots_empty = empty_zeros 16384 }
+    record {
+      world = p.world;
+      from = (c.outline-below_extent.ensures _ _ _ p.below_text).shape;
+      filled = c.fill_above.ensures;
+      shape = (c.outline-above_extent.ensures _ _ _ p.above_text).shape;
+      nodes = zeros_grid 16384 (omega arith);
+      roots = zeros_grid 16384 (omega arith);
+      nodes_empty = empty_zeros 16384;
+      roots_empty = empty_zeros 16384;
+    }
 
 pub is_set-requires : goal.is_set-requires
 is_set-requires c = record { grid = c.lose_all.ensures.rows; k_lt_most_roots = (omega arith, omega arith) }

@@ -1,12 +1,9 @@
 -- `fill_above` meets its contract: the rows are those of the atoms from `left` on.
 use Prim.Native.Nat.{◌≤◌, ◌-◌}
-use native.Mathlib.Omega.{arith}
-use mathlib.Core.Path.{◌≡◌, refl, ◌∙◌}
-use borrow.Author.Rules.{rules}
+use mathlib.Core.Path.{◌≡◌}
 use lib.ListN.{length}
 use Rattle.outline.specs.Atoms.{atoms_from}
 use Rattle.question.specs.Evaluation.{Above}
-use Rattle.question.proofs.Turns.{fill_atom, fill_start, fill_turn, fill_end, same_grid}
 use Rattle.question.proofs.evaluation.fill_above.Given as goal
 
 abbrev pub invariant-loop-left : goal.invariant-loop-left

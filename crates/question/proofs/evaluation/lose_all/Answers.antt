@@ -1,10 +1,7 @@
 -- `lose_all` meets its contract: the rows have lost what the atoms from `left` on do not have below them.
-use Prim.Native.Nat.{◌≤◌}
 use native.Mathlib.Omega.{arith}
-use mathlib.Core.Path.{◌≡◌, refl, ◌∙◌}
-use borrow.Author.Rules.{rules}
-use lib.ListN.{length}
-use Rattle.question.proofs.Turns.{node_atom, root_atom, Losing, lose_start, lose_turn, lose_end, same_grid}
+use mathlib.Core.Path.{refl, ◌∙◌}
+use Rattle.question.proofs.Turns.{node_atom, root_atom, lose_start, lose_turn, lose_end, same_grid}
 use Rattle.question.proofs.evaluation.lose_all.Goals as goal
 
 pub loop-left-init : goal.loop-left-init

@@ -1,6 +1,5 @@
 use mathlib.Core.Path.{◌∙◌}
 use borrow.Author.Tests.{ne_eqb, eq-eqb}
-use borrow.Author.Rules.{rules}
 use Rattle.release.proofs.axiom.filler_node.Goals as goal
 
 pub returns-then-filler-top : goal.returns-then-filler-top

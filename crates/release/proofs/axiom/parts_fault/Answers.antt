@@ -1,8 +1,4 @@
-use Prim.Native.Nat.{◌≤◌}
-use mathlib.Core.Path.{◌≡◌, refl, sym, ◌∙◌}
-use borrow.Author.Rules.{rules}
-use lib.ListN.{length}
-use Rattle.release.specs.Files.{parts_fault}
+use mathlib.Core.Path.{refl, sym, ◌∙◌}
 use Rattle.release.proofs.Faults.{parts_none, parts_7, parts_9, parts_13, parts_next}
 use Rattle.release.proofs.axiom.parts_fault.Goals as goal
 

@@ -1,9 +1,7 @@
 use Prim.Native.Nat.{◌≤◌}
-use mathlib.Core.Path.{◌≡◌, refl, sym, ◌∙◌}
-use borrow.Author.Rules.{rules}
+use mathlib.Core.Path.{◌≡◌}
 use lib.ListN.{length}
 use Rattle.release.specs.Files.{parts_fault}
-use Rattle.release.proofs.Faults.{parts_none, parts_7, parts_9, parts_13, parts_next}
 use Rattle.release.proofs.axiom.parts_fault.Given as goal
 
 abbrev pub invariant-loop-left : goal.invariant-loop-left

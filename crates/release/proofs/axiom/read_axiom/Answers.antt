@@ -4,7 +4,6 @@ use mathlib.Core.Logic.{inl, inr}
 use native.Mathlib.Omega.{arith}
 use Rattle.release.proofs.Faults.{kind_joins, kind_restricts, no_kind}
 use Rattle.release.proofs.Readings.{axiom_7, axiom_9, axiom_10, axiom_short, axiom_8, axiom_as_tail}
-use borrow.Author.Rules.{rules}
 use Rattle.release.proofs.axiom.read_axiom.Goals as goal
 
 pub returns-then-file-after : goal.returns-then-file-after

@@ -3,7 +3,6 @@ use native.Mathlib.Omega.{arith}
 use Rattle.release.proofs.Numbers.{few_bytes}
 use Rattle.release.proofs.Faults.{conjunction_7, conjunction_many, conjunction_parts}
 use Rattle.release.proofs.Readings.{joined_refused, joined_axiom}
-use borrow.Author.Rules.{rules}
 use Rattle.release.proofs.axiom.read_conjunction.Goals as goal
 
 pub returns-then-file-tail : goal.returns-then-file-tail
@@ -13,7 +12,8 @@ pub returns-then-count-gt-CONJUNCTS : goal.returns-then-count-gt-CONJUNCTS
 returns-then-count-gt-CONJUNCTS c = joined_refused _ _ _ _ _ _ _ c.requires.1 12 (conjunction_many _ _ _ _ c.if-file-tail.false _ c.wide-count.ensures c.if-count-gt-CONJUNCTS.true) (λ z. omega arith)
 
 pub returns-then-fault-ne0 : goal.returns-then-fault-ne0
-returns-then-fault-ne0 c = joined_refused _ _ _ _ _ _ _ c.requires.1 _ (conjunction_parts _ _ _ _ c.if-file-tail.false _ c.wide-count.ensures c.if-count-gt-CONJUNCTS.false ∙ sym c.parts_fault-fault.ensures) c.if-fault-ne0.true
+returns-then-fault-ne0 c = joined_refused _ _ _ _ _ _ _ c.requires.1 _
+    (conjunction_parts _ _ _ _ c.if-file-tail.false _ c.wide-count.ensures c.if-count-gt-CONJUNCTS.false ∙ sym c.parts_fault-fault.ensures) c.if-fault-ne0.true
 
 pub overflow_mul-result : goal.overflow_mul-result
 overflow_mul-result c = omega (arith, few_bytes c.requires.0.0 c.if-count-gt-CONJUNCTS.false)
@@ -25,4 +25,5 @@ pub overflow_add-result-2 : goal.overflow_add-result-2
 overflow_add-result-2 c = omega (arith, few_bytes c.requires.0.0 c.if-count-gt-CONJUNCTS.false)
 
 pub returns : goal.returns
-returns c = joined_axiom _ _ _ _ _ _ _ c.requires.1 _ c.wide-count.ensures (conjunction_parts _ _ _ _ c.if-file-tail.false _ c.wide-count.ensures c.if-count-gt-CONJUNCTS.false ∙ (sym c.parts_fault-fault.ensures ∙ c.if-fault-ne0.false))
+returns c = joined_axiom _ _ _ _ _ _ _ c.requires.1 _ c.wide-count.ensures
+    (conjunction_parts _ _ _ _ c.if-file-tail.false _ c.wide-count.ensures c.if-count-gt-CONJUNCTS.false ∙ (sym c.parts_fault-fault.ensures ∙ c.if-fault-ne0.false))

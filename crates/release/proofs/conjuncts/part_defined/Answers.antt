@@ -1,8 +1,6 @@
-use Prim.Native.Nat.{◌-◌}
 use mathlib.Core.Path.{sym, ◌∙◌}
 use native.Mathlib.Omega.{arith}
-use borrow.Author.Rules.{rules}
-use Rattle.release.proofs.DefinedParts.{has_count, has_part, part_row, NoneDefined, none_start, none_next, none_end, part_found}
+use Rattle.release.proofs.DefinedParts.{has_count, has_part, part_row, none_start, none_next, none_end, part_found}
 use Rattle.release.proofs.conjuncts.part_defined.Goals as goal
 
 pub count-parts-requires : goal.count-parts-requires

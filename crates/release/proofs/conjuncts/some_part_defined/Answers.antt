@@ -1,8 +1,6 @@
-use Prim.Native.Nat.{◌-◌}
 use mathlib.Core.Path.{sym, ◌∙◌}
 use mathlib.Core.Bool.{true≢false}
-use borrow.Author.Rules.{rules}
-use Rattle.release.proofs.DefinedParts.{has_row, NoName, name_start, name_next, name_end, name_found}
+use Rattle.release.proofs.DefinedParts.{has_row, name_start, name_next, name_end, name_found}
 use Rattle.release.proofs.conjuncts.some_part_defined.Goals as goal
 
 pub loop-x-init : goal.loop-x-init

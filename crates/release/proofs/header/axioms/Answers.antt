@@ -2,7 +2,6 @@ use mathlib.Core.Path.{◌∙◌}
 use native.Mathlib.Omega.{arith}
 use Rattle.release.specs.Files.{count_of}
 use Rattle.release.proofs.Numbers.{header_number}
-use borrow.Author.Rules.{rules}
 use Rattle.release.proofs.header.axioms.Goals as goal
 
 pub number-requires : goal.number-requires

@@ -1,5 +1,4 @@
 use Rattle.release.proofs.Headers.{version_1, version_known}
-use borrow.Author.Rules.{rules}
 use Rattle.release.proofs.header.lacks_version.Goals as goal
 
 pub returns-then-version-eq-VERSION_1 : goal.returns-then-version-eq-VERSION_1

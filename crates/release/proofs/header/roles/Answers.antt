@@ -1,6 +1,5 @@
 use mathlib.Core.Path.{◌∙◌}
 use Rattle.release.specs.Files.{roles_of}
-use borrow.Author.Rules.{rules}
 use Rattle.release.proofs.header.roles.Goals as goal
 
 pub returns : goal.returns

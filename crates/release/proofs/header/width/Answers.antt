@@ -1,6 +1,5 @@
 use mathlib.Core.Path.{◌∙◌, sym}
 use Rattle.release.proofs.Numbers.{width_1, width_2}
-use borrow.Author.Rules.{rules}
 use Rattle.release.proofs.header.width.Goals as goal
 
 pub returns-then-wide-eq-VERSION_1 : goal.returns-then-wide-eq-VERSION_1

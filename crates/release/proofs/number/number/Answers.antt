@@ -1,7 +1,6 @@
 use Prim.Native.Nat.{◌+◌}
 use native.Mathlib.Omega.{arith}
 use Rattle.release.proofs.Numbers.{number_narrow, number_wide}
-use borrow.Author.Rules.{rules}
 use Rattle.release.proofs.number.number.Goals as goal
 
 pub returns-then-width-eq1 : goal.returns-then-width-eq1

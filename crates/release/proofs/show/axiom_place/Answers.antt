@@ -1,7 +1,6 @@
 use mathlib.Core.Path.{◌∙◌}
 use Rattle.release.proofs.Rows.{blank_table}
 use Rattle.release.proofs.Places.{read_release, read_refused, shown_not_first, shown_not_second, shown_1, shown_2, shown_no_side}
-use borrow.Author.Rules.{rules}
 use Rattle.release.proofs.show.axiom_place.Goals as goal
 
 pub read_release-first_checked-requires : goal.read_release-first_checked-requires

@@ -1,7 +1,6 @@
 use mathlib.Core.Logic.{⊎_elim}
 use native.Mathlib.Omega.{arith}
 use Rattle.release.proofs.Places.{either_holds, second_holds, first_holds, part_bytes, part_block, part_place, holder_second, holder_first}
-use borrow.Author.Rules.{rules}
 use Rattle.release.proofs.show.show_axiom.Goals as goal
 
 pub overflow_add-end : goal.overflow_add-end

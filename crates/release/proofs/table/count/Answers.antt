@@ -1,6 +1,5 @@
 use mathlib.Core.Path.{◌∙◌}
 use Rattle.release.specs.Tables.{count_at}
-use borrow.Author.Rules.{rules}
 use Rattle.release.proofs.table.count.Goals as goal
 
 pub returns : goal.returns

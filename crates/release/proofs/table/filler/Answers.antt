@@ -1,5 +1,4 @@
 use Rattle.release.specs.Tables.{filler_at}
-use borrow.Author.Rules.{rules}
 use Rattle.release.proofs.table.filler.Goals as goal
 
 pub returns : goal.returns

@@ -1,5 +1,4 @@
 use Rattle.release.specs.Tables.{kind_at}
-use borrow.Author.Rules.{rules}
 use Rattle.release.proofs.table.kind.Goals as goal
 
 pub returns : goal.returns

@@ -2,7 +2,6 @@ use mathlib.Core.Path.{◌∙◌}
 use native.Mathlib.Omega.{arith}
 use Rattle.release.specs.Tables.{part_at}
 use Rattle.release.proofs.Numbers.{part_number}
-use borrow.Author.Rules.{rules}
 use Rattle.release.proofs.table.part.Goals as goal
 
 pub overflow_mul-width : goal.overflow_mul-width

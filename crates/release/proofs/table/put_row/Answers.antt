@@ -2,7 +2,6 @@ use native.Mathlib.Omega.{arith}
 use lib.ListN.{length-set}
 use mathlib.Core.Path.{refl}
 use Rattle.release.proofs.Rows.{row_put}
-use borrow.Author.Rules.{rules}
 use Rattle.release.proofs.table.put_row.Goals as goal
 
 pub bounds-table-i-2 : goal.bounds-table-i-2

@@ -1,10 +1,8 @@
-use mathlib.Core.Path.{◌≡◌, refl, ◌∙◌}
+use mathlib.Core.Path.{refl, ◌∙◌}
 use native.Mathlib.Omega.{arith}
-use borrow.Author.Rules.{rules}
-use lib.ListN.{length}
 use Rattle.release.specs.Tables.{Ready}
 use Rattle.release.proofs.Numbers.{is_width}
-use Rattle.release.proofs.Scan.{Going, start, end, end_14, refuses, left_small, fits, next}
+use Rattle.release.proofs.Scan.{start, end, end_14, refuses, left_small, fits, next}
 use Rattle.release.proofs.table.read_axioms.Goals as goal
 
 pub width-width-requires : goal.width-width-requires
@@ -23,13 +21,18 @@ pub returns-in_default : goal.returns-in_default
 returns-in_default c = refuses _ _ _ _ _ _ _ _ c.loop-left.invariant.0 c.loop-left-test.true _ (rw c.width-width.ensures at c.read_axiom-got.ensures) _ _ c.in_default.is c.refusal.ensures
 
 pub put_row-requires : goal.put_row-requires
-put_row-requires c = let y : Ready _ _ _ _ _ = c.requires in fits _ _ _ _ _ _ _ _ c.loop-left.invariant.0 c.loop-left-test.true _ (rw c.width-width.ensures at c.read_axiom-got.ensures) _ _ c.in-Axiom.is y.names y.roles y.count (omega (arith, y.rows, c.loop-left.invariant.1))
+put_row-requires c = let y : Ready _ _ _ _ _ = c.requires in fits _ _ _ _ _ _ _ _ c.loop-left.invariant.0 c.loop-left-test.true _
+    (rw c.width-width.ensures at c.read_axiom-got.ensures) _ _ c.in-Axiom.is y.names y.roles y.count (omega (arith, y.rows, c.loop-left.invariant.1))
 
 pub overflow_add-least : goal.overflow_add-least
 overflow_add-least c = omega (arith, left_small _ _ _ _ _ _ _ _ c.loop-left.invariant.0 c.loop-left-test.true _ (rw c.width-width.ensures at c.read_axiom-got.ensures) _ _ c.in-Axiom.is)
 
 pub loop-left-preserved : goal.loop-left-preserved
-loop-left-preserved c = (next _ _ _ _ _ _ _ _ c.loop-left.invariant.0 c.loop-left-test.true _ (rw c.width-width.ensures at c.read_axiom-got.ensures) _ _ c.in-Axiom.is _ c.put_row.ensures, c.put_row.ensures.long ∙ c.loop-left.invariant.1)
+loop-left-preserved c = (
+  next _ _ _ _ _ _ _ _ c.loop-left.invariant.0 c.loop-left-test.true _ (rw c.width-width.ensures at c.read_axiom-got.ensures) _ _ c.in-Axiom.is _
+      c.put_row.ensures,
+  c.put_row.ensures.long ∙ c.loop-left.invariant.1,
+)
 
 pub returns-then-at-file : goal.returns-then-at-file
 returns-then-at-file c = end_14 _ _ _ _ _ _ _ _ c.loop-left.invariant.0 c.loop-left-test.false c.if-at-file.true

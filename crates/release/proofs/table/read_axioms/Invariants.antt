@@ -1,10 +1,6 @@
-use mathlib.Core.Path.{◌≡◌, refl, ◌∙◌}
-use native.Mathlib.Omega.{arith}
-use borrow.Author.Rules.{rules}
+use mathlib.Core.Path.{◌≡◌}
 use lib.ListN.{length}
-use Rattle.release.specs.Tables.{Ready}
-use Rattle.release.proofs.Numbers.{is_width}
-use Rattle.release.proofs.Scan.{Going, start, end, end_14, refuses, left_small, fits, next}
+use Rattle.release.proofs.Scan.{Going}
 use Rattle.release.proofs.table.read_axioms.Given as goal
 
 abbrev pub invariant-loop-left : goal.invariant-loop-left

@@ -1,5 +1,4 @@
 use Rattle.release.specs.Tables.{role_at}
-use borrow.Author.Rules.{rules}
 use Rattle.release.proofs.table.role.Goals as goal
 
 pub returns : goal.returns

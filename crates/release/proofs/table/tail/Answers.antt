@@ -1,5 +1,4 @@
 use Rattle.release.specs.Tables.{tail_at}
-use borrow.Author.Rules.{rules}
 use Rattle.release.proofs.table.tail.Goals as goal
 
 pub returns : goal.returns

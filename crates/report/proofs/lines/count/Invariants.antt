@@ -1,9 +1,7 @@
 -- `count` meets its contract. The invariant: so many of the bytes before place i report on the side.
-use mathlib.Core.Path.{sym, ◌∙◌}
 use Prim.Native.Nat.{◌≤◌, ◌-◌}
-use borrow.Author.Rules.{rules}
 use lib.ListN.{length}
-use Rattle.report.proofs.Entries.{Counting, count_none, count_more, count_same, count_all}
+use Rattle.report.proofs.Entries.{Counting}
 use Rattle.report.proofs.lines.count.Given as goal
 
 abbrev pub invariant-loop-i : goal.invariant-loop-i

@@ -7,7 +7,6 @@ use Rattle.report.specs.Texts.{newline, space, letter}
 use Rattle.report.specs.Numbers.{three_digits}
 use Rattle.report.proofs.Decimals.{three_few}
 use Rattle.report.proofs.Entries.{entry_line, entry_nothing}
-use borrow.Author.Rules.{rules}
 use Rattle.report.proofs.lines.entry_length.Goals as goal
 
 pub overflow_add-result : goal.overflow_add-result

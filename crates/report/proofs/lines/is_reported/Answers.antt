@@ -1,7 +1,6 @@
 -- `is_reported` meets its contract: reported on the left, or else on the right.
 use mathlib.Core.Path.{sym, ◌∙◌}
 use Rattle.report.proofs.Entries.{reported_left, reported_right}
-use borrow.Author.Rules.{rules}
 use Rattle.report.proofs.lines.is_reported.Goals as goal
 
 pub returns-then-on_side : goal.returns-then-on_side

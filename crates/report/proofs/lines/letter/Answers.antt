@@ -1,7 +1,6 @@
 -- `letter` meets its contract: B for both sides, L for the left only, else R.
 use mathlib.Core.Path.{sym, ◌∙◌}
 use Rattle.report.proofs.Entries.{letter_both, letter_left, letter_right}
-use borrow.Author.Rules.{rules}
 use Rattle.report.proofs.lines.letter.Goals as goal
 
 pub returns-then-on_side-2 : goal.returns-then-on_side-2

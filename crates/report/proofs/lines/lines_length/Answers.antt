@@ -1,9 +1,8 @@
 -- `lines_length` meets its contract. The invariant: the total is the length of the lines of the names before place `name`.
-use Prim.Native.Nat.{◌≤◌, ◌-◌}
 use native.Mathlib.Omega.{arith}
 use borrow.Author.Rules.{rules}
-use lib.ListN.{length, get_or}
-use Rattle.report.proofs.Entries.{Adding, add_none, add_entry, add_all, entry_few}
+use lib.ListN.{get_or}
+use Rattle.report.proofs.Entries.{add_none, add_entry, add_all, entry_few}
 use Rattle.report.proofs.lines.lines_length.Goals as goal
 
 pub loop-name-init : goal.loop-name-init

@@ -1,9 +1,6 @@
 -- `put_lines` meets its contract. The invariant: the lines of the names from `name` on are still to be written.
-use Prim.Native.Nat.{◌≤◌, ◌-◌}
 use borrow.Author.Rules.{rules}
-use lib.ListN.{length, drop}
-use Rattle.report.specs.Texts.{lines}
-use Rattle.report.proofs.Puts.{Rest, rest_whole}
+use Rattle.report.proofs.Puts.{rest_whole}
 use Rattle.report.proofs.Entries.{entry_room, entry_put, entries_put}
 use Rattle.report.proofs.lines.put_lines.Goals as goal
 

@@ -1,6 +1,5 @@
 -- `put_report` meets its contract: room for each part of the report where those before it stand, and then the whole.
 use Rattle.report.proofs.Pieces.{first_line_room, lines_room, last_line_room, report_put}
-use borrow.Author.Rules.{rules}
 use Rattle.report.proofs.lines.put_report.Goals as goal
 
 pub put_two_numbers-first-requires : goal.put_two_numbers-first-requires

@@ -1,5 +1,5 @@
 -- A number of one digit has the length 1, a greater one the length of its tenth and 1.
-use Rattle.std.proofs.Common.{◌+◌, ◌/◌, ◌%◌, [], ◌∷◌, arith, sym, ap, length, length-append}
+use Rattle.std.proofs.Common.{◌/◌, ◌%◌, [], ◌∷◌, arith, sym, ap, length, length-append}
 use Rattle.report.specs.Numbers.{digit, decimal}
 use Rattle.report.proofs.Decimals.{decimal_one, decimal_more, decimal_few, tenth_less}
 use Rattle.report.proofs.numbers.+decimal_length.Goals as goal

@@ -1,6 +1,5 @@
 -- `put_two_numbers` meets its contract: room for each piece of the line where those before it stand, and then the whole line.
 use Rattle.report.proofs.Pieces.{word_room, number_room, then_room, other_room, newline_room, two_numbers_put}
-use borrow.Author.Rules.{rules}
 use Rattle.report.proofs.numbers.put_two_numbers.Goals as goal
 
 pub put_text-first-requires : goal.put_text-first-requires

@@ -3,7 +3,6 @@ use mathlib.Core.Path.{ap}
 use native.Mathlib.Omega.{arith}
 use lib.ListN.{length}
 use Rattle.report.proofs.Decimals.{decimal_few, three_of_one, three_of_two, three_of_more}
-use borrow.Author.Rules.{rules}
 use Rattle.report.proofs.numbers.three_digits_length.Goals as goal
 
 pub overflow_add-result : goal.overflow_add-result

@@ -2,7 +2,6 @@
 use native.Mathlib.Omega.{arith}
 use Rattle.report.proofs.Decimals.{decimal_few}
 use Rattle.report.proofs.Pieces.{two_numbers_length}
-use borrow.Author.Rules.{rules}
 use Rattle.report.proofs.numbers.two_numbers_length.Goals as goal
 
 pub overflow_add-result : goal.overflow_add-result

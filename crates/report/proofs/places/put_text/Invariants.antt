@@ -1,8 +1,7 @@
 -- `put_text` meets its contract. The invariant: after i bytes the rest of the text is still to be written.
 use Prim.Native.Nat.{◌≤◌, ◌-◌}
-use borrow.Author.Rules.{rules}
 use lib.ListN.{length, drop}
-use Rattle.report.proofs.Puts.{Rest, rest_whole, copy_room, copy_one, copy_whole}
+use Rattle.report.proofs.Puts.{Rest}
 use Rattle.report.proofs.places.put_text.Given as goal
 
 abbrev pub invariant-loop-i : goal.invariant-loop-i

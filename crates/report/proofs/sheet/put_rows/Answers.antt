@@ -1,10 +1,8 @@
 -- `put_rows` meets its contract. The invariant: the lines of the branches from `branch` on are still to be written.
-use Prim.Native.Nat.{◌≤◌, ◌-◌}
 use native.Mathlib.Omega.{arith}
 use borrow.Author.Rules.{rules}
-use Rattle.report.specs.Sheets.{first_lines}
-use Rattle.report.proofs.Puts.{Rest, rest_whole}
-use Rattle.report.proofs.Sheets.{lines_from, row_room, row_put, rows_put}
+use Rattle.report.proofs.Puts.{rest_whole}
+use Rattle.report.proofs.Sheets.{row_room, row_put, rows_put}
 use Rattle.report.proofs.sheet.put_rows.Goals as goal
 
 pub loop-branch-init : goal.loop-branch-init

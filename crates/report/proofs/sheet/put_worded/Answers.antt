@@ -1,5 +1,4 @@
 -- `put_worded` meets its contract: room for the number where the word stands, and then both.
-use borrow.Author.Rules.{rules}
 use Rattle.report.proofs.Sheets.{the_word_room, the_number_room, worded_put}
 use Rattle.report.proofs.sheet.put_worded.Goals as goal
 

@@ -1,8 +1,7 @@
 -- `rows_length` meets its contract. The invariant: the total is the length of the lines of the branches before `branch`.
-use Prim.Native.Nat.{◌≤◌, ◌-◌}
 use native.Mathlib.Omega.{arith}
 use borrow.Author.Rules.{rules}
-use Rattle.report.proofs.Sheets.{RowsAdded, add_no_row, add_row, all_rows_added}
+use Rattle.report.proofs.Sheets.{add_no_row, add_row, all_rows_added}
 use Rattle.report.proofs.sheet.rows_length.Goals as goal
 
 pub loop-branch-init : goal.loop-branch-init

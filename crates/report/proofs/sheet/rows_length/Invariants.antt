@@ -1,8 +1,6 @@
 -- `rows_length` meets its contract. The invariant: the total is the length of the lines of the branches before `branch`.
 use Prim.Native.Nat.{◌≤◌, ◌-◌}
-use native.Mathlib.Omega.{arith}
-use borrow.Author.Rules.{rules}
-use Rattle.report.proofs.Sheets.{RowsAdded, add_no_row, add_row, all_rows_added}
+use Rattle.report.proofs.Sheets.{RowsAdded}
 use Rattle.report.proofs.sheet.rows_length.Given as goal
 
 abbrev pub invariant-loop-branch : goal.invariant-loop-branch

@@ -1,6 +1,5 @@
 -- `worded_length` meets its contract: word and number are small enough that the sum fits.
 use native.Mathlib.Omega.{arith}
-use borrow.Author.Rules.{rules}
 use Rattle.report.proofs.Decimals.{decimal_few}
 use Rattle.report.proofs.Sheets.{worded_length}
 use Rattle.report.proofs.sheet.worded_length.Goals as goal

@@ -1,6 +1,5 @@
 -- `write_rows` meets its contract: the lines fit or not.
 use mathlib.Core.Path.{refl}
-use borrow.Author.Rules.{rules}
 use Rattle.report.proofs.Answers.{text_too_long, text_fits}
 use Rattle.report.proofs.sheet.write_rows.Goals as goal
 

@@ -1,5 +1,4 @@
 -- `write_sheet` meets its contract: by the cases of the answer.
-use borrow.Author.Rules.{rules}
 use Rattle.report.proofs.Sheets.{accepted_sheet, refused_sheet}
 use Rattle.report.proofs.sheet.write_sheet.Goals as goal
 

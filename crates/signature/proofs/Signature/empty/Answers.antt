@@ -4,7 +4,6 @@ use native.Mathlib.Omega.{arith}
 use Rattle.signature.proofs.Built.{lesser_small}
 use Rattle.release.specs.Files.{most_names, most_roles}
 use Rattle.signature.specs.Building.{empty_signature}
-use borrow.Author.Rules.{rules}
 use Rattle.signature.proofs.Signature.empty.Goals as goal
 
 pub overflow_cast-result : goal.overflow_cast-result
