@@ -95,7 +95,8 @@ module _ (s : List ℕ) (bytes : Bytes s) where
       by_kind false e =
           let l : p + (1 + w) ≤ length s = rw e at h.inside in
           let b = number w s (p + 1) in
-          let last : At s (p + 1) (number_bytes w (filler_number w (filler_node w b))) = subst (λ (x : ℕ). At s (p + 1) (number_bytes w x)) (sym (filler_same w b)) (number_at w (p + 1) (omega arith)) in
+          let last : At s (p + 1) (number_bytes w (filler_number w (filler_node w b))) = subst (λ (x : ℕ). At s (p + 1) (number_bytes w x)) (sym (filler_same w b))
+          (number_at w (p + 1) (omega arith)) in
           rw (e, tail_bytes) (then_at 1 (get_or s p 0) p (one_at p (omega arith)) last)
 
   axiom_at_lem : (w p : ℕ) → AxiomStands w s p → At s p (axiom_bytes w (axiom_at w s p))

@@ -57,7 +57,8 @@ module _ (v w kind : ℕ) (s : List ℕ) (p x : ℕ) (e : x ≡ get_or s p 0) wh
   unfolding tail_bytes
   joined_bytes j = record { is = rw (j, ← e, tail_bytes) (rw (numbers_length w x s (p + 1))) }
 
-  pub restricted_bytes : joins kind ≡ false → (b f : ℕ) → b ≡ number w s (p + 1) → f ≡ filler_number v (filler_node w b) → Begins (tail_bytes v (right_at w kind s p)) (number_bytes 1 x) (number_bytes v f)
+  pub restricted_bytes : joins kind ≡ false → (b f : ℕ) → b ≡ number w s (p + 1) → f ≡ filler_number v (filler_node w b)
+      → Begins (tail_bytes v (right_at w kind s p)) (number_bytes 1 x) (number_bytes v f)
   unfolding tail_bytes
   restricted_bytes j b f g h = record { is = rw (j, ← e, ← g, h, tail_bytes) }
 
@@ -77,7 +78,8 @@ module _ (v w : ℕ) (s : List ℕ) (p : ℕ) where
 
 -- axioms one after the other
 module _ (v : ℕ) (s : List ℕ) (p left : ℕ) where
-  pub first_axiom : 0 < left → (w : ℕ) → w ≡ width_of s → Begins (axioms_bytes v (axioms_from left s p)) (axiom_bytes v (axiom_at w s p)) (axioms_bytes v (axioms_from (left - 1) s (p + axiom_length w s p)))
+  pub first_axiom : 0 < left → (w : ℕ) → w ≡ width_of s
+      → Begins (axioms_bytes v (axioms_from left s p)) (axiom_bytes v (axiom_at w s p)) (axioms_bytes v (axioms_from (left - 1) s (p + axiom_length w s p)))
   unfolding axioms_bytes axioms_from
   first_axiom h w e =
       let more : left ≡ suc (left - 1) = omega arith in

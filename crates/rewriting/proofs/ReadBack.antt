@@ -13,7 +13,8 @@ use lib.ListN.{length, get_or, length-append}
 use Rattle.el.specs.Lists.{pick}
 use Rattle.el.specs.Axioms.{Axiom, Right, conjunction, restriction}
 use Rattle.release.specs.Files.{number, numbers, width_of, most_names_of, top_number, ends, most_conjuncts, IsWidth, kind_of}
-use Rattle.release.specs.Files.{parts_fault, conjunction_fault, restriction_fault, tail_fault, axiom_fault, axioms_fault, joins, restricts, is_filler, filler_node, right_at, axiom_at, axiom_length, axioms_from}
+use Rattle.release.specs.Files.{parts_fault, conjunction_fault, restriction_fault, tail_fault, axiom_fault, axioms_fault, joins, restricts, is_filler, filler_node, right_at}
+use Rattle.release.specs.Files.{axiom_at, axiom_length, axioms_from}
 use Rattle.release.proofs.Sound.{passed, axiom_sound}
 use Rattle.release.proofs.Faults.{is_filler_lem}
 use Rattle.release.proofs.Decoding.{both_none}

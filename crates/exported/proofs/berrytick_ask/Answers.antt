@@ -2,7 +2,6 @@
 use mathlib.Core.Path.{refl, ap}
 use Rattle.exported.specs.Codes.{ask_outcome}
 use Rattle.exported.proofs.Outcomes.{gives, refuses}
-use borrow.Author.Rules.{rules}
 use Rattle.exported.proofs.berrytick_ask.Goals as goal
 
 pub returns-in-Answer : goal.returns-in-Answer

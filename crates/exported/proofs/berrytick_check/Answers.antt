@@ -3,7 +3,6 @@ use mathlib.Core.Path.{refl, sym, ap, ◌∙◌}
 use Rattle.exported.specs.Codes.{check_outcome}
 use Rattle.exported.proofs.Outcomes.{gives, refuses, all_three}
 use Rattle.exported.proofs.Lengths.{counts_fit}
-use borrow.Author.Rules.{rules}
 use Rattle.exported.proofs.berrytick_check.Goals as goal
 
 pub narrow-requires : goal.narrow-requires

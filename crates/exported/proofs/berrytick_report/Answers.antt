@@ -2,7 +2,6 @@
 use mathlib.Core.Path.{refl}
 use native.Mathlib.Omega.{arith}
 use Rattle.exported.proofs.Reports.{not_compared, text_short, reported, no_room}
-use borrow.Author.Rules.{rules}
 use Rattle.exported.proofs.berrytick_report.Goals as goal
 
 pub returns-then-output-lt-REPORT : goal.returns-then-output-lt-REPORT

@@ -3,7 +3,6 @@ use mathlib.Core.Path.{refl}
 use native.Mathlib.Omega.{arith}
 use Rattle.exported.proofs.Outcomes.{rewrites_1, rewrites_2, no_version}
 use Rattle.exported.proofs.Lengths.{rewriting_short}
-use borrow.Author.Rules.{rules}
 use Rattle.exported.proofs.berrytick_rewrite.Goals as goal
 
 pub give_rewriting-requires : goal.give_rewriting-requires

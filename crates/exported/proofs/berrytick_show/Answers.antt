@@ -4,7 +4,6 @@ use Rattle.release.specs.declared.show.Place.{Place}
 use Rattle.exported.specs.Codes.{answered, place_numbers}
 use Rattle.exported.proofs.Outcomes.{gives, all_three}
 use Rattle.exported.proofs.Lengths.{shown_fits}
-use borrow.Author.Rules.{rules}
 use Rattle.exported.proofs.berrytick_show.Goals as goal
 
 pub narrow-requires : goal.narrow-requires

@@ -2,7 +2,6 @@
 use mathlib.Core.Path.{refl}
 use native.Mathlib.Omega.{arith}
 use Rattle.exported.proofs.Outcomes.{work_small, work_given, no_names}
-use borrow.Author.Rules.{rules}
 use Rattle.exported.proofs.berrytick_work_length.Goals as goal
 
 pub returns-then-names-gt-NAMES : goal.returns-then-names-gt-NAMES

@@ -2,7 +2,6 @@
 use native.Mathlib.Omega.{arith}
 use mathlib.Core.Path.{ap}
 use Rattle.exported.specs.Codes.{comparison_code}
-use borrow.Author.Rules.{rules}
 use Rattle.exported.proofs.comparison_code.Goals as goal
 
 pub returns-in-Refused : goal.returns-in-Refused

@@ -2,7 +2,6 @@
 use mathlib.Core.Path.{refl, ap}
 use Rattle.exported.specs.Codes.{rewriting_outcome}
 use Rattle.exported.proofs.Outcomes.{gives, refuses}
-use borrow.Author.Rules.{rules}
 use Rattle.exported.proofs.give_rewriting.Goals as goal
 
 pub narrow-requires : goal.narrow-requires

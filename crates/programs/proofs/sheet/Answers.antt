@@ -1,6 +1,5 @@
 -- The sheet prints what filling its rows promises: the text that was written of them, for as many signatures as the bytes hold.
 use mathlib.Core.Path.{refl}
-use borrow.Author.Rules.{rules}
 use Rattle.programs.proofs.Printed.{sheet_prints}
 use Rattle.programs.proofs.sheet.Goals as goal
 

@@ -2,7 +2,6 @@
 use Rattle.release.proofs.Limits.{limits}
 use native.Mathlib.Omega.{arith}
 use mathlib.Core.Path.{refl, sym, ◌∙◌}
-use borrow.Author.Rules.{rules}
 use Rattle.programs.proofs.Printed.{count_refused, count_none, count_some}
 use Rattle.programs.proofs.signature_count.Goals as goal
 

@@ -1,7 +1,6 @@
 -- The station prints what comparing promises: the text that was written of its answer and its result, which is long enough for all names.
 use native.Mathlib.Omega.{arith}
 use mathlib.Core.Path.{refl}
-use borrow.Author.Rules.{rules}
 use Rattle.programs.proofs.Printed.{station_prints}
 use Rattle.programs.proofs.station.Goals as goal
 

@@ -1,6 +1,4 @@
 -- The length that writing answers, by the two cases of its answer.
-use mathlib.Core.Path.{sym, ◌∙◌}
-use borrow.Author.Rules.{rules}
 use Rattle.programs.specs.Printed.{text_length}
 use Rattle.programs.proofs.text_length.Goals as goal
 

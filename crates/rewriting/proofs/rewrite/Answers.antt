@@ -1,6 +1,5 @@
 -- `rewrite` meets its contract: the release's own refusal, or what rewriting an accepted one answers.
 use Rattle.rewriting.proofs.Answers.{granted, release_refused}
-use borrow.Author.Rules.{rules}
 use Rattle.rewriting.proofs.rewrite.Goals as goal
 
 pub rewrite_accepted-requires : goal.rewrite_accepted-requires

@@ -2,7 +2,6 @@
 use mathlib.Core.Path.{sym, ◌∙◌}
 use native.Mathlib.Omega.{arith}
 use Rattle.rewriting.proofs.Stands.{joined_length, restricted_length}
-use borrow.Author.Rules.{rules}
 use Rattle.rewriting.proofs.axiom.axiom_length.Goals as goal
 
 pub overflow_mul-result : goal.overflow_mul-result

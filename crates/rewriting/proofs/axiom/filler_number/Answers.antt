@@ -1,7 +1,6 @@
 -- `filler_number` meets its contract: ⊤ in the one width is ⊤ in the other.
 use mathlib.Core.Path.{◌∙◌}
 use borrow.Author.Tests.{ne_eqb, eq-eqb}
-use borrow.Author.Rules.{rules}
 use Rattle.rewriting.proofs.axiom.filler_number.Goals as goal
 
 pub returns-then-filler-top : goal.returns-then-filler-top

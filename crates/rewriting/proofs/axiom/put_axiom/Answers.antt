@@ -2,7 +2,6 @@
 use Rattle.rewriting.proofs.Puts.{rest_whole, piece_room, piece_put, last_put}
 use Rattle.rewriting.proofs.Pieces.{axiom_left, axiom_kind}
 use Rattle.rewriting.proofs.Stands.{one_byte, tail_stands}
-use borrow.Author.Rules.{rules}
 use Rattle.rewriting.proofs.axiom.put_axiom.Goals as goal
 
 pub put_number-first-requires : goal.put_number-first-requires

@@ -1,11 +1,6 @@
 -- `put_names` meets its contract. The invariant: the names from place `p` on are still to be written.
-use Prim.Native.Nat.{◌+◌, ◌*◌, ◌≤◌}
 use native.Mathlib.Omega.{arith}
-use borrow.Author.Rules.{rules}
-use lib.ListN.{length}
-use Rattle.release.specs.Files.{numbers}
-use Rattle.rewriting.specs.Bytes.{names_bytes}
-use Rattle.rewriting.proofs.Puts.{Rest, rest_whole, piece_room, piece_put, nothing_left}
+use Rattle.rewriting.proofs.Puts.{rest_whole, piece_room, piece_put, nothing_left}
 use Rattle.rewriting.proofs.Pieces.{first_name, no_name}
 use Rattle.rewriting.proofs.Stands.{name_inside, others_inside}
 use Rattle.rewriting.proofs.axiom.put_names.Goals as goal
@@ -23,7 +18,11 @@ pub overflow_add-p : goal.overflow_add-p
 overflow_add-p c = omega (arith, name_inside _ _ _ _ c.loop-left-test.true c.loop-left.invariant.0)
 
 pub loop-left-preserved : goal.loop-left-preserved
-loop-left-preserved c = (others_inside _ _ _ _ c.loop-left-test.true c.loop-left.invariant.0, piece_put (first_name _ _ _ _ _ c.loop-left-test.true _ c.number.ensures) c.loop-left.invariant.1 c.put_number-next.ensures)
+loop-left-preserved c = (
+  others_inside _ _ _ _ c.loop-left-test.true c.loop-left.invariant.0,
+  piece_put (first_name _ _ _ _ _ c.loop-left-test.true _ c.number.ensures)
+      c.loop-left.invariant.1 c.put_number-next.ensures,
+)
 
 pub shape_of-output : goal.shape_of-output
 shape_of-output c = c.loop-left.invariant.1.same

@@ -3,7 +3,6 @@ use mathlib.Core.Path.{sym, ◌∙◌}
 use Rattle.rewriting.proofs.Puts.{rest_whole, piece_put, last_put}
 use Rattle.rewriting.proofs.Pieces.{first_room, joined_bytes, restricted_bytes}
 use Rattle.rewriting.proofs.Stands.{one_byte, names_stand, filler_stands}
-use borrow.Author.Rules.{rules}
 use Rattle.rewriting.proofs.axiom.put_tail.Goals as goal
 
 pub put_number-next-requires : goal.put_number-next-requires

@@ -1,12 +1,8 @@
 -- `put_axioms` meets its contract. The invariant: the axioms from place `from` on are still to be written.
-use native.Mathlib.Omega.{arith}
-use borrow.Author.Rules.{rules}
 use Rattle.release.specs.Files.{axioms_from, axioms_of}
-use Rattle.release.proofs.Numbers.{is_width}
 use Rattle.rewriting.specs.Bytes.{axioms_bytes}
-use Rattle.rewriting.proofs.Puts.{Rest, rest_whole, piece_room, piece_put, nothing_left}
-use Rattle.rewriting.proofs.Pieces.{first_axiom, no_axiom}
-use Rattle.rewriting.proofs.Stands.{AllStand, all_stand, first_stands, others_stand, header_stands, has_version}
+use Rattle.rewriting.proofs.Puts.{Rest}
+use Rattle.rewriting.proofs.Stands.{AllStand}
 use Rattle.rewriting.proofs.file.put_axioms.Given as goal
 
 abbrev pub invariant-loop-left : goal.invariant-loop-left

@@ -1,6 +1,5 @@
 -- `put_mark` meets its contract.
 use Rattle.rewriting.proofs.Puts.{put_then}
-use borrow.Author.Rules.{rules}
 use Rattle.rewriting.proofs.file.put_mark.Goals as goal
 
 pub returns : goal.returns

@@ -2,7 +2,6 @@
 use Rattle.rewriting.proofs.Puts.{rest_whole, piece_room, piece_put, last_put}
 use Rattle.rewriting.proofs.Stands.{one_byte, two_bytes}
 use Rattle.rewriting.proofs.Answers.{begins_mark, begins_version, begins_names, begins_roles, begins_count}
-use borrow.Author.Rules.{rules}
 use Rattle.rewriting.proofs.file.put_release.Goals as goal
 
 pub put_mark-marked-requires : goal.put_mark-marked-requires
