@@ -1,6 +1,6 @@
-"""What checking a release file, showing an axiom, rewriting a release and building a signature answer by document 01
-and requests 1 and 4, and which refusal a question, a comparison and a sheet meet: written apart from the library, to
-confirm the tables refusals.txt, shows.txt, rewrites.txt, signatures.txt, questions.txt, comparisons.txt and sheets.txt."""
+"""What checking a release file, showing an axiom, rewriting a release and building a signature answer by docs/FORMAT.md,
+and which refusal a question, a comparison and a sheet meet: written apart from the library, to confirm the tables
+refusals.txt, shows.txt, rewrites.txt, signatures.txt, questions.txt, comparisons.txt and sheets.txt."""
 from typing import NamedTuple
 
 KINDS_WITH_NAMES, KINDS_WITH_ROLE = (1, 2), (3, 4)
