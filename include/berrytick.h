@@ -13,8 +13,8 @@
  * bytes beyond an answer, as they were. On entry it may hold anything.
  *
  * Nothing is kept between calls, and none allocates memory. Any number of threads may call at the same time, each with memory of its own to
- * write to. A call uses less than 72 KiB of stack, whatever it is lent: measured, with all of the calling program's own, 71,440 bytes for a
- * question, 32,848 for a comparison, a sheet or a report, 18,472 for a shown axiom and 10,328 for a check or a rewriting.
+ * write to. A call uses less than 72 KiB of stack, whatever it is lent: measured, with all of the calling program's own, 71,216 bytes for a
+ * question, 32,592 for a comparison, a sheet or a report, 18,424 for a shown axiom and 10,296 for a check or a rewriting.
  */
 #ifndef BERRYTICK_H
 #define BERRYTICK_H
