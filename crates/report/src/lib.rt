@@ -38,7 +38,7 @@ fn refused(number: u8) -> Written
     })
 }
 
-// Writes the report of a comparison whose result is the first `names` bytes of `result`.
+// Writes the report of a comparison whose result is the first `names` bytes of `result_bytes`.
 pub fn write_report(names: u16, roles: u8, result_bytes: &[u8], output: &mut [u8]) -> Written
     ensures { WrittenAs (report_answer names roles result_bytes.now output.old)
         (report_text names roles result_bytes.now) output.old output.new result }
