@@ -14,7 +14,7 @@ mod marking;
 pub mod preparation;
 mod result;
 
-// Marks, and writes the byte of each name into the first bytes of `result`.
+// Marks, and writes the byte of each name into the first bytes of `result_bytes`.
 fn write_marked(
     first: &[u8],
     second: &[u8],
@@ -60,7 +60,7 @@ fn write_marked(
     write_bytes(signature, work, result_bytes, forward, backward);
 }
 
-// Writes the byte of each name into the first bytes of `result`. The work memory is 0 again as far as it is used.
+// Writes the byte of each name into the first bytes of `result_bytes`. The work memory is 0 again as far as it is used.
 pub fn compare_tables(
     first: &[u8],
     second: &[u8],
