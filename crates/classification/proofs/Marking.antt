@@ -1,10 +1,9 @@
 -- Laws of marking by the rules: what a function is given, and what each of its turns and exits has done.
---   ..-stays, ..-at, pair                 what is asked holds after marks are put, too, and at other cells
---   noted-stays, zeros-..                 what is asked of the memory of what was noted; a memory of zeros
+--   .._stays, .._at, pair                 what is asked holds after marks are put, too, and at other cells
 --   part_pass, gather_pass, fill_pass     a mark put by a rule is a pass
---   ..-grows                              the same where only the growth is asked, for new marks that are dealt with
+--   .._grows                              the same where only the growth is asked, for new marks that are dealt with
 --   restriction_of, over_of               what new marks ask of restrictions, from the tests made on them
---   gathered-.., filled-.., axiom-..      what is left to mark by conjuncts, by fillers, by an axiom
+--   gathered_.., filled_.., axiom_..      what is left to mark by conjuncts, by fillers, by an axiom
 -- Not here: the other laws of passes for any rule (crate marks).
 use mathlib.Core.Path.{◌≡◌, refl, sym, ◌∙◌}
 use mathlib.Core.Bool.{Bool, true, false, false≢true}

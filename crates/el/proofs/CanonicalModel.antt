@@ -1,7 +1,7 @@
 -- The canonical model of axioms: its points are the concepts, and what holds at c is what is derivable from c.
 --   Within c d         d is a conjunct of c
 --   Edge al r c d      c reaches d by r: by a conjunct ∃r.d of c, or by an axiom for a name above c
---   entails_derives    what is entailed is derivable: with derives-entails, derivability is truth in all models
+--   entails_derives    what is entailed is derivable: with derives_entails, derivability is truth in all models
 --   inversion          c ⊑ ∃r.d is derivable only where c reaches some e ⊑ d by r
 use mathlib.Core.Path.{◌≡◌, refl}
 use mathlib.Core.Logic.{inl, inr}

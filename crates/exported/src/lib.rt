@@ -1,5 +1,5 @@
 // The calls for C and Rust, by one convention: a call returns 0, or number * 256 + side of the refusal; what it answers it writes to lent
-// numbers, which a refusal leaves as they were. include/berrytick.h declares them.
+// numbers, which a refusal leaves as they were. The crate exported_c gives them their names for C.
 #![tactic(auto)]
 
 ghost use Rattle.std.specs.Prelude.{◌≡◌};

@@ -1,4 +1,5 @@
-// The calls of the crate exported under their names for C: each does what the call of its name there does, and promises the same.
+// The calls of the crate exported under their names for C: each does what the call of its name there does, and promises the
+// same. include/berrytick.h declares them.
 #![tactic(auto)]
 
 ghost use Rattle.exported.specs.Codes.{CheckReturns, AskReturns, ShowReturns, CompareReturns, SheetReturns};

@@ -3,7 +3,7 @@
 --   join_none, join_more, join_end     a row joined to a line, byte after byte
 --   out_start .. out_none              the next column outside a line
 --   missing_further                    a byte of a row set where a line has nothing;  full_none .. full_end: a row looked through for such bytes
---   empty_zeros, spans-less            a line of zeros has no column; a line for more columns
+--   empty_zeros                        a line of zeros has no column
 use mathlib.Core.Path.{◌≡◌, refl, sym, ap, ◌∙◌}
 use mathlib.Core.Bool.{Bool, true, false}
 use mathlib.Core.List.{List}

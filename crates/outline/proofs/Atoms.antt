@@ -1,9 +1,9 @@
 -- Atoms in memory.
---   put_value, put_owner, put_child, put-other     the numbers of atoms after one is put
+--   put_value, put_owner, put_child                the numbers of atoms after one is put
 --   Written n k c o      c atoms are written, over the roots below k: their ranges and order
 --   atoms_more           one atom more at the end
 --   root_own, root_other     a root by its first atom, of its own or another root's
---   root-skips           atoms of other roots before do not matter
+--   root_skips           atoms of other roots before do not matter
 -- Not here: what the atoms mean (Roots).
 use mathlib.Core.Path.{◌≡◌, refl, sym, ap, ◌∙◌}
 use mathlib.Core.List.{List, [], ◌∷◌, ◌++◌}

@@ -2,7 +2,7 @@
 --   Readable w n m p t    t is the bytes of p concepts, their names of w bytes and below n and their roles below m
 --   Opened w n m p k t    what the kind byte k, followed by t, says of such a text: what t then is
 --   Scan w n m s at p     s is the text of a concept exactly where p concepts stand from the place at on
---   after-..              a kind byte leads on to the text after it, with a concept fewer or more to read; or there is no such text
+--   after_..              a kind byte leads on to the text after it, with a concept fewer or more to read; or there is no such text
 use mathlib.Core.Path.{◌≡◌, refl, sym, ap, ◌∙◌}
 use mathlib.Core.Bool.{Bool, true, false}
 use mathlib.Core.List.{List, [], ◌∷◌}

@@ -1,6 +1,6 @@
 -- What a question's tests show of its answer: one law for each answer.
 --   to_classify, to_decide, answered      the steps of answering, by the memory that each leaves
---   refuses-..                            the refusals, in their order
+--   refuses_..                            the refusals, in their order
 --   answers                               an answer
 use mathlib.Core.Path.{◌≡◌, refl, sym, ap, ◌∙◌}
 use mathlib.Core.Bool.{Bool, true, false}

@@ -1,6 +1,6 @@
 -- The roots of C that lie below an atom of D.
 --   below_own_atom       a root lies below each of its atoms
---   atom-below-some      a root lies below ∃r.d only where one of its atoms does
+--   some_atom_below      a root lies below ∃r.d only where one of its atoms does
 --   root_under_sound, root_under_complete     a root lies below an atom of D by the rows of its child exactly where it does
 use mathlib.Core.Path.{◌≡◌, refl, sym, ap, ◌∙◌}
 use mathlib.Core.Logic.{inl, inr}

@@ -1,6 +1,6 @@
 -- The turns of the two loops over atoms, from the last to the first.
---   fill-..      the rows of the names above the roots of C
---   lose-..      the rows of the points that the roots of D have lost
+--   fill_..      the rows of the names above the roots of C
+--   lose_..      the rows of the points that the roots of D have lost
 use mathlib.Core.Path.{◌≡◌, refl}
 use mathlib.Core.List.{List}
 use Prim.Native.Nat.{ℕ, suc, ◌-◌, ◌≤◌, ◌<◌}

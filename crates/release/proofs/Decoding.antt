@@ -1,7 +1,7 @@
 -- The table by name and the axioms of the file: each row is that of an axiom, and each axiom has its row.
 --   Holds n s t q       the row of the axiom at place q, by the file's bytes
 --   shaped              the table of axioms without fault has the ranges that loops rely on
---   defined-parts       refusal 15 is met exactly where the table has a conjunct that is itself of kind 2
+--   defined_parts       refusal 15 is met exactly where the table has a conjunct that is itself of kind 2
 use mathlib.Core.Path.{◌≡◌, refl, sym, ◌∙◌}
 use mathlib.Core.Bool.{Bool, true, false, true≢false, false≢true}
 use mathlib.Core.List.{List, []}

@@ -1,4 +1,4 @@
--- An axiom's numbers, and what reading one answers by what the file says, with document 01's numbers.
+-- An axiom's numbers, and what reading one answers by what the file says, with the numbers of docs/FORMAT.md.
 --   entry_of w n left kind s tail   the numbers of the axiom with this left name and kind, whose tail stands at place `tail`
 --   reading_at w n m least s p      reading an axiom at place p: "it with the next place, or else the refusal"
 use Rattle.std.specs.Prelude.{List, ℕ, zero, suc, ◌+◌, get_or}

@@ -1,4 +1,4 @@
--- What checking a release answers, by what the file says: the enum's cases with document 01's numbers and values.
+-- What checking a release answers, by what the file says: the enum's cases with the numbers and values of docs/FORMAT.md.
 --   checked s        accepted with n, m and a, or the refusal with side 1
 use Rattle.std.specs.Prelude.{List, ℕ, zero, suc}
 use Rattle.release.specs.Files.{fault, names_of, roles_of, count_of}

@@ -1,5 +1,5 @@
 -- Showing an axiom: "a part of whichever release holds it, from its name byte to its last byte".
---   spanOf s x                  where the axiom of the name x stands in the accepted file s
+--   place_in side s x           where the axiom of the name x stands in the accepted file s, which is the release on that side
 --   shown_place s t side x       which of the two files the part is in, where it starts and how long it is
 --   Shown first second side x p   p is that part: its bytes, and its place in memory
 use Rattle.std.specs.Prelude.{◌≡◌, ◌&&◌, List, ℕ, zero, suc, ◌+◌, eqb, take, drop}

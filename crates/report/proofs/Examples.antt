@@ -1,4 +1,4 @@
--- Worked examples of the texts: document 01's P1 and its refusal, names of one to five digits, and a sheet of two rows.
+-- Worked examples of the texts: the worked example P1 and its refusal, names of one to five digits, and a sheet of two rows.
 use mathlib.Core.Path.{◌≡◌, refl}
 use mathlib.Core.List.{List, [], ◌∷◌, ◌++◌}
 use Prim.Native.Nat.{ℕ}

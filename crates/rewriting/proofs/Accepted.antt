@@ -1,5 +1,5 @@
 -- A rewritten file is accepted, and says what the release says.
---   read-back       so does the file of an accepted release in a version that has room for its names
+--   read_back       so does the file of an accepted release in a version that has room for its names
 use mathlib.Core.Path.{◌≡◌, refl, sym, ap, subst, ◌∙◌}
 use mathlib.Core.Bool.{Bool, true, false, not}
 use mathlib.Core.List.{List, ◌++◌}

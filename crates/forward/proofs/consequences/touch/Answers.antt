@@ -32,7 +32,7 @@ loop-next-smaller c =
 
 pub loop-next-preserved : goal.loop-next-preserved
 loop-next-preserved c =
-    c.touched-1.given ∙ c.loop-next.invariant
+    c.touch_by.auto.touched ∙ c.loop-next.invariant
 
 pub shape_of-touched : goal.shape_of-touched
 shape_of-touched c = c.loop-next.invariant

@@ -30,7 +30,7 @@ loop-next-smaller-then-own-role c =
 
 pub loop-next-preserved-then-own-role : goal.loop-next-preserved-then-own-role
 loop-next-preserved-then-own-role c =
-    c.touched-1.given ∙ c.loop-next.invariant
+    c.join_below.auto.line ∙ c.loop-next.invariant
 
 pub loop-next-smaller : goal.loop-next-smaller
 loop-next-smaller c =

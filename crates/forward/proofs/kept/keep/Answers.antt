@@ -26,7 +26,7 @@ loop-next-smaller c =
 
 pub loop-next-preserved : goal.loop-next-preserved
 loop-next-preserved c =
-    (omega (arith, c.loop-next-test.true), c.kept-1.given ∙ c.loop-next.invariant.1, kept_more c.keep_by.ensures c.loop-next.invariant.2)
+    (omega (arith, c.loop-next-test.true), c.keep_by.auto.kept ∙ c.loop-next.invariant.1, kept_more c.keep_by.ensures c.loop-next.invariant.2)
 
 pub shape_of-kept : goal.shape_of-kept
 shape_of-kept c = c.loop-next.invariant.1

@@ -28,7 +28,7 @@ loop-k-smaller-then-x-layout c =
 pub loop-k-preserved-then-x-layout : goal.loop-k-preserved-then-x-layout
 loop-k-preserved-then-x-layout c = (
   omega (arith, c.loop-k-test.true),
-  ((grows_frame c.first_row.ensures).long ∙ c.loop-k.invariant.1.0, c.done-1.given ∙ c.loop-k.invariant.1.1),
+  ((grows_frame c.first_row.ensures).long ∙ c.loop-k.invariant.1.0, c.add.auto.line ∙ c.loop-k.invariant.1.1),
   setting_stays c.first_row.ensures c.loop-k.invariant.2,
   grows_further c.loop-k.invariant.3 c.first_row.ensures,
 )

@@ -29,7 +29,7 @@ pub loop-k-preserved-then-x-inclusions : goal.loop-k-preserved-then-x-inclusions
 loop-k-preserved-then-x-inclusions c = (
   omega (arith, c.loop-k-test.true),
   (frame_room (grows_frame c.give-given.ensures.grows) c.loop-k.invariant.1.0, frame_room (grows_frame c.give-given.ensures.grows) c.loop-k.invariant.1.1),
-  ((grows_frame c.give-given.ensures.grows).long ∙ c.loop-k.invariant.2.0, c.done-1.given ∙ c.loop-k.invariant.2.1),
+  ((grows_frame c.give-given.ensures.grows).long ∙ c.loop-k.invariant.2.0, c.add.auto.line ∙ c.loop-k.invariant.2.1),
   pass_both (λ d g. done_more c.add.ensures d g)
       c.loop-k.invariant.3 c.give-given.ensures,
 )

@@ -27,7 +27,7 @@ pub next_outside-above-requires-in-loop-above : goal.next_outside-above-requires
 next_outside-above-requires-in-loop-above c = record {
   room = frame_room (grows_frame c.take_one-taken.ensures.pass.grows) c.loop-above.invariant.1.0;
   x_le_names = (c.requires.x_le_names, omega (arith, c.loop-above-test.true));
-  spans = record { inside = omega (arith, c.requires.spans.1.inside, c.loop-above.invariant.2.1, c.covered-1.given) };
+  spans = record { inside = omega (arith, c.requires.spans.1.inside, c.loop-above.invariant.2.1, c.take_one-taken.auto.covered) };
 }
 
 pub loop-above-smaller : goal.loop-above-smaller
@@ -41,7 +41,7 @@ loop-above-preserved c = (
     frame_room (grows_frame c.take_one-taken.ensures.pass.grows)
         c.loop-above.invariant.1.1,
   ),
-  ((grows_frame c.take_one-taken.ensures.pass.grows).long ∙ c.loop-above.invariant.2.0, c.covered-1.given ∙ c.loop-above.invariant.2.1),
+  ((grows_frame c.take_one-taken.ensures.pass.grows).long ∙ c.loop-above.invariant.2.0, c.take_one-taken.auto.covered ∙ c.loop-above.invariant.2.1),
   pass_both
       (λ k r. known_more take_chain c.loop-above-test.true c.take_one-taken.ensures.covering c.next_outside-above-in-loop-above.ensures k r) c.loop-above.invariant.3
       c.take_one-taken.ensures.pass,
