@@ -1,23 +1,28 @@
 // Compares the releases of the folder that it is run in, `first.elt` and `second.elt`, over the signature `chosen.sig`, and
-// prints the report. A missing file counts as empty.
+// prints the report. A missing file counts as empty; a failed read or write ends the program with its error.
 #![tactic(auto)]
 
 use folder::{RELEASE_BYTES, read_file};
-use libc::STDOUT_FILENO;
 use programs::station;
+use std::io;
 
 // One byte more than the longest accepted signature, of 1,023 names and 32 roles: a longer one is refused 17 by its length.
 const SIGNATURE_BYTES: usize = 1056;
 
-fn main() {
+// What is lent to the comparison: work memory for up to 127 names, and room for the text, whose longest has 800 bytes.
+const WORK_BYTES: usize = 65536;
+
+const TEXT_BYTES: usize = 4096;
+
+fn main(rt: HostRuntime) -> io::Result<()> {
     let mut first = [0u8; RELEASE_BYTES];
-    let first_length = read_file(b"first.elt", &mut first);
+    let first_length = read_file(&rt, "first.elt", &mut first)?;
     let mut second = [0u8; RELEASE_BYTES];
-    let second_length = read_file(b"second.elt", &mut second);
+    let second_length = read_file(&rt, "second.elt", &mut second)?;
     let mut chosen = [0u8; SIGNATURE_BYTES];
-    let chosen_length = read_file(b"chosen.sig", &mut chosen);
-    let mut work = io::large_buffer();
-    let mut text = io::buffer();
+    let chosen_length = read_file(&rt, "chosen.sig", &mut chosen)?;
+    let mut work = [0u8; WORK_BYTES];
+    let mut text = [0u8; TEXT_BYTES];
     let length = station(
         &first[..first_length],
         &second[..second_length],
@@ -25,5 +30,5 @@ fn main() {
         &mut work,
         &mut text,
     );
-    io::write_all(STDOUT_FILENO, &text[..length]);
+    rt.write_all(&text[..length])
 }
