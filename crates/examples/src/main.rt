@@ -1,5 +1,6 @@
 // Tries outside examples on the public calls: a line for each family of cases, with how many there
 // were and how many came out differently, and before it a line for each difference.
+// A failed read or write ends the program with its error.
 //
 // The data files are made by tools/vectors.py, from vectors and from the tables in tools/.
 #![tactic(auto)]
@@ -20,22 +21,23 @@ mod station;
 mod verdict;
 
 use run::Call;
+use std::io;
 
-fn main() {
-    run::family(Call::Check, b"check");
-    run::family(Call::Show, b"show");
-    run::family(Call::Check, b"refusals");
-    run::family(Call::Show, b"shows");
-    run::family(Call::Signatures, b"signatures");
-    run::family(Call::Question, b"question");
-    run::family(Call::Question, b"questions");
-    run::family(Call::Question, b"deep");
-    run::family(Call::Compare, b"compare");
-    run::family(Call::Compare, b"comparisons");
-    run::family(Call::Station, b"station");
-    run::family(Call::Rewrite, b"rewrite");
-    run::family(Call::Rewrite, b"rewrites");
-    run::family(Call::Sheet, b"sheet");
-    run::family(Call::Sheet, b"sheets");
-    run::family(Call::Lines, b"lines");
+fn main(rt: HostRuntime) -> io::Result<()> {
+    run::family(&rt, Call::Check, "check")?;
+    run::family(&rt, Call::Show, "show")?;
+    run::family(&rt, Call::Check, "refusals")?;
+    run::family(&rt, Call::Show, "shows")?;
+    run::family(&rt, Call::Signatures, "signatures")?;
+    run::family(&rt, Call::Question, "question")?;
+    run::family(&rt, Call::Question, "questions")?;
+    run::family(&rt, Call::Question, "deep")?;
+    run::family(&rt, Call::Compare, "compare")?;
+    run::family(&rt, Call::Compare, "comparisons")?;
+    run::family(&rt, Call::Station, "station")?;
+    run::family(&rt, Call::Rewrite, "rewrite")?;
+    run::family(&rt, Call::Rewrite, "rewrites")?;
+    run::family(&rt, Call::Sheet, "sheet")?;
+    run::family(&rt, Call::Sheet, "sheets")?;
+    run::family(&rt, Call::Lines, "lines")
 }

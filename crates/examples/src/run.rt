@@ -4,6 +4,13 @@ use crate::verdict::{Verdict, What, same};
 use crate::{
     cases, check, compare, lines, print, questions, rewrite, sheets, show, signatures, station,
 };
+use folder::read_full;
+use std::io::Read;
+use std::rt::Files;
+use std::{fs, io};
+
+// How much room there is for a case.
+const CASE_BYTES: usize = 65536;
 
 // Which call a family's cases try.
 #[derive(Clone, Copy)]
@@ -28,59 +35,56 @@ enum Turn {
 }
 
 // Tries every case of the data file of this name, prints each difference, and then the counts.
-pub(crate) fn family(call: Call, name: &[u8]) {
-    let file = os::open_read(name);
-    if file < 0 {
-        print::broken(name);
-        return;
-    }
-    let mut room = io::large_buffer();
+pub(crate) fn family(rt: &(impl Files + Print), call: Call, name: &str) -> io::Result<()> {
+    let Ok(mut file) = fs::open(rt, name) else {
+        return print::broken(rt, name);
+    };
+    let mut room = [0u8; CASE_BYTES];
     let mut cases: u64 = 0;
     let mut differences: u64 = 0;
     while cases < u64::MAX {
-        match next_case(call, file, &mut room) {
+        match next_case(call, &mut file, &mut room)? {
             Turn::Tried(verdict) => {
                 cases += 1;
-                differences += print::difference(name, cases, verdict);
+                differences += print::difference(rt, name, cases, verdict)?;
             }
             Turn::Over => {
                 break;
             }
             Turn::Broken => {
-                print::broken(name);
+                print::broken(rt, name)?;
                 break;
             }
         }
     }
-    libc::close(file);
-    print::counts(name, cases, differences);
+    print::counts(rt, name, cases, differences)
 }
 
 // Reads the next case into `room` and tries it. A case that the file does not hold whole, or that
 // `room` is too small for, is broken.
-fn next_case(call: Call, file: i32, room: &mut [u8]) -> Turn {
+fn next_case(call: Call, file: &mut impl Read, room: &mut [u8]) -> io::Result<Turn> {
     let mut head = [0u8; 4];
-    let got = io::read_full(file, &mut head);
+    let got = read_full(file, &mut head)?;
     if got == 0 {
-        return Turn::Over;
+        return Ok(Turn::Over);
     }
     let length = cases::number_at(&head, 0);
     if got < 4 {
-        return Turn::Broken;
+        return Ok(Turn::Broken);
     }
     if room.len() < length {
-        return Turn::Broken;
+        return Ok(Turn::Broken);
     }
     try_case(call, file, &mut room[..length])
 }
 
 // Reads a case that fills `room`, and tries it.
-fn try_case(call: Call, file: i32, room: &mut [u8]) -> Turn {
-    let read = io::read_full(file, room);
+fn try_case(call: Call, file: &mut impl Read, room: &mut [u8]) -> io::Result<Turn> {
+    let read = read_full(file, room)?;
     if read < room.len() {
-        return Turn::Broken;
+        return Ok(Turn::Broken);
     }
-    Turn::Tried(judge(call, room))
+    Ok(Turn::Tried(judge(call, room)))
 }
 
 // The verdict on one case. A family more is an arm more here and in `fields_of`.
