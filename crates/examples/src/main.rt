@@ -1,6 +1,6 @@
 // Tries outside examples on the public calls: a line for each family of cases, with how many there
 // were and how many came out differently, and before it a line for each difference.
-// A failed read or write ends the program with its error.
+// A failed write ends the program with its error.
 //
 // The data files are made by tools/vectors.py, from vectors and from the tables in tools/.
 #![tactic(auto)]

@@ -43,7 +43,7 @@ pub(crate) fn family(rt: &(impl Files + Print), call: Call, name: &str) -> io::R
     let mut cases: u64 = 0;
     let mut differences: u64 = 0;
     while cases < u64::MAX {
-        match next_case(call, &mut file, &mut room)? {
+        match next_case(call, &mut file, &mut room) {
             Turn::Tried(verdict) => {
                 cases += 1;
                 differences += print::difference(rt, name, cases, verdict)?;
@@ -62,29 +62,29 @@ pub(crate) fn family(rt: &(impl Files + Print), call: Call, name: &str) -> io::R
 
 // Reads the next case into `room` and tries it. A case that the file does not hold whole, or that
 // `room` is too small for, is broken.
-fn next_case(call: Call, file: &mut impl Read, room: &mut [u8]) -> io::Result<Turn> {
+fn next_case(call: Call, file: &mut impl Read, room: &mut [u8]) -> Turn {
     let mut head = [0u8; 4];
-    let got = read_full(file, &mut head)?;
+    let got = read_full(file, &mut head);
     if got == 0 {
-        return Ok(Turn::Over);
+        return Turn::Over;
     }
     let length = cases::number_at(&head, 0);
     if got < 4 {
-        return Ok(Turn::Broken);
+        return Turn::Broken;
     }
     if room.len() < length {
-        return Ok(Turn::Broken);
+        return Turn::Broken;
     }
     try_case(call, file, &mut room[..length])
 }
 
 // Reads a case that fills `room`, and tries it.
-fn try_case(call: Call, file: &mut impl Read, room: &mut [u8]) -> io::Result<Turn> {
-    let read = read_full(file, room)?;
+fn try_case(call: Call, file: &mut impl Read, room: &mut [u8]) -> Turn {
+    let read = read_full(file, room);
     if read < room.len() {
-        return Ok(Turn::Broken);
+        return Turn::Broken;
     }
-    Ok(Turn::Tried(judge(call, room)))
+    Turn::Tried(judge(call, room))
 }
 
 // The verdict on one case. A family more is an arm more here and in `fields_of`.

@@ -1,12 +1,12 @@
 // The files of the folder that a program is run in.
 #![tactic(auto)]
 
-ghost use Rattle.std.specs.Prelude.{◌≤◌, ◌<◌, length, take, IfOk};
-ghost use Rattle.std.specs.Io.KnownBytes.{Consumes, IsAtEnd};
+ghost use Rattle.std.specs.Prelude.{◌≤◌, length, take};
+ghost use Rattle.std.specs.Io.KnownBytes.{Consumes};
 
 use std::io::Read;
 use std::rt::Files;
-use std::{fs, io};
+use std::{fs, str};
 
 // One byte more than the longest accepted release, of version 2: 10 bytes, and 1,023 axioms of 36. A longer file is refused by
 // these first bytes as by all of it. Every byte that a header or an axiom is read from stands among the first 36,838, so the
@@ -14,30 +14,34 @@ use std::{fs, io};
 // are.
 pub const RELEASE_BYTES: usize = 36839;
 
-// Reads the file's bytes to the start of `room`, as many as it holds, and answers how many. A missing file counts as empty. Where a
-// read fails, `room` may hold some of the bytes.
-pub fn read_file(rt: &impl Files, name: &str, room: &mut [u8]) -> io::Result<usize>
-    ensures { IfOk result (λ count. count ≤ length room.old) }
+// Reads the file's bytes to the start of `room`, as many as it holds, and answers how many. A missing file counts as empty, and a read
+// that fails as the end of the file. A name that is not UTF-8 is no file's.
+pub fn read_file(rt: &impl Files, name: &[u8], room: &mut [u8]) -> usize
+    ensures { result ≤ length room.old }
 {
+    let Ok(name) = str::from_utf8(name) else {
+        return 0;
+    };
     let Ok(mut file) = fs::open(rt, name) else {
-        return Ok(0);
+        return 0;
     };
     read_full(&mut file, room)
 }
 
-// Reads until `room` is full or the file ends, and answers how many bytes it put at the start of `room`.
-pub fn read_full<R: Read>(file: &mut R, room: &mut [u8]) -> io::Result<usize>
-    ensures within { IfOk result (λ count. count ≤ length room.new) }
-    ensures bytes { IfOk result (λ count. Consumes (R.remaining file.old) (R.remaining file.new) (take count room.new)) }
-    ensures ends { IfOk result (λ count. count < length room.new → IsAtEnd (R.remaining file.new)) }
+// Reads until `room` is full, the file ends or a read fails, and answers how many bytes it put at the start of `room`.
+pub fn read_full<R: Read>(file: &mut R, room: &mut [u8]) -> usize
+    ensures within { result ≤ length room.new }
+    ensures bytes { Consumes (R.remaining file.old) (R.remaining file.new) (take result room.new) }
 {
     let mut done: usize = 0;
     while done < room.len() {
-        let count = file.read(&mut room[done..])?;
+        let Ok(count) = file.read(&mut room[done..]) else {
+            break;
+        };
         if count == 0 {
             break;
         }
         done += count;
     }
-    Ok(done)
+    done
 }

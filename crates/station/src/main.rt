@@ -1,5 +1,5 @@
 // Compares the releases of the folder that it is run in, `first.elt` and `second.elt`, over the signature `chosen.sig`, and
-// prints the report. A missing file counts as empty; a failed read or write ends the program with its error.
+// prints the report. A missing file counts as empty; a failed write ends the program with its error.
 #![tactic(auto)]
 
 use folder::{RELEASE_BYTES, read_file};
@@ -16,11 +16,11 @@ const TEXT_BYTES: usize = 4096;
 
 fn main(rt: HostRuntime) -> io::Result<()> {
     let mut first = [0u8; RELEASE_BYTES];
-    let first_length = read_file(&rt, "first.elt", &mut first)?;
+    let first_length = read_file(&rt, b"first.elt", &mut first);
     let mut second = [0u8; RELEASE_BYTES];
-    let second_length = read_file(&rt, "second.elt", &mut second)?;
+    let second_length = read_file(&rt, b"second.elt", &mut second);
     let mut chosen = [0u8; SIGNATURE_BYTES];
-    let chosen_length = read_file(&rt, "chosen.sig", &mut chosen)?;
+    let chosen_length = read_file(&rt, b"chosen.sig", &mut chosen);
     let mut work = [0u8; WORK_BYTES];
     let mut text = [0u8; TEXT_BYTES];
     let length = station(

@@ -18,6 +18,6 @@ pub loop-done-preserved : goal.loop-done-preserved
 loop-done-preserved g c =
     let done = c.loop-done.done in
     let room = c.loop-done.room in
-    let joined = side_by_side done (length room - done) c.in_ok-count.count room c.read.new.buf c.loop-done.invariant.1 c.in_ok-count.ensures.bound.0 in
-    let given = Consumes-trans _ _ _ _ _ c.loop-done.invariant.2 c.in_ok-count.ensures.bytes.0 in
+    let joined = side_by_side done (length room - done) c.in-Ok.count room c.read.new.buf c.loop-done.invariant.1 c.in-Ok.ensures.bound.0 in
+    let given = Consumes-trans _ _ _ _ _ c.loop-done.invariant.2 c.in-Ok.ensures.bytes.0 in
     (search rules, search rules, subst (Consumes _ _) joined given)
