@@ -1,20 +1,25 @@
 -- The whole file: what is known after the header, and the answer in each case.
-use mathlib.Core.Path.{◌≡◌, refl, sym, ◌∙◌}
+use mathlib.Core.Path.{◌≡◌, refl, ◌∙◌}
 use mathlib.Core.Bool.{Bool, true, false, not, true≢false}
 use mathlib.Core.List.{List}
-use Prim.Native.Nat.{ℕ, zero, suc, ◌≤◌}
+use Prim.Native.Nat.{ℕ, zero, suc, ◌≤◌, ◌<◌}
 use native.Mathlib.Omega.{arith}
-use borrow.Author.Tests.{ltb-false}
+use borrow.Author.Tests.{ltb-false, ne_eqb}
 use lib.Dec.{ltb}
 use lib.ListN.{length}
 use Rattle.el.specs.Lists.{pick}
 use Rattle.el.proofs.Tests.{Tells}
-use Rattle.release.specs.declared.Checked.{Checked}
-use Rattle.release.specs.declared.Checked.TheVariants.{Accepted, Refused}
+use Rattle.std.specs.Prelude.{Ok, Err}
+use Rattle.release.specs.declared.Counts.{Counts}
+use Rattle.release.specs.declared.refusals.FileRefusal.{FileRefusal}
+use Rattle.release.specs.declared.refusals.FileRefusal.TheVariants.{DefinedConjunct}
+use Rattle.release.specs.declared.table.Row as table
 use Rattle.release.specs.Files.{mark, starts_with, is_version, version_of, width_of, names_of, roles_of, count_of, header_length, first_place, most_names, most_names_of, most_roles}
-use Rattle.release.specs.Files.{header_fault, axioms_fault, axioms_of, conjunct_defined, fault}
-use Rattle.release.specs.Readings.{checked}
-use Rattle.release.specs.Tables.{HasHeader, Ready, AxiomsRead, Shaped, SomePartDefined, Blank, ReleaseRead}
+use Rattle.release.specs.Files.{header_fault, axioms_fault, axioms_of, conjunct_defined, first_of, fault, accepted}
+use Rattle.release.specs.Readings.{counts_in, checked}
+use Rattle.release.specs.Refusals.{file_refusal, answer}
+use Rattle.release.specs.Tables.{Ready, AxiomsRead, Shaped, SomePartDefined, Blank, ReleaseRead, Release}
+use Rattle.release.proofs.Refusing.{accepts, is_refused, is_accepted, passes_on}
 use Rattle.release.proofs.Numbers.{limit_within}
 use Rattle.release.proofs.Sound.{passed}
 use Rattle.release.proofs.Decoding.{shaped}
@@ -55,49 +60,66 @@ header_sound s h =
       count = ltb-false _ _ g.0;
     }
 
-pub has_header : (s : List ℕ) → header_fault s ≡ 0 → (w : ℕ) → w ≡ width_of s → HasHeader w s
-has_header s h w e = record { is = e; inside = omega (arith, e, (header_sound s h).long) }
-
 -- the answers
-module _ (s t : List ℕ) where
-  refuses : (k : ℕ) → fault s ≡ k → (k ≡ 0 → ⊥) → (r : Checked) → r ≡ Refused (record { number = k; side = 1 }) → ReleaseRead s t r
-  unfolding checked
-  refuses zero e z r i = absurd (z refl)
-  refuses (suc k) e z r i = record { answer = i ∙ rw e; decoded = λ w. absurd (omega (arith, e, w)) }
+first_some : (j k : ℕ) → 0 < j → first_of j k ≡ j
+first_some zero k some = absurd (omega arith)
+first_some (suc j) k some = refl
 
-  pub refuses_header : (k : ℕ) → k ≡ header_fault s → (k ≡ 0 → ⊥) → (r : Checked) → r ≡ Refused (record { number = k; side = 1 }) → ReleaseRead s t r
+module _ (s : List ℕ) (t : List table.Row) where
+  -- a part's first refusal is that of the whole file
+  refused_by : {A : Type 0} (f : ℕ) (a : A) (e : FileRefusal) → Err (file_refusal e) ≡ answer 1 f a → (0 < f → fault s ≡ f) → ReleaseRead s t (Err e)
+  unfolding checked
+  refused_by f a e is whole =
+      let z = is_refused 1 f a (file_refusal e) is in
+      record { answer = passes_on 1 f (fault s) a (counts_in s) (file_refusal e) is whole; decoded = λ w. absurd (omega (arith, whole z.1, z.1, w)) }
+
+  pub refuses_header : (e : FileRefusal) → Err (file_refusal e) ≡ answer 1 (header_fault s) (counts_in s) → ReleaseRead s t (Err e)
   unfolding fault
-  refuses_header zero e z r i = absurd (z refl)
-  refuses_header (suc k) e z r i = refuses (suc k) (rw (fault, ← e)) z r i
+  refuses_header e is = refused_by (header_fault s) (counts_in s) e is (λ some. first_some (header_fault s) _ some)
 
   module _ (h : header_fault s ≡ 0) where
     pub ready : Blank t → Ready (names_of s) (roles_of s) (count_of s) s t
     ready b = let v = header_sound s h in record
         { long = v.long; names = v.names; roles = v.roles; count = v.count; rows = omega (arith, b.rows, v.names); blank = λ x l. b.blank x (omega (arith, v.names)) }
 
-    module _ (f : ℕ) (read : AxiomsRead (names_of s) (roles_of s) (count_of s) s t f) where
-      pub refuses_axioms : (f ≡ 0 → ⊥) → (r : Checked) → r ≡ Refused (record { number = f; side = 1 }) → ReleaseRead s t r
+    abbrev axiom_number : ℕ
+    axiom_number = axioms_fault (width_of s) (names_of s) (roles_of s) (count_of s) 0 s (first_place s)
+
+    pub refuses_axioms : (e : FileRefusal) → AxiomsRead (names_of s) (roles_of s) (count_of s) s t (Err e) → ReleaseRead s t (Err e)
+    unfolding fault
+    refuses_axioms e read = refused_by axiom_number tt e read.fault (λ some. rw (fault, h) (first_some axiom_number _ some))
+
+    module _ (read : AxiomsRead (names_of s) (roles_of s) (count_of s) s t (Ok tt)) where
+      none : axiom_number ≡ 0
+      none = (is_accepted 1 axiom_number tt tt read.fault).0
+
+      pub read_shaped : Shaped (names_of s) s t
+      read_shaped = shaped (roles_of s) (read.decoded none) none (header_sound s h).long
+
+      conjunct : (b : Bool) → Tells b (SomePartDefined (names_of s) s t) → b ≡ conjunct_defined (axioms_of s)
+      conjunct b tells = defined_parts (roles_of s) (read.decoded none) none (header_sound s h).long b tells
+
+      last : fault s ≡ pick (conjunct_defined (axioms_of s)) 15 0
       unfolding fault
-      refuses_axioms z r i = refuses f (rest f read.fault z) z r i
-        where
-          rest : (k : ℕ) → k ≡ axioms_fault (width_of s) (names_of s) (roles_of s) (count_of s) 0 s (first_place s) → (k ≡ 0 → ⊥) → fault s ≡ k
-          rest zero e w = absurd (w refl)
-          rest (suc k) e w = rw (fault, h, ← e)
+      last = rw (fault, h, none)
 
-      module _ (none : f ≡ 0) where
-        pub read_shaped : Shaped (names_of s) s t
-        read_shaped = shaped (roles_of s) (read.decoded none) (sym read.fault ∙ none) (header_sound s h).long
+      pub refuses_15 : (b : Bool) → Tells b (SomePartDefined (names_of s) s t) → b ≡ true → ReleaseRead s t (Err DefinedConjunct)
+      refuses_15 b tells e = refused_by {A = Unit {0}} 15 tt DefinedConjunct refl (λ some. last ∙ rw (← conjunct b tells, e))
 
-        conjunct : (b : Bool) → Tells b (SomePartDefined (names_of s) s t) → b ≡ conjunct_defined (axioms_of s)
-        conjunct b told = defined_parts (roles_of s) (read.decoded none) (sym read.fault ∙ none) (header_sound s h).long b told
+      pub accepts_file : (b : Bool) → Tells b (SomePartDefined (names_of s) s t) → b ≡ false → ReleaseRead s t (Ok (counts_in s))
+      unfolding checked
+      accepts_file b tells e = let z : fault s ≡ 0 = last ∙ rw (← conjunct b tells, e) in record { answer = accepts 1 (fault s) (counts_in s) z; decoded = λ w. read.decoded none }
 
-        last : fault s ≡ pick (conjunct_defined (axioms_of s)) 15 0
-        unfolding fault
-        last = rw (fault, h, ← read.fault, none)
+-- what a release that was read is
+module _ {s : List ℕ} {t : List table.Row} where
+  pub is_release : {c : Counts} → ReleaseRead s t (Ok c) → Release s t
+  unfolding checked
+  is_release {c} read = let z = is_accepted 1 (fault s) (counts_in s) c read.answer in record { accepted = z.0; decoded = read.decoded z.0 }
 
-        pub refuses_15 : (b : Bool) → Tells b (SomePartDefined (names_of s) s t) → b ≡ true → (r : Checked) → r ≡ Refused (record { number = 15; side = 1 }) → ReleaseRead s t r
-        refuses_15 b told e r i = refuses 15 (last ∙ rw (← conjunct b told, e)) (λ z. omega arith) r i
+  pub counts_are : {c : Counts} → ReleaseRead s t (Ok c) → c ≡ counts_in s
+  unfolding checked
+  counts_are {c} read = (is_accepted 1 (fault s) (counts_in s) c read.answer).1
 
-        pub accepts : (b : Bool) → Tells b (SomePartDefined (names_of s) s t) → b ≡ false → ReleaseRead s t (Accepted (record { names = names_of s; roles = roles_of s; axioms = count_of s }))
-        unfolding checked
-        accepts b told e = let z : fault s ≡ 0 = last ∙ rw (← conjunct b told, e) in record { answer = rw z; decoded = λ w. read.decoded none }
+  pub not_accepted : {e : FileRefusal} → ReleaseRead s t (Err e) → accepted s ≡ false
+  unfolding checked
+  not_accepted {e} read = let z = is_refused 1 (fault s) (counts_in s) (file_refusal e) read.answer in ne_eqb (fault s) 0 (λ w. omega (arith, w, z.1))

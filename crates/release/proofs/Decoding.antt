@@ -13,24 +13,31 @@ use Rattle.el.specs.Axioms.{Axiom, is_conjunction, parts_of}
 use Rattle.release.specs.Files.{number, numbers, width_of, first_place, joins, restricts, axiom_length, axioms_fault, axiom_at, axioms_from, first_of, filler_node}
 use Rattle.release.specs.Tables.{kind_at, role_at, filler_at, tail_at, count_at, part_at, Stands, here, there, Row, entry_at, blank, of_axiom, Decoded, Shaped}
 use Rattle.release.specs.Entries.{node_number, entry_of}
-use Rattle.release.proofs.Sound.{Sound, axiom_sound, Tail, joined, restricted, Joined}
+use Rattle.release.proofs.Sound.{Sound, axiom_sound, Tail, joined, restricted, Joined, tail_kind}
+use Rattle.release.specs.Kinds.{kind_number, kind_of_byte}
+use Rattle.release.specs.declared.table.Row as table
 use Rattle.release.proofs.Faults.{restricts_not_joins}
+use Rattle.release.proofs.KindNumbers.{number_of_byte, joins_of_byte}
 use Rattle.release.proofs.Scan.{filler_node_lem}
 
 -- a row by the file's bytes
-pub record Holds (n : ℕ) (s t : List ℕ) (q : ℕ) : Type 0 where
-  pub kind : kind_at t (number (width_of s) s q) ≡ get_or s (q + width_of s) 0
+pub record Holds (n : ℕ) (s : List ℕ) (t : List table.Row) (q : ℕ) : Type 0 where
+  pub kind : kind_at t (number (width_of s) s q) ≡ kind_number (kind_of_byte (get_or s (q + width_of s) 0))
   pub tail : tail_at t (number (width_of s) s q) ≡ q + width_of s + 1
   pub role : joins (get_or s (q + width_of s) 0) ≡ false → role_at t (number (width_of s) s q) ≡ get_or s (q + width_of s + 1) 0
   pub filler : joins (get_or s (q + width_of s) 0) ≡ false → filler_at t (number (width_of s) s q) ≡ node_number n (filler_node (width_of s) (number (width_of s) s (q + width_of s + 1 + 1)))
 
-row_holds : (n : ℕ) (s t : List ℕ) (q : ℕ) → Row t (entry_at n s q) → Holds n s t q
+row_holds : (n : ℕ) (s : List ℕ) (t : List table.Row) (q : ℕ) → Row t (entry_at n s q) → Holds n s t q
 unfolding entry_at entry_of
-row_holds n s t q h = by_kind (joins (get_or s (q + width_of s) 0)) refl
+row_holds n s t q h = by_kind (joins (kind_number (kind_of_byte (get_or s (q + width_of s) 0)))) refl
   where
-    by_kind : (b : Bool) → joins (get_or s (q + width_of s) 0) ≡ b → Holds n s t q
-    by_kind true e = let r : Row t (entry_at n s q) = h in record
-        { kind = rw (e, entry_of) at r.kind; tail = rw (e, entry_of) at r.tail; role = λ z. absurd (true≢false (sym e ∙ z)); filler = λ z. absurd (true≢false (sym e ∙ z)) }
+    by_kind : (b : Bool) → joins (kind_number (kind_of_byte (get_or s (q + width_of s) 0))) ≡ b → Holds n s t q
+    by_kind true e = let r : Row t (entry_at n s q) = h in record {
+      kind = rw (e, entry_of) at r.kind;
+      tail = rw (e, entry_of) at r.tail;
+      role = λ z. absurd (true≢false (sym e ∙ (joins_of_byte (get_or s (q + width_of s) 0) ∙ z)));
+      filler = λ z. absurd (true≢false (sym e ∙ (joins_of_byte (get_or s (q + width_of s) 0) ∙ z)));
+    }
     by_kind false e = let r : Row t (entry_at n s q) = h in record
         { kind = rw (e, entry_of) at r.kind; tail = rw (e, entry_of) at r.tail; role = λ z. rw (e, entry_of) at r.role; filler = λ z. rw (e, entry_of) at r.filler }
 
@@ -48,7 +55,7 @@ stands_sound n m (suc c) least s p q h (there i) = let z = both_none _ _ h in le
     z.1 i in (r.0, omega (arith, r.1, (axiom_sound (width_of s) n m least s p z.0).rises))
 
 -- the conjuncts of the axiom at q, in the table and in the file
-module _ {n c : ℕ} {s t : List ℕ} (d : Decoded n c s t) where
+module _ {n c : ℕ} {s : List ℕ} {t : List table.Row} (d : Decoded n c s t) where
   pub holds : {q : ℕ} → Stands c s (first_place s) q → Holds n s t q
   holds {q} i = row_holds n s t q (d.row q i)
 
@@ -61,15 +68,19 @@ module _ {n c : ℕ} {s t : List ℕ} (d : Decoded n c s t) where
   part_is {q} i j = rw (holds i).tail
 
 -- the ranges
-module _ (m : ℕ) {n c : ℕ} {s t : List ℕ} (d : Decoded n c s t) (none : axioms_fault (width_of s) n m c 0 s (first_place s) ≡ 0) where
+module _ (m : ℕ) {n c : ℕ} {s : List ℕ} {t : List table.Row} (d : Decoded n c s t) (none : axioms_fault (width_of s) n m c 0 s (first_place s) ≡ 0) where
   pub sound : {q : ℕ} → Stands c s (first_place s) q → Sound (width_of s) n m 0 s q
   sound {q} i = (stands_sound n m c 0 s (first_place s) q none i).0
+
+  -- a row's kind, by the kind byte
+  pub kind_is : {q : ℕ} → Stands c s (first_place s) q → kind_at t (number (width_of s) s q) ≡ get_or s (q + width_of s) 0
+  kind_is {q} i = (holds d i).kind ∙ number_of_byte (get_or s (q + width_of s) 0) (tail_kind (sound i).tail)
 
   shaped_filler : {q : ℕ} → Stands c s (first_place s) q → restricts (kind_at t (number (width_of s) s q)) ≡ true → filler_at t (number (width_of s) s q) ≤ n
   shaped_filler {q} i e = by_tail (sound i).tail
     where
       by_tail : Tail (width_of s) n m (get_or s (q + width_of s) 0) s (q + width_of s + 1) → filler_at t (number (width_of s) s q) ≤ n
-      by_tail (joined j k) = absurd (true≢false (sym j ∙ restricts_not_joins (get_or s (q + width_of s) 0) (rw (holds d i).kind at e)))
+      by_tail (joined j k) = absurd (true≢false (sym j ∙ restricts_not_joins (get_or s (q + width_of s) 0) (rw (kind_is i) at e)))
       by_tail (restricted j r k) = rw ((holds d i).filler j) (filler_node_lem (width_of s) n (number (width_of s) s (q + width_of s + 1 + 1)) k.filler)
 
   pub conjuncts : {q : ℕ} → Stands c s (first_place s) q → joins (kind_at t (number (width_of s) s q)) ≡ true → Joined (width_of s) n s (q + width_of s + 1)
@@ -77,7 +88,7 @@ module _ (m : ℕ) {n c : ℕ} {s t : List ℕ} (d : Decoded n c s t) (none : ax
     where
       by_tail : Tail (width_of s) n m (get_or s (q + width_of s) 0) s (q + width_of s + 1) → Joined (width_of s) n s (q + width_of s + 1)
       by_tail (joined j k) = k
-      by_tail (restricted j r k) = absurd (true≢false (sym (rw (holds d i).kind at e) ∙ j))
+      by_tail (restricted j r k) = absurd (true≢false (sym (rw (kind_is i) at e) ∙ j))
 
   shaped_inside : {q : ℕ} → Stands c s (first_place s) q → joins (kind_at t (number (width_of s) s q)) ≡ true
       → tail_at t (number (width_of s) s q) + 1 + width_of s * count_at s t (number (width_of s) s q) ≤ length s

@@ -36,9 +36,9 @@ module _ (w n k least : ℕ) (s : List ℕ) (p : ℕ) (more : 0 < k) where
       unfolding parts_fault
       parts_13 h = one_more ∙ simp (parts_fault, ← e, le-ltb _ _ within, lt-leb _ _ small, lt-ltb _ _ h)
 
-      pub parts_next : least ≤ x → parts_fault w n k least s p ≡ parts_fault w n (k - 1) (x + 1) s (p + w)
+      pub parts_next : least ≤ x → (j : ℕ) → k ≡ suc j → parts_fault w n k least s p ≡ parts_fault w n j (x + 1) s (p + w)
       unfolding parts_fault
-      parts_next h = one_more ∙ simp (parts_fault, ← e, le-ltb _ _ within, lt-leb _ _ small, le-ltb _ _ h, add-one)
+      parts_next h j i = rw i (simp (parts_fault, ← e, le-ltb _ _ within, lt-leb _ _ small, le-ltb _ _ h, add-one))
 
 -- the tails: a conjunction's
 module _ (w n : ℕ) (s : List ℕ) (p : ℕ) where
@@ -98,20 +98,6 @@ pub no_filler : (w n b : ℕ) → n ≤ b → (b ≡ top_number w → ⊥) → i
 no_filler w n b h d = simp (le-ltb _ _ h, ne_eqb _ _ d)
 
 -- the kinds
-pub kind_joins : (k : ℕ) → 1 ≤ k → k < 3 → joins k ≡ true
-kind_joins zero h l = absurd (omega arith)
-kind_joins (suc zero) h l = refl
-kind_joins (suc (suc zero)) h l = refl
-kind_joins (suc (suc (suc k))) h l = absurd (omega arith)
-
-pub kind_restricts : (k : ℕ) → 3 ≤ k → k < 5 → restricts k ≡ true
-kind_restricts zero h l = absurd (omega arith)
-kind_restricts (suc zero) h l = absurd (omega arith)
-kind_restricts (suc (suc zero)) h l = absurd (omega arith)
-kind_restricts (suc (suc (suc zero))) h l = refl
-kind_restricts (suc (suc (suc (suc zero)))) h l = refl
-kind_restricts (suc (suc (suc (suc (suc k))))) h l = absurd (omega arith)
-
 restricts_least : (k : ℕ) → restricts k ≡ true → 3 ≤ k
 restricts_least zero h = absurd (false≢true h)
 restricts_least (suc zero) h = absurd (false≢true h)

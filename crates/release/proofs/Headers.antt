@@ -1,78 +1,92 @@
--- Laws of the header's refusals, 1 to 6, in their order.
-use mathlib.Core.Path.{◌≡◌, refl, ap₂, ◌∙◌}
-use mathlib.Core.Bool.{true, false, ◌&&◌, not}
-use mathlib.Core.List.{List}
-use Prim.Native.Nat.{ℕ, suc, ◌+◌, ◌≤◌, ◌<◌}
-use native.Mathlib.Numerals.{add-one}
-use borrow.Author.Tests.{lt-ltb, le-ltb, eq-eqb, ne_eqb}
+-- Laws of the header's refusals, 1 to 6, in their order: each has as premises what the code has tested when it answers.
+use mathlib.Core.Path.{◌≡◌, refl, sym, ap₂, ◌∙◌}
+use mathlib.Core.Bool.{Bool, true, false, ◌&&◌}
+use mathlib.Core.List.{List, [], ◌∷◌}
+use Prim.Native.Nat.{ℕ, ◌≤◌, ◌<◌}
+use borrow.Author.Tests.{lt-ltb, le-ltb, ne_eqb}
 use lib.Dec.{eqb}
-use lib.ListN.{length, get_or, drop, drop_of_length-le}
-use lib.Seq.{drop-cons}
-use Rattle.release.specs.Files.{mark, starts_with, is_version, version_of, width_of, names_of, roles_of, count_of, header_length, first_place, most_names_of, most_roles, header_fault}
+use lib.ListN.{length, take}
+use native.Mathlib.Decide.{ℕ_discrete}
+use Rattle.std.specs.Cmp.Lexicographic.{pointwise}
+use Rattle.release.specs.declared.number.Version.{Version}
+use Rattle.release.specs.declared.number.Version.TheVariants.{One, Two}
+use Rattle.release.specs.Tables.{HasHeader}
+use Rattle.release.specs.Versions.{width}
+use Rattle.release.proofs.Numbers.{version_1_width, version_2_width}
+use Rattle.release.specs.Files.{mark, starts_with, is_version, version_of, width_of, names_of, roles_of, count_of, header_length, most_names_of, most_roles, header_fault}
 
--- the mark, byte by byte
-pub record Marked (xs s : List ℕ) (i : ℕ) : Type 0 where
-  pub rest : starts_with xs s ≡ starts_with (drop i xs) (drop i s)
+-- the mark, as the library tests it
+pub starts_same : (xs s : List ℕ) → pointwise eqb xs (take (length xs) s) ≡ starts_with xs s
+starts_same [] s = refl
+starts_same (x ∷ xs) [] = refl
+starts_same (x ∷ xs) (y ∷ s) = ap₂ ◌&&◌ (same_test x y) (starts_same xs s)
+  where
+    same_test : (x y : ℕ) → eqb x y ≡ eqb y x
+    same_test x y = elim (ℕ_discrete x y) [ yes e ↦ rw e | no d ↦ ne_eqb x y d ∙ sym (ne_eqb y x (λ e. d (sym e))) ]
 
-pub mark_start : (xs s : List ℕ) → Marked xs s 0
-mark_start xs s = record { rest = refl }
-
-module _ (xs s : List ℕ) (i : ℕ) (h : Marked xs s i) where
-  pub mark_end : length xs ≤ i → false ≡ not (starts_with xs s)
-  mark_end l = let e : starts_with xs s ≡ true = h.rest ∙ rw (drop_of_length-le xs l) in rw e
-
-  module _ (l : i < length xs) (k : i < length s) where
-    opened : starts_with xs s ≡ (eqb (get_or s i 0) (get_or xs i 0) && starts_with (drop (suc i) xs) (drop (suc i) s))
-    opened = h.rest ∙ ap₂ starts_with (drop-cons xs i 0 l) (drop-cons s i 0 k)
-
-    pub mark_differs : (get_or s i 0 ≡ get_or xs i 0 → ⊥) → true ≡ not (starts_with xs s)
-    mark_differs d = let e : starts_with xs s ≡ false = opened ∙ rw (ne_eqb _ _ d) in rw e
-
-    pub mark_next : get_or s i 0 ≡ get_or xs i 0 → Marked xs s (i + 1)
-    mark_next e = record { rest = rw add-one (opened ∙ rw (eq-eqb _ _ e)) }
+pub marked : (s : List ℕ) {b c : Bool} → b ≡ pointwise eqb mark (take (length mark) s) → b ≡ c → starts_with mark s ≡ c
+marked s h e = sym (starts_same mark s) ∙ (sym h ∙ e)
 
 -- the version
-pub version_1 : (v : ℕ) → v ≡ 1 → false ≡ not (is_version v)
-version_1 v e = rw e
+version_known : (s : List ℕ) (v : Version) → width v ≡ version_of s → is_version (version_of s) ≡ true
+version_known s One e = rw (← e)
+version_known s Two e = rw (← e)
 
-pub version_known : (v : ℕ) → (v ≡ 1 → ⊥) → not (eqb v 2) ≡ not (is_version v)
-version_known v d = simp (ne_eqb _ _ d)
+version_width : (s : List ℕ) (v : Version) → width v ≡ version_of s → width_of s ≡ width v
+version_width s One e = version_1_width s (sym e)
+version_width s Two e = version_2_width s (sym e)
 
-module _ (s : List ℕ) where
-  pub header_1 : length s < header_length 1 → header_fault s ≡ 1
+pub header_1 : (s : List ℕ) → length s < header_length 1 → header_fault s ≡ 1
+unfolding header_fault
+header_1 s h = simp (header_fault, lt-ltb _ _ h)
+
+module _ (s : List ℕ) (long : header_length 1 ≤ length s) where
+  pub header_2 : starts_with mark s ≡ false → header_fault s ≡ 2
   unfolding header_fault
-  header_1 h = simp (header_fault, lt-ltb _ _ h)
+  header_2 h = simp (header_fault, le-ltb _ _ long, h)
 
-  module _ (long : header_length 1 ≤ length s) where
-    pub header_2 : not (starts_with mark s) ≡ true → header_fault s ≡ 2
+  pub header_3 : starts_with mark s ≡ true → is_version (version_of s) ≡ false → header_fault s ≡ 3
+  unfolding header_fault
+  header_3 m h = simp (header_fault, le-ltb _ _ long, m, h)
+
+-- a file that starts with the mark and a version
+pub record Started (s : List ℕ) (v : Version) : Type 0 where
+  pub long : header_length 1 ≤ length s
+  pub marked : starts_with mark s ≡ true
+  pub version : width v ≡ version_of s
+
+pub started : (s : List ℕ) (v : Version) {b : Bool} {k : ℕ} → header_length 1 ≤ length s → b ≡ pointwise eqb mark (take (length mark) s) → b ≡ true → k ≡ version_of s → width v ≡ k → Started s v
+started s v l h e i j = record { long = l; marked = marked s h e; version = j ∙ i }
+
+module _ (s : List ℕ) (v : Version) (h : Started s v) where
+  known : is_version (version_of s) ≡ true
+  known = version_known s v h.version
+
+  pub width_is : width_of s ≡ width v
+  width_is = version_width s v h.version
+
+  pub header_short : length s < header_length (width v) → header_fault s ≡ 1
+  unfolding header_fault
+  header_short l = simp (header_fault, le-ltb _ _ h.long, h.marked, known, width_is, lt-ltb _ _ l)
+
+  module _ (whole : header_length (width v) ≤ length s) where
+    pub has_header : HasHeader (width v) s
+    has_header = record { is = sym width_is; inside = whole }
+
+    pub header_4 : most_names_of (width v) < names_of s → header_fault s ≡ 4
     unfolding header_fault
-    header_2 h = simp (header_fault, le-ltb _ _ long, h)
+    header_4 l = simp (header_fault, le-ltb _ _ h.long, h.marked, known, width_is, le-ltb _ _ whole, lt-ltb _ _ l)
 
-    module _ (marked : not (starts_with mark s) ≡ false) where
-      pub header_3 : not (is_version (version_of s)) ≡ true → header_fault s ≡ 3
+    module _ (names : names_of s ≤ most_names_of (width v)) where
+      pub header_5 : most_roles < roles_of s → header_fault s ≡ 5
       unfolding header_fault
-      header_3 h = simp (header_fault, le-ltb _ _ long, marked, h)
+      header_5 l = simp (header_fault, le-ltb _ _ h.long, h.marked, known, width_is, le-ltb _ _ whole, le-ltb _ _ names, lt-ltb _ _ l)
 
-      module _ (version : not (is_version (version_of s)) ≡ false) where
-        pub header_short : length s < first_place s → header_fault s ≡ 1
+      module _ (roles : roles_of s ≤ most_roles) where
+        pub header_6 : names_of s < count_of s → header_fault s ≡ 6
         unfolding header_fault
-        header_short h = simp (header_fault, le-ltb _ _ long, marked, version, lt-ltb _ _ h)
+        header_6 l = simp (header_fault, le-ltb _ _ h.long, h.marked, known, width_is, le-ltb _ _ whole, le-ltb _ _ names, le-ltb _ _ roles, lt-ltb _ _ l)
 
-        module _ (whole : first_place s ≤ length s) where
-          pub header_4 : most_names_of (width_of s) < names_of s → header_fault s ≡ 4
-          unfolding header_fault
-          header_4 h = simp (header_fault, le-ltb _ _ long, marked, version, le-ltb _ _ whole, lt-ltb _ _ h)
-
-          module _ (names : names_of s ≤ most_names_of (width_of s)) where
-            pub header_5 : most_roles < roles_of s → header_fault s ≡ 5
-            unfolding header_fault
-            header_5 h = simp (header_fault, le-ltb _ _ long, marked, version, le-ltb _ _ whole, le-ltb _ _ names, lt-ltb _ _ h)
-
-            module _ (roles : roles_of s ≤ most_roles) where
-              pub header_6 : names_of s < count_of s → header_fault s ≡ 6
-              unfolding header_fault
-              header_6 h = simp (header_fault, le-ltb _ _ long, marked, version, le-ltb _ _ whole, le-ltb _ _ names, le-ltb _ _ roles, lt-ltb _ _ h)
-
-              pub header_none : count_of s ≤ names_of s → header_fault s ≡ 0
-              unfolding header_fault
-              header_none h = simp (header_fault, le-ltb _ _ long, marked, version, le-ltb _ _ whole, le-ltb _ _ names, le-ltb _ _ roles, le-ltb _ _ h)
+        pub header_none : count_of s ≤ names_of s → header_fault s ≡ 0
+        unfolding header_fault
+        header_none l = simp (header_fault, le-ltb _ _ h.long, h.marked, known, width_is, le-ltb _ _ whole, le-ltb _ _ names, le-ltb _ _ roles, le-ltb _ _ l)

@@ -1,7 +1,9 @@
 -- Laws of the release file's definitions.
+pub mod Refusing
 pub mod Numbers
 pub mod Headers
 pub mod Faults
+pub mod KindNumbers
 pub mod Readings
 pub mod Sound
 pub mod Rows

@@ -21,9 +21,10 @@ use Rattle.release.specs.Files.{number, width_of, first_place, names_of, roles_o
 use Rattle.release.specs.Files.{axioms_fault, axiom_length, axiom_at, axioms_of, conjunct_defined, fault, first_of, kind_of}
 use Rattle.release.specs.Tables.{kind_at, Stands, here, there, blank, of_axiom, Shaped, Release, AxiomRow, NameRow, no_axiom, has_axiom}
 use Rattle.release.specs.Entries.{node_number}
-use Rattle.release.proofs.Sound.{Sound, Tail, joined, restricted}
+use Rattle.release.specs.declared.table.Row as table
+use Rattle.release.proofs.Sound.{Sound, Tail, joined, restricted, tail_kind}
 use Rattle.release.proofs.Faults.{no_kind}
-use Rattle.release.proofs.Decoding.{holds, count_is, stands_sound, both_none, shaped, in_stands, stands_in, axiom_joins, axiom_parts, axiom_no_parts}
+use Rattle.release.proofs.Decoding.{holds, kind_is, count_is, stands_sound, both_none, shaped, in_stands, stands_in, axiom_joins, axiom_parts, axiom_no_parts}
 use Rattle.release.proofs.NormalForm.{tells_listed}
 use Rattle.release.proofs.Numbers.{numbers_at}
 use Rattle.release.proofs.Checks.{header_sound}
@@ -79,25 +80,21 @@ module _ (w : ℕ) (s : List ℕ) (q : ℕ) where
   axiom_defined = refl
 
 -- the kind byte of an axiom without fault says its form
-kind_is : (k : ℕ) → (joins k ≡ true) ⊎ (restricts k ≡ true) → k ≡ pick (joins k) (pick (defines k) 2 1) (pick (defines k) 4 3)
-kind_is zero (inl e) = absurd (false≢true e)
-kind_is zero (inr e) = absurd (false≢true e)
-kind_is (suc zero) e = refl
-kind_is (suc (suc zero)) e = refl
-kind_is (suc (suc (suc zero))) e = refl
-kind_is (suc (suc (suc (suc zero)))) e = refl
-kind_is (suc (suc (suc (suc (suc k))))) (inl e) = absurd (true≢false (sym e ∙ (no_kind (suc (suc (suc (suc (suc k))))) (inr (omega arith))).0))
-kind_is (suc (suc (suc (suc (suc k))))) (inr e) = absurd (true≢false (sym e ∙ (no_kind (suc (suc (suc (suc (suc k))))) (inr (omega arith))).1))
-
-pub tail_kind : {w n m kind : ℕ} {s : List ℕ} {p : ℕ} → Tail w n m kind s p → (joins kind ≡ true) ⊎ (restricts kind ≡ true)
-tail_kind (joined e j) = inl e
-tail_kind (restricted e f r) = inr f
+form_is : (k : ℕ) → (joins k ≡ true) ⊎ (restricts k ≡ true) → k ≡ pick (joins k) (pick (defines k) 2 1) (pick (defines k) 4 3)
+form_is zero (inl e) = absurd (false≢true e)
+form_is zero (inr e) = absurd (false≢true e)
+form_is (suc zero) e = refl
+form_is (suc (suc zero)) e = refl
+form_is (suc (suc (suc zero))) e = refl
+form_is (suc (suc (suc (suc zero)))) e = refl
+form_is (suc (suc (suc (suc (suc k))))) (inl e) = absurd (true≢false (sym e ∙ (no_kind (suc (suc (suc (suc (suc k))))) (inr (omega arith))).0))
+form_is (suc (suc (suc (suc (suc k))))) (inr e) = absurd (true≢false (sym e ∙ (no_kind (suc (suc (suc (suc (suc k))))) (inr (omega arith))).1))
 
 pub axiom_kind : {n m : ℕ} (w : ℕ) (s : List ℕ) (q : ℕ) → Tail w n m (get_or s (q + w) 0) s (q + w + 1) → get_or s (q + w) 0 ≡ kind_of (axiom_at w s q)
-axiom_kind w s q t = kind_is (get_or s (q + w) 0) (tail_kind t) ∙ rw (axiom_joins w s q, axiom_defined w s q)
+axiom_kind w s q t = form_is (get_or s (q + w) 0) (tail_kind t) ∙ rw (axiom_joins w s q, axiom_defined w s q)
 
 -- the table
-module _ {s t : List ℕ} (r : Release s t) where
+module _ {s : List ℕ} {t : List table.Row} (r : Release s t) where
   abbrev n : ℕ
   n = names_of s
 
@@ -109,7 +106,7 @@ module _ {s t : List ℕ} (r : Release s t) where
       let h = holds r.decoded i in
       let l = axiom_left (width_of s) s q in
       record {
-        kind = ap (kind_at t) l ∙ (h.kind ∙ axiom_kind (width_of s) s q (sound_at s r.accepted i).tail);
+        kind = ap (kind_at t) l ∙ (kind_is (roles_of s) r.decoded (no_axiom_fault s r.accepted) i ∙ axiom_kind (width_of s) s q (sound_at s r.accepted i).tail);
         parts = λ e. axiom_parts (width_of s) s q (sym (axiom_joins (width_of s) s q) ∙ e) ∙ rw (l, count_is r.decoded i, h.tail);
         role = λ e. let j = sym (axiom_joins (width_of s) s q) ∙ e in rw l (h.role j) ∙ sym (axiom_role (width_of s) s q j);
         filler = λ e. let j = sym (axiom_joins (width_of s) s q) ∙ e in rw l (h.filler j) ∙ sym (ap (node_number n) (axiom_filler (width_of s) s q j));

@@ -11,8 +11,9 @@ use Rattle.el.proofs.Lists.{Some}
 use Rattle.el.proofs.Tests.{Tells, tells_true, tells_eq, tells_and, tells_any}
 use Rattle.release.specs.Files.{number, width_of, first_place, joins, defines, axioms_fault, axiom_at, axioms_from, conjunct_defined}
 use Rattle.release.specs.Tables.{kind_at, count_at, part_at, Stands, blank, of_axiom, Decoded, PartDefined, SomePartDefined}
+use Rattle.release.specs.declared.table.Row as table
 use Rattle.release.proofs.Faults.{high_not_joins}
-use Rattle.release.proofs.Decoding.{holds, count_is, part_is, sound, shaped, stands_in, in_stands, axiom_joins, axiom_parts, axiom_no_parts}
+use Rattle.release.proofs.Decoding.{kind_is, count_is, part_is, sound, shaped, stands_in, in_stands, axiom_joins, axiom_parts, axiom_no_parts}
 use Rattle.release.proofs.Numbers.{in_numbers, numbers_at}
 
 -- the two tests that say kind 2
@@ -42,11 +43,11 @@ unfolding conjunct_defined
 tells_listed al = tells_any _ al (λ a _. tells_any _ (parts_of a)
     (λ x _. tells_any _ al (λ b _. tells_and (tells_eq b.left x) (λ _. tells_and (tells_true b.defined) (λ _. tells_true (is_conjunction b))))))
 
-module _ (m : ℕ) {n c : ℕ} {s t : List ℕ} (d : Decoded n c s t) (none : axioms_fault (width_of s) n m c 0 s (first_place s) ≡ 0) (long : first_place s ≤ length s) where
+module _ (m : ℕ) {n c : ℕ} {s : List ℕ} {t : List table.Row} (d : Decoded n c s t) (none : axioms_fault (width_of s) n m c 0 s (first_place s) ≡ 0) (long : first_place s ≤ length s) where
   -- from the table to the axioms
   part_in : {q : ℕ} → Stands c s (first_place s) q → joins (kind_at t (number (width_of s) s q)) ≡ true → (j : ℕ) → j < count_at s t (number (width_of s) s q)
       → In (parts_of (axiom_at (width_of s) s q)) (part_at s t (number (width_of s) s q) j)
-  part_in {q} i e j l = rw (axiom_parts (width_of s) s q (rw (holds d i).kind at e), part_is d i j) (in_numbers (width_of s) _ s _ j (omega (arith, l, count_is d i)))
+  part_in {q} i e j l = rw (axiom_parts (width_of s) s q (rw (kind_is m d none i) at e), part_is d i j) (in_numbers (width_of s) _ s _ j (omega (arith, l, count_is d i)))
 
   listed_of : {q : ℕ} → Stands c s (first_place s) q → joins (kind_at t (number (width_of s) s q)) ≡ true → PartDefined s t (number (width_of s) s q) → Listed (axioms_from c s (first_place s))
   listed_of {q} i e w =
@@ -59,7 +60,7 @@ module _ (m : ℕ) {n c : ℕ} {s t : List ℕ} (d : Decoded n c s t) (none : ax
           holds = record {
             it = x;
             member = part_in i e w.at w.among;
-            holds = record { it = axiom_at (width_of s) s p; member = stands_in k; holds = defines_2 s p x z (sym (holds d k).kind ∙ (ap (kind_at t) z ∙ w.is_defined)) };
+            holds = record { it = axiom_at (width_of s) s p; member = stands_in k; holds = defines_2 s p x z (sym (kind_is m d none k) ∙ (ap (kind_at t) z ∙ w.is_defined)) };
           };
         }
       ]
@@ -87,8 +88,8 @@ module _ (m : ℕ) {n c : ℕ} {s t : List ℕ} (d : Decoded n c s t) (none : ax
       record {
         left = number (width_of s) s q;
         is_name = (sound m d none i).left;
-        is_conjunctive = rw (holds d i).kind e;
-        part = record { at = r.place; among = rw (count_is d i) r.small; is_defined = ap (kind_at t) z ∙ ((holds d k).kind ∙ y.1) };
+        is_conjunctive = rw (kind_is m d none i) e;
+        part = record { at = r.place; among = rw (count_is d i) r.small; is_defined = ap (kind_at t) z ∙ (kind_is m d none k ∙ y.1) };
       }
 
   from_listed : Listed (axioms_from c s (first_place s)) → SomePartDefined n s t

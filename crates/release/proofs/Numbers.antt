@@ -14,7 +14,6 @@ use lib.Dec.{eqb}
 use lib.ListN.{get_or}
 use Rattle.el.specs.Lists.{In, first, later, pick}
 use Rattle.release.specs.Files.{number, numbers, version_of, width_of, most_names, most_names_of, most_conjuncts, IsWidth}
-use Rattle.release.specs.Tables.{tail_at, HasNumber, HasHeader, HasPart}
 
 -- the width
 pub is_width : (s : List ℕ) → IsWidth (width_of s)
@@ -32,14 +31,6 @@ width_1 s e = simp (width_of, eq-eqb _ _ e)
 pub width_2 : (s : List ℕ) → (get_or s 3 0 ≡ 1 → ⊥) → 2 ≡ width_of s
 unfolding width_of
 width_2 s d = simp (width_of, ne_eqb _ _ d)
-
--- a number of the header lies in the file
-pub header_number : (w : ℕ) (s : List ℕ) (p : ℕ) → HasHeader w s → p ≤ 6 + w → HasNumber w s p
-header_number w s p h l = record { width = rw h.is (is_width s); inside = omega (arith, h.inside) }
-
--- and so does a conjunct
-pub part_number : (s t : List ℕ) (x i : ℕ) → HasPart s t x i → (w tail : ℕ) → w ≡ width_of s → tail ≡ tail_at t x → HasNumber w s (tail + 1 + w * i)
-part_number s t x i h w tail e f = rw (e, f) (record { width = is_width s; inside = h.inside })
 
 pub limit_within : (w : ℕ) → most_names_of w ≤ most_names
 limit_within w = by_test (eqb w 1)
@@ -64,8 +55,8 @@ module _ (w : ℕ) (s : List ℕ) (p : ℕ) where
   pub number_narrow : w ≡ 1 → (x : ℕ) → x ≡ get_or s p 0 → x ≡ number w s p
   number_narrow e x h = rw e (h ∙ sym (one_byte s p))
 
-  pub number_wide : IsWidth w → (w ≡ 1 → ⊥) → (x y : ℕ) → x ≡ get_or s p 0 → y ≡ get_or s (p + 1) 0 → x + 256 * y ≡ number w s p
-  number_wide h d x y e f = let z : w ≡ 2 = omega arith in rw z (omega (arith, two_bytes s p))
+  pub number_wide : w ≡ 2 → (x y : ℕ) → x ≡ get_or s p 0 → y ≡ get_or s (p + 1) 0 → x + 256 * y ≡ number w s p
+  number_wide h x y e f = rw h (omega (arith, two_bytes s p))
 
 -- the width by the version
 pub version_1_width : (s : List ℕ) → version_of s ≡ 1 → width_of s ≡ 1

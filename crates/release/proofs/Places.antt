@@ -11,18 +11,15 @@ use lib.ListN.{length, get_or, take, drop}
 use denote.Ref.{Bor}
 use Rattle.el.specs.Lists.{pick}
 use Rattle.el.proofs.Tests.{which}
-use Rattle.release.specs.declared.Checked.{Checked}
-use Rattle.release.specs.declared.Checked.TheVariants.{Accepted, Refused}
-use Rattle.release.specs.declared.Counts.{Counts}
-use Rattle.release.specs.declared.Refusal.{Refusal}
 use Rattle.release.specs.declared.show.Place.{Place}
-use Rattle.release.specs.Files.{number, width_of, first_place, names_of, roles_of, count_of, joins, axiom_length, axiom_fault, axioms_fault, restricts, fault, accepted}
-use Rattle.release.specs.Readings.{checked, checked_by}
-use Rattle.release.specs.Tables.{kind_at, tail_at, count_at, Stands, here, there, blank, of_axiom, HasRow, HasCount, Release, ReleaseRead}
+use Rattle.release.specs.declared.table.Row as table
+use Rattle.release.specs.Files.{number, width_of, first_place, names_of, roles_of, count_of, joins, axiom_length, axiom_fault, axioms_fault, restricts, most_conjuncts, fault, accepted}
+use Rattle.release.specs.Tables.{kind_at, tail_at, count_at, Stands, here, there, blank, of_axiom, HasRow, HasCount, Release}
 use Rattle.release.specs.Shown.{nowhere, place_from, place_in, shown_place, holder}
-use Rattle.release.proofs.Sound.{axiom_sound, tail_within}
-use Rattle.release.proofs.Decoding.{holds, count_is, both_none}
-use Rattle.release.proofs.Linked.{no_axiom_fault, sound_at, tail_kind, ranges, rises}
+use Rattle.release.proofs.Numbers.{is_width, few_bytes}
+use Rattle.release.proofs.Sound.{axiom_sound, tail_within, tail_kind}
+use Rattle.release.proofs.Decoding.{holds, kind_is, count_is, conjuncts, both_none}
+use Rattle.release.proofs.Linked.{no_axiom_fault, sound_at, ranges, rises}
 
 later_none : (s : List ℕ) (c least p : ℕ) → axioms_fault (width_of s) (names_of s) (roles_of s) (suc c) least s p ≡ 0
     → (axiom_fault (width_of s) (names_of s) (roles_of s) least s p ≡ 0)
@@ -70,10 +67,13 @@ no_kind_0 : (k : ℕ) → k ≡ 0 → (joins k ≡ true) ⊎ (restricts k ≡ tr
 no_kind_0 k e (inl h) = false≢true (rw e at h)
 no_kind_0 k e (inr h) = false≢true (rw e at h)
 
-pub version_within : {s t : List ℕ} → Release s t → 3 < length s
+row_kind : {s : List ℕ} {t : List table.Row} (r : Release s t) {q : ℕ} → Stands (count_of s) s (first_place s) q → kind_at t (number (width_of s) s q) ≡ get_or s (q + width_of s) 0
+row_kind {s} r i = kind_is (roles_of s) r.decoded (no_axiom_fault s r.accepted) i
+
+pub version_within : {s : List ℕ} {t : List table.Row} → Release s t → 3 < length s
 version_within r = (ranges r).version
 
-module _ {s t : List ℕ} (r : Release s t) (side x : ℕ) where
+module _ {s : List ℕ} {t : List table.Row} (r : Release s t) (side x : ℕ) where
   pub place_outside : names_of s ≤ x → nowhere ≡ place_in side s x
   place_outside l = sym (place_none s side (count_of s) (first_place s) x (λ q i e. omega (arith, (sound_at s r.accepted i).left)))
 
@@ -83,7 +83,7 @@ module _ {s t : List ℕ} (r : Release s t) (side x : ℕ) where
 
     pub place_blank : kind_at t x ≡ 0 → nowhere ≡ place_in side s x
     place_blank z = sym (place_none s side (count_of s) (first_place s) x
-        (λ q i e. no_kind_0 (get_or s (q + width_of s) 0) (sym (holds r.decoded i).kind ∙ (ap (kind_at t) e ∙ z)) (tail_kind (sound_at s r.accepted i).tail)))
+        (λ q i e. no_kind_0 (get_or s (q + width_of s) 0) (sym (row_kind r i) ∙ (ap (kind_at t) e ∙ z)) (tail_kind (sound_at s r.accepted i).tail)))
 
     module _ (some : kind_at t x ≡ 0 → ⊥) where
       record Found : Type 0 where
@@ -97,8 +97,8 @@ module _ {s t : List ℕ} (r : Release s t) (side x : ℕ) where
       tail_is : tail_at t x ≡ found.at + width_of s + 1
       tail_is = ap (tail_at t) (sym found.is) ∙ (holds r.decoded found.stands).tail
 
-      kind_is : kind_at t x ≡ get_or s (found.at + width_of s) 0
-      kind_is = ap (kind_at t) (sym found.is) ∙ (holds r.decoded found.stands).kind
+      own_kind : kind_at t x ≡ get_or s (found.at + width_of s) 0
+      own_kind = ap (kind_at t) (sym found.is) ∙ row_kind r found.stands
 
       place_is : place_in side s x ≡ record { side = side; start = found.at; length = axiom_length (width_of s) s found.at }
       place_is = ap (λ (y : ℕ). place_in side s y) (sym found.is) ∙ (place_found s r.accepted side (count_of s) 0 (first_place s) found.at (no_axiom_fault s r.accepted) found.stands)
@@ -109,8 +109,10 @@ module _ {s t : List ℕ} (r : Release s t) (side x : ℕ) where
       pub place_count : joins (kind_at t x) ≡ true → HasCount s t x
       place_count j = record { row = place_row.row; inside = omega (arith, (ranges r).inside x small j) }
 
-      pub count_within : joins (kind_at t x) ≡ true → width_of s + 1 + (1 + width_of s * count_at s t x) ≤ length s
-      count_within j = omega (arith, (ranges r).inside x small j, tail_far)
+      pub count_few : joins (kind_at t x) ≡ true → width_of s * count_at s t x ≤ 2 * most_conjuncts
+      count_few j =
+          let k = conjuncts (roles_of s) r.decoded (no_axiom_fault s r.accepted) found.stands (ap (λ (y : ℕ). joins (kind_at t y)) found.is ∙ j) in
+          rw (ap (count_at s t) (sym found.is) ∙ count_is r.decoded found.stands) (few_bytes (is_width s) k.few)
 
       place_as : (start long : ℕ) → start ≡ found.at → long ≡ axiom_length (width_of s) s found.at → record { side = side; start = start; length = long } ≡ place_in side s x
       place_as start long e f = rw (e, f) (sym place_is)
@@ -121,40 +123,14 @@ module _ {s t : List ℕ} (r : Release s t) (side x : ℕ) where
 
         pub place_joined : joins (kind_at t x) ≡ true → (count : ℕ) → count ≡ count_at s t x → record { side = side; start = tail - 1 - w; length = w + 1 + (1 + w * count) } ≡ place_in side s x
         place_joined j count f =
-            let k : joins (get_or s (found.at + width_of s) 0) ≡ true = rw kind_is at j in
+            let k : joins (get_or s (found.at + width_of s) 0) ≡ true = rw own_kind at j in
             let c : count ≡ get_or s (found.at + width_of s + 1) 0 = f ∙ (ap (count_at s t) (sym found.is) ∙ count_is r.decoded found.stands) in
             place_as (tail - 1 - w) (w + 1 + (1 + w * count)) start_is (rw (k, width_is, c))
 
         pub place_restricted : joins (kind_at t x) ≡ false → record { side = side; start = tail - 1 - w; length = w + 1 + (1 + w) } ≡ place_in side s x
         place_restricted j =
-            let k : joins (get_or s (found.at + width_of s) 0) ≡ false = rw kind_is at j in
+            let k : joins (get_or s (found.at + width_of s) 0) ≡ false = rw own_kind at j in
             place_as (tail - 1 - w) (w + 1 + (1 + w)) start_is (rw (k, width_is))
-
--- what a read release is
-read_by : (f : ℕ) (s : List ℕ) (c : Counts) → checked_by f s ≡ Accepted c → (f ≡ 0) × (c.names ≡ names_of s)
-read_by zero s c h = let e : record { names = names_of s; roles = roles_of s; axioms = count_of s } ≡ c = cc in (refl, ap (λ (k : Counts). k.names) (sym e))
-read_by (suc f) s c h = let z : ◌≡◌ {A = ℕ} 0 1 = cc in absurd (omega arith)
-
-counts_by : (f : ℕ) (s : List ℕ) (c : Counts) → checked_by f s ≡ Accepted c → record { names = names_of s; roles = roles_of s; axioms = count_of s } ≡ c
-counts_by zero s c h = cc
-counts_by (suc f) s c h = let z : ◌≡◌ {A = ℕ} 0 1 = cc in absurd (omega arith)
-
-refused_by_lem : (f : ℕ) (s : List ℕ) (k : Refusal) → checked_by f s ≡ Refused k → eqb f 0 ≡ false
-refused_by_lem zero s k h = let z : ◌≡◌ {A = ℕ} 0 1 = cc in absurd (omega arith)
-refused_by_lem (suc f) s k h = ne_eqb (suc f) 0 (λ z. omega arith)
-
-module _ (s t : List ℕ) (r : Checked) (read : ReleaseRead s t r) where
-  pub read_release : (c : Counts) → r ≡ Accepted c → Release s t × (c.names ≡ names_of s)
-  unfolding checked
-  read_release c e = let v = read_by (fault s) s c (sym read.answer ∙ e) in (record { accepted = v.0; decoded = read.decoded v.0 }, v.1)
-
-  pub read_counts : (c : Counts) → r ≡ Accepted c → record { names = names_of s; roles = roles_of s; axioms = count_of s } ≡ c
-  unfolding checked
-  read_counts c e = counts_by (fault s) s c (sym read.answer ∙ e)
-
-  pub read_refused : (k : Refusal) → r ≡ Refused k → accepted s ≡ false
-  unfolding checked
-  read_refused k e = refused_by_lem (fault s) s k (sym read.answer ∙ e)
 
 module _ (s t : List ℕ) (side x : ℕ) where
   pub shown_not_first : accepted s ≡ false → nowhere ≡ shown_place s t side x

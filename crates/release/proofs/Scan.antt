@@ -11,13 +11,21 @@ use native.Mathlib.Omega.{arith}
 use borrow.Author.Tests.{lt-ltb, le-ltb, ltb-true}
 use lib.Dec.{eqb}
 use lib.ListN.{length, get_or}
+use Rattle.std.specs.Prelude.{Ok, Err}
 use Rattle.release.specs.declared.axiom.Entry.{Entry}
 use Rattle.release.specs.declared.axiom.Cursor.{Cursor}
-use Rattle.release.specs.declared.axiom.Reading.{Reading}
-use Rattle.release.specs.declared.axiom.Reading.TheVariants.{Axiom, Refused}
+use Rattle.release.specs.declared.kinds.Kind.{Kind}
+use Rattle.release.specs.declared.refusals.FileRefusal.{FileRefusal}
+use Rattle.release.specs.declared.refusals.FileRefusal.TheVariants.{BytesLeftOver}
+use Rattle.release.specs.declared.table.Row as table
 use Rattle.release.specs.Files.{number, width_of, first_place, most_names, most_roles, joins, is_filler, filler_node, top_number, axiom_fault, axiom_length, axioms_fault, first_of}
 use Rattle.release.specs.Tables.{Stands, here, there, Row, Put, Fits, entry_at, Origin, blank, of_axiom, Ready, AxiomsRead}
-use Rattle.release.specs.Entries.{node_number, entry_of, reading, reading_at, number_of}
+use Rattle.release.specs.Entries.{node_number, entry_of, reading, reading_at}
+use Rattle.release.specs.Kinds.{kind_number, kind_of_byte}
+use Rattle.release.specs.Refusals.{file_refusal, answer}
+use Rattle.release.proofs.Refusing.{refuses, accepts, is_refused, is_accepted, passes_on}
+use Rattle.release.proofs.KindNumbers.{joins_of_byte}
+use Rattle.release.proofs.Readings.{axiom_read}
 use Rattle.release.proofs.Sound.{Sound, axiom_sound, Tail, joined, restricted, tail_within}
 use Rattle.release.proofs.Numbers.{is_width}
 use Rattle.release.proofs.Rows.{row_kept}
@@ -28,18 +36,10 @@ pub record IsAxiom (f : ℕ) (e : Entry) (next : ℕ) (entry : Entry) (c : Curso
   pub entry_is : e ≡ entry
   pub next_is : next ≡ c.at
 
-reading_is : (f : ℕ) (e : Entry) (next : ℕ) (entry : Entry) (c : Cursor) → reading f e next ≡ Axiom entry c → IsAxiom f e next entry c
-unfolding reading
-reading_is zero e next entry c h =
-    let i : e ≡ entry = cc in
-    let j : record { at = next } ≡ c = cc in
-    record { none = refl; entry_is = i; next_is = ap (λ (x : Cursor). x.at) j }
-reading_is (suc k) e next entry c h = let z : ◌≡◌ {A = ℕ} 0 1 = cc in absurd (omega arith)
-
-reading_not : (f : ℕ) (e : Entry) (next k : ℕ) → reading f e next ≡ Refused k → (f ≡ k) × (f ≡ 0 → ⊥)
-unfolding reading
-reading_not zero e next k h = let z : ◌≡◌ {A = ℕ} 0 1 = cc in absurd (omega arith)
-reading_not (suc j) e next k h = let i : suc j ≡ k = cc in (i, λ z. omega arith)
+reading_is : (f : ℕ) (e : Entry) (next : ℕ) (entry : Entry) (c : Cursor) → axiom_read entry c ≡ answer 1 f (e, record { at = next }) → IsAxiom f e next entry c
+reading_is f e next entry c h =
+    let r = is_accepted 1 f (e, record { at = next }) (entry, c) h in
+    record { none = r.0; entry_is = ap (λ (x : Entry × Cursor). x.0) (sym r.1); next_is = ap (λ (x : Entry × Cursor). x.1.at) (sym r.1) }
 
 -- one axiom more
 module _ (n m : ℕ) (s : List ℕ) (left at least : ℕ) (more : 0 < left) where
@@ -48,8 +48,8 @@ module _ (n m : ℕ) (s : List ℕ) (left at least : ℕ) (more : 0 < left) wher
   unfolding axioms_fault
   one_more = let e : left ≡ suc (left - 1) = omega arith in ap (λ (j : ℕ). axioms_fault (width_of s) n m j least s at) e
 
-  stops : (k : ℕ) → axiom_fault (width_of s) n m least s at ≡ k → (k ≡ 0 → ⊥) → axioms_fault (width_of s) n m left least s at ≡ k
-  stops zero e z = absurd (z refl)
+  stops : (k : ℕ) → axiom_fault (width_of s) n m least s at ≡ k → 0 < k → axioms_fault (width_of s) n m left least s at ≡ k
+  stops zero e z = absurd (omega arith)
   stops (suc k) e z = one_more ∙ rw e
 
   goes_on : axiom_fault (width_of s) n m least s at ≡ 0
@@ -71,11 +71,11 @@ stands_none zero l h = elim h [ ]
 stands_none (suc c) l h = omega arith
 
 -- an axiom's numbers fit its row
-pub entry_left : (w n left kind : ℕ) (s : List ℕ) (p : ℕ) → (entry_of w n left kind s p).left.0 ≡ left
+pub entry_left : (w n left : ℕ) (kind : Kind) (s : List ℕ) (p : ℕ) → (entry_of w n left kind s p).left.0 ≡ left
 unfolding entry_of
-entry_left w n left kind s p = go (joins kind) refl
+entry_left w n left kind s p = go (joins (kind_number kind)) refl
   where
-    go : (b : Bool) → joins kind ≡ b → (entry_of w n left kind s p).left.0 ≡ left
+    go : (b : Bool) → joins (kind_number kind) ≡ b → (entry_of w n left kind s p).left.0 ≡ left
     go true e = rw (e, entry_of)
     go false e = rw (e, entry_of)
 
@@ -90,16 +90,16 @@ filler_node_lem w n b h = go (eqb b (top_number w)) refl
     go true e = rw e (omega arith)
     go false e = let l : b < n = ltb-true b n (or_false _ (rw e at h)) in rw e (omega arith)
 
-entry_fits : (n m least : ℕ) (s t : List ℕ) (q : ℕ) → n ≤ most_names → m ≤ most_roles → 4 * n ≤ length t → q ≤ 36838 → Sound (width_of s) n m least s q → Fits (entry_at n s q) t
+entry_fits : (n m least : ℕ) (s : List ℕ) (t : List table.Row) (q : ℕ) → n ≤ most_names → m ≤ most_roles → n ≤ length t → q ≤ 36838 → Sound (width_of s) n m least s q → Fits (entry_at n s q) t
 unfolding entry_at entry_of
 entry_fits n m least s t q hn hm ht hq v = let l : width_of s ≤ 2 = (is_width s).few in go l v.tail
   where
     go : width_of s ≤ 2 → Tail (width_of s) n m (get_or s (q + width_of s) 0) s (q + width_of s + 1) → Fits (entry_at n s q) t
-    go l (joined e j) = rw (e, entry_of) (record { row = omega (arith, v.left); role = omega arith; filler = omega arith; tail = omega arith })
+    go l (joined e j) = rw (joins_of_byte (get_or s (q + width_of s) 0) ∙ e, entry_of) (record { row = omega (arith, v.left); role = omega arith; filler = omega arith; tail = omega arith })
     go l (restricted e f r) = let k : node_number n (filler_node (width_of s) (number (width_of s) s (q + width_of s + 1 + 1))) ≤ n = filler_node_lem (width_of s) n _ r.filler in
-        rw (e, entry_of) (record { row = omega (arith, v.left); role = omega (arith, r.role); filler = omega arith; tail = omega arith })
+        rw (joins_of_byte (get_or s (q + width_of s) 0) ∙ e, entry_of) (record { row = omega (arith, v.left); role = omega (arith, r.role); filler = omega arith; tail = omega arith })
 
-pub record Going (n m count : ℕ) (s t : List ℕ) (left at least : ℕ) : Type 0 where
+pub record Going (n m count : ℕ) (s : List ℕ) (t : List table.Row) (left at least : ℕ) : Type 0 where
   pub fault : axioms_fault (width_of s) n m count 0 s (first_place s) ≡ axioms_fault (width_of s) n m left least s at
   pub within : at ≤ length s
   -- a (first_place s) has at most 10 bytes, an axiom at most 36
@@ -108,61 +108,64 @@ pub record Going (n m count : ℕ) (s t : List ℕ) (left at least : ℕ) : Type
   pub row : (q : ℕ) → Stands count s (first_place s) q → Stands left s at q ⊎ (Row t (entry_at n s q) × (number (width_of s) s q < least))
   pub origin : (x : ℕ) → x < n → Origin count s t x
 
-module _ (n m count : ℕ) (s t : List ℕ) where
+module _ (n m count : ℕ) (s : List ℕ) (t : List table.Row) where
   pub start : Ready n m count s t → Going n m count s t count (first_place s) 0
   start r = record { fault = refl; within = r.long; near = omega (arith, (is_width s).few); rest = λ q h. h; row = λ q h. inl h; origin = λ x l. blank (r.blank x l) }
 
-module _ (n m count : ℕ) (s t : List ℕ) (left at least : ℕ) (g : Going n m count s t left at least) where
-  pub end_14 : left ≤ 0 → at < length s → AxiomsRead n m count s t 14
+module _ (n m count : ℕ) (s : List ℕ) (t : List table.Row) (left at least : ℕ) (g : Going n m count s t left at least) where
+  pub end_14 : left ≤ 0 → at < length s → AxiomsRead n m count s t (Err BytesLeftOver)
   unfolding axioms_fault
-  end_14 l h = let e : left ≡ 0 = omega arith in record { fault = sym (g.fault ∙ rw (e, lt-ltb _ _ h)); decoded = λ z. absurd (omega arith) }
+  end_14 l h =
+      let e : left ≡ 0 = omega arith in
+      let f : axioms_fault (width_of s) n m count 0 s (first_place s) ≡ 14 = g.fault ∙ rw (e, lt-ltb _ _ h) in
+      record { fault = refuses 1 14 _ _ (omega arith) f; decoded = λ z. absurd (omega (arith, f)) }
 
-  pub end : left ≤ 0 → length s ≤ at → 4 * n ≤ length t → AxiomsRead n m count s t 0
+  pub end : left ≤ 0 → length s ≤ at → n ≤ length t → AxiomsRead n m count s t (Ok tt)
   unfolding axioms_fault
   end l h rows = let e : left ≡ 0 = omega arith in record {
-    fault = sym (g.fault ∙ rw (e, le-ltb _ _ h));
+    fault = accepts 1 _ _ (g.fault ∙ rw (e, le-ltb _ _ h));
     decoded = λ z. record { rows = rows; row = λ q i. elim (g.row q i) [ inl k ↦ absurd (stands_none left l k) | inr k ↦ k.0 ]; origin = g.origin };
   }
 
-  module _ (more : 0 < left) (r : Reading) (is : r ≡ reading_at (width_of s) n m least s at) where
-    pub refuses : (k j : ℕ) → r ≡ Refused k → j ≡ number_of r → AxiomsRead n m count s t j
-    unfolding reading_at
-    refuses k j e i =
-        let z = reading_not (axiom_fault (width_of s) n m least s at) (entry_of (width_of s) n (number (width_of s) s at) (get_or s (at + width_of s) 0) s (at + width_of s + 1))
-        (at + axiom_length (width_of s) s at) k (sym is ∙ e) in
-        rw (i, e) (record { fault = sym (g.fault ∙ stops n m s left at least more k z.0 (λ w. z.1 (z.0 ∙ w))); decoded = λ w. absurd (z.1 (z.0 ∙ w)) })
+  module _ (more : 0 < left) where
+    pub refuses_axiom : (e : FileRefusal) → Err (file_refusal e) ≡ reading_at (width_of s) n m least s at → AxiomsRead n m count s t (Err e)
+    unfolding reading_at reading
+    refuses_axiom e is =
+        let z = is_refused 1 (axiom_fault (width_of s) n m least s at) _ (file_refusal e) is in
+        let f : axioms_fault (width_of s) n m count 0 s (first_place s) ≡ axiom_fault (width_of s) n m least s at = g.fault ∙ stops n m s left at least more _ refl z.1 in
+        record { fault = passes_on 1 _ _ _ tt (file_refusal e) is (λ some. f); decoded = λ w. absurd (omega (arith, f, w, z.1)) }
 
-    module _ (entry : Entry) (c : Cursor) (e : r ≡ Axiom entry c) where
-      answer : IsAxiom (axiom_fault (width_of s) n m least s at) (entry_at n s at) (at + axiom_length (width_of s) s at) entry c
-      unfolding reading_at entry_at
-      answer = reading_is _ _ _ entry c (sym is ∙ e)
+    module _ (entry : Entry) (c : Cursor) (is : axiom_read entry c ≡ reading_at (width_of s) n m least s at) where
+      answer_is : IsAxiom (axiom_fault (width_of s) n m least s at) (entry_at n s at) (at + axiom_length (width_of s) s at) entry c
+      unfolding reading_at reading entry_at
+      answer_is = reading_is _ _ _ entry c is
 
       sound : Sound (width_of s) n m least s at
-      sound = axiom_sound (width_of s) n m least s at answer.none
+      sound = axiom_sound (width_of s) n m least s at answer_is.none
 
       pub left_is : entry.left.0 ≡ number (width_of s) s at
       unfolding entry_at
-      left_is = ap (λ (x : Entry). x.left.0) (sym answer.entry_is) ∙ entry_left (width_of s) n (number (width_of s) s at) (get_or s (at + width_of s) 0) s (at + width_of s + 1)
+      left_is = ap (λ (x : Entry). x.left.0) (sym answer_is.entry_is) ∙ entry_left (width_of s) n (number (width_of s) s at) (kind_of_byte (get_or s (at + width_of s) 0)) s (at + width_of s + 1)
 
       pub left_small : entry.left.0 < n
       left_small = rw left_is sound.left
 
-      pub fits : n ≤ most_names → m ≤ most_roles → count ≤ n → 4 * n ≤ length t → Fits entry t
-      fits few_names few_roles few rows = subst (λ (x : Entry). Fits x t) answer.entry_is (entry_fits n m least s t at few_names few_roles rows (omega (arith, g.near)) sound)
+      pub fits : n ≤ most_names → m ≤ most_roles → count ≤ n → n ≤ length t → Fits entry t
+      fits few_names few_roles few rows = subst (λ (x : Entry). Fits x t) answer_is.entry_is (entry_fits n m least s t at few_names few_roles rows (omega (arith, g.near)) sound)
 
-      module _ (u : List ℕ) (put : Put entry t u) where
+      module _ (u : List table.Row) (put : Put entry t u) where
         -- the row of an axiom read before stays: left names rise
         kept : (q : ℕ) → Row t (entry_at n s q) → number (width_of s) s q < least → Row u (entry_at n s q)
         unfolding entry_at
         kept q h l =
-            let e1 : (entry_at n s q).left.0 ≡ number (width_of s) s q = entry_left (width_of s) n (number (width_of s) s q) (get_or s (q + width_of s) 0) s (q + width_of s + 1) in
+            let e1 : (entry_at n s q).left.0 ≡ number (width_of s) s q = entry_left (width_of s) n (number (width_of s) s q) (kind_of_byte (get_or s (q + width_of s) 0)) s (q + width_of s + 1) in
             row_kept t u (entry_at n s q) (put.other (entry_at n s q).left.0 (λ z. omega (arith, e1, left_is, sound.rises))) h
 
         next_row : (q : ℕ) → Stands count s (first_place s) q
             → Stands (left - 1) s (at + axiom_length (width_of s) s at) q ⊎ (Row u (entry_at n s q) × (number (width_of s) s q < number (width_of s) s at + 1))
         next_row q i = elim (g.row q i) [
           | inl k ↦ elim (stands_split (let z : left ≡ suc (left - 1) = omega arith in subst (λ (j : ℕ). Stands j s at q) z k)) [
-            | inl z ↦ inr (rw z (rw (← answer.entry_is) at put.row), rw z (omega arith))
+            | inl z ↦ inr (rw z (rw (← answer_is.entry_is) at put.row), rw z (omega arith))
             | inr j ↦ inl j
           ]
           | inr k ↦ inr (kept q k.0 k.1, omega (arith, k.1, sound.rises))
@@ -177,11 +180,11 @@ module _ (n m count : ℕ) (s t : List ℕ) (left at least : ℕ) (g : Going n m
           ]
         ]
 
-        pub next : Going n m count s u (left - 1) c.at (entry.left.0 + 1)
-        next =
+        pub next : (rest : ℕ) → rest ≡ left - 1 → Going n m count s u rest c.at (entry.left.0 + 1)
+        next rest e =
             let w = tail_within (width_of s) n m (get_or s (at + width_of s) 0) s (at + width_of s + 1) sound.tail in
-            rw (left_is, ← answer.next_is) (record {
-              fault = g.fault ∙ goes_on n m s left at least more answer.none;
+            rw (e, left_is, ← answer_is.next_is) (record {
+              fault = g.fault ∙ goes_on n m s left at least more answer_is.none;
               within = omega (arith, w.0);
               near = omega (arith, w.1 (is_width s).few, (is_width s).few, g.near);
               rest = λ q h. g.rest q (stands_there n m s left at least more h);

@@ -2,6 +2,7 @@
 --   Sound w n m least s q    the axiom at place q of s lies in the file, and its numbers are in range
 use mathlib.Core.Path.{◌≡◌, refl}
 use mathlib.Core.Bool.{Bool, true, false}
+use mathlib.Core.Logic.{◌⊎◌, inl, inr}
 use mathlib.Core.List.{List}
 use Prim.Native.Nat.{ℕ, zero, suc, ◌+◌, ◌*◌, ◌≤◌, ◌<◌}
 use native.Mathlib.Omega.{arith}
@@ -68,6 +69,10 @@ restriction_sound w n m s p h =
 pub data Tail (w n m kind : ℕ) (s : List ℕ) (p : ℕ) : Type 0 where
   joined : joins kind ≡ true → Joined w n s p → Tail w n m kind s p
   restricted : joins kind ≡ false → restricts kind ≡ true → Restricted w n m s p → Tail w n m kind s p
+
+pub tail_kind : {w n m kind : ℕ} {s : List ℕ} {p : ℕ} → Tail w n m kind s p → (joins kind ≡ true) ⊎ (restricts kind ≡ true)
+tail_kind (joined e j) = inl e
+tail_kind (restricted e f r) = inr f
 
 tail_sound : (w n m kind : ℕ) (s : List ℕ) (p : ℕ) → tail_fault w n m kind s p ≡ 0 → Tail w n m kind s p
 unfolding tail_fault

@@ -1,35 +1,32 @@
 -- An axiom's numbers, and what reading one answers by what the file says, with the numbers of docs/FORMAT.md.
 --   entry_of w n left kind s tail   the numbers of the axiom with this left name and kind, whose tail stands at place `tail`
 --   reading_at w n m least s p      reading an axiom at place p: "it with the next place, or else the refusal"
-use Rattle.std.specs.Prelude.{List, ℕ, zero, suc, ◌+◌, get_or}
+use Rattle.std.specs.Prelude.{List, ℕ, ◌+◌, get_or, Result}
 use Rattle.el.specs.Lists.{pick}
 use Rattle.el.specs.Concepts.{Node, everything, named}
 use Rattle.release.specs.Files.{number, joins, tail_fault, tail_length, axiom_fault, axiom_length, filler_node}
+use Rattle.release.specs.Kinds.{kind_number, kind_of_byte}
+use Rattle.release.specs.Refusals.{Numbers, answer}
+use Rattle.release.specs.declared.axiom.Cursor.{Cursor}
 use Rattle.release.specs.declared.axiom.Entry.{Entry}
-use Rattle.release.specs.declared.axiom.Reading.{Reading}
-use Rattle.release.specs.declared.axiom.Reading.TheVariants.{Axiom, Refused}
+use Rattle.release.specs.declared.kinds.Kind.{Kind}
 
 -- the number of a node in a table with n names: ⊤ is n
 abbrev pub node_number : ℕ → Node → ℕ
 node_number n everything = n
 node_number n (named x) = x
 
--- an axiom's numbers: left name, kind, role and filler (0 for kinds 1 and 2), the place of its tail
-unfoldable pub entry_of : ℕ → ℕ → ℕ → ℕ → List ℕ → ℕ → Entry
-entry_of w n left kind s tail = pick (joins kind) (record { left = record { 0 = left }; kind = kind; role = record { 0 = 0 }; filler = 0; tail = tail })
+-- an axiom's numbers: left name, kind, role and filler (0 for conjunctions), the place of its tail
+unfoldable pub entry_of : ℕ → ℕ → ℕ → Kind → List ℕ → ℕ → Entry
+entry_of w n left kind s tail = pick (joins (kind_number kind)) (record { left = record { 0 = left }; kind = kind; role = record { 0 = 0 }; filler = 0; tail = tail })
     (record { left = record { 0 = left }; kind = kind; role = record { 0 = get_or s tail 0 }; filler = node_number n (filler_node w (number w s (tail + 1))); tail = tail })
 
 -- the axiom with the next place where there is no fault, else the refusal
-unfoldable pub reading : ℕ → Entry → ℕ → Reading
-reading zero e next = Axiom e (record { at = next })
-reading (suc k) e next = Refused (suc k)
+unfoldable pub reading : ℕ → Entry → ℕ → Result (Entry × Cursor) Numbers
+reading f e next = answer 1 f (e, record { at = next })
 
-unfoldable pub tail_reading : ℕ → ℕ → ℕ → ℕ → ℕ → List ℕ → ℕ → Reading
-tail_reading w n m left kind s tail = reading (tail_fault w n m kind s tail) (entry_of w n left kind s tail) (tail + tail_length w kind s tail)
+unfoldable pub tail_reading : ℕ → ℕ → ℕ → ℕ → Kind → List ℕ → ℕ → Result (Entry × Cursor) Numbers
+tail_reading w n m left kind s tail = reading (tail_fault w n m (kind_number kind) s tail) (entry_of w n left kind s tail) (tail + tail_length w (kind_number kind) s tail)
 
-unfoldable pub reading_at : ℕ → ℕ → ℕ → ℕ → List ℕ → ℕ → Reading
-reading_at w n m least s p = reading (axiom_fault w n m least s p) (entry_of w n (number w s p) (get_or s (p + w) 0) s (p + w + 1)) (p + axiom_length w s p)
-
-abbrev pub number_of : Reading → ℕ
-number_of (Axiom e next) = 0
-number_of (Refused k) = k
+unfoldable pub reading_at : ℕ → ℕ → ℕ → ℕ → List ℕ → ℕ → Result (Entry × Cursor) Numbers
+reading_at w n m least s p = reading (axiom_fault w n m least s p) (entry_of w n (number w s p) (kind_of_byte (get_or s (p + w) 0)) s (p + w + 1)) (p + axiom_length w s p)

@@ -1,6 +1,9 @@
 -- The release file: what it says, and what is refused. To be read in this order.
 pub mod Files
+pub mod Refusals
 pub mod Readings
 pub mod Shown
+pub mod Kinds
+pub mod Versions
 pub mod Entries
 pub mod Tables

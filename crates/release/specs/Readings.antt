@@ -1,13 +1,13 @@
--- What checking a release answers, by what the file says: the enum's cases with the numbers and values of docs/FORMAT.md.
+-- What checking a release answers, by what the file says, with the numbers and values of docs/FORMAT.md.
+--   counts_in s      n, m and a
 --   checked s        accepted with n, m and a, or the refusal with side 1
-use Rattle.std.specs.Prelude.{List, ℕ, zero, suc}
+use Rattle.std.specs.Prelude.{List, ℕ, Result}
 use Rattle.release.specs.Files.{fault, names_of, roles_of, count_of}
-use Rattle.release.specs.declared.Checked.{Checked}
-use Rattle.release.specs.declared.Checked.TheVariants as Check
+use Rattle.release.specs.Refusals.{Numbers, answer}
+use Rattle.release.specs.declared.Counts.{Counts}
 
-abbrev pub checked_by : ℕ → List ℕ → Checked
-checked_by zero s = Check.Accepted (record { names = names_of s; roles = roles_of s; axioms = count_of s })
-checked_by (suc k) s = Check.Refused (record { number = suc k; side = 1 })
+abbrev pub counts_in : List ℕ → Counts
+counts_in s = record { names = names_of s; roles = roles_of s; axioms = count_of s }
 
-unfoldable pub checked : List ℕ → Checked
-checked s = checked_by (fault s) s
+unfoldable pub checked : List ℕ → Result Counts Numbers
+checked s = answer 1 (fault s) (counts_in s)

@@ -1,9 +1,14 @@
 ghost use Rattle.std.specs.Prelude.{◌≡◌, ◌≤◌, length, true};
-ghost use Rattle.release.specs.Files.{parts_fault, joins, restricts, filler_node, IsWidth};
-ghost use Rattle.release.specs.Entries.{tail_reading, reading_at, number_of, node_number};
+ghost use Rattle.release.specs.Files.{parts_fault, joins, restricts, filler_node};
+ghost use Rattle.release.specs.Entries.{tail_reading, reading_at, node_number};
+ghost use Rattle.release.specs.Kinds.{kind_number};
+ghost use Rattle.release.specs.Refusals.{file_refusal, told, answer};
+ghost use Rattle.release.specs.Versions.{width};
 
-use crate::number::{number, top, wide};
-use crate::{ConceptName, Release, RoleName};
+use crate::kinds::Kind;
+use crate::number::Version;
+use crate::refusals::FileRefusal;
+use crate::{ConceptName, Counts, Release, RoleName};
 
 // A place in a file.
 #[derive(Clone, Copy)]
@@ -16,171 +21,150 @@ pub struct Cursor {
 #[derive(Clone, Copy)]
 pub struct Entry {
     pub left: ConceptName,
-    pub kind: u8,
+    pub kind: Kind,
     pub role: RoleName,
     pub filler: usize,
     pub tail: usize,
 }
 
-// An axiom with the next place, or the number of the refusal.
-#[derive(Clone, Copy)]
-pub enum Reading {
-    Axiom(Entry, Cursor),
-    Refused(u8),
-}
-
-// The number of the first refusal among `count` rising names from `at` on, or 0.
-fn parts_fault(file: &[u8], width: usize, at: usize, count: usize, n: usize) -> u8
-    requires { IsWidth width × (at ≤ length file.now) }
-    ensures { result ≡ parts_fault width n count 0 file.now at }
+// Checks `count` rising names from `at` on.
+fn check_parts(
+    file: &[u8],
+    version: Version,
+    at: usize,
+    count: usize,
+    n: usize,
+) -> Result<(), FileRefusal>
+    requires { at ≤ length file.now }
+    ensures { told file_refusal result ≡ answer 1 (parts_fault (width version) n count 0 file.now at) tt }
 {
-    let mut left = count;
     let mut p = at;
     let mut least: usize = 0;
-    while 0 < left {
-        if file.len() < p + width {
-            return 7;
+    for _part in 0..count {
+        if file.len() < p + version.width() {
+            return Err(FileRefusal::ShortAxiom);
         }
-        let name = number(file, p, width);
+        let name = version.number(file, p);
         if n <= name {
-            return 9;
+            return Err(FileRefusal::WrongName);
         }
         if name < least {
-            return 13;
+            return Err(FileRefusal::ConjunctsNotRising);
         }
         least = name + 1;
-        p += width;
-        left -= 1;
+        p += version.width();
     }
-    0
+    Ok(())
 }
 
-// The tail of kinds 1 and 2.
+// The tail of a conjunction.
 fn read_conjunction(
     file: &[u8],
-    width: usize,
+    version: Version,
     tail: usize,
     left: usize,
-    kind: u8,
-    n: usize,
-    m: usize,
-) -> Reading
-    requires { (IsWidth width × (tail ≤ length file.now)) × (joins kind ≡ true) }
-    ensures { result ≡ tail_reading width n m left kind file.now tail }
+    kind: Kind,
+    counts: Counts,
+) -> Result<(Entry, Cursor), FileRefusal>
+    requires inside { tail ≤ length file.now }
+    requires kind { joins (kind_number kind) ≡ true }
+    ensures { told file_refusal result ≡ tail_reading (width version) counts.names counts.roles left kind file.now tail }
 {
     if file.len() <= tail {
-        return Reading::Refused(7);
+        return Err(FileRefusal::ShortAxiom);
     }
-    let count = wide(file[tail]);
+    let count = usize::from(file[tail]);
     if Release::CONJUNCTS < count {
-        return Reading::Refused(12);
+        return Err(FileRefusal::ManyConjuncts);
     }
-    let fault = parts_fault(file, width, tail + 1, count, n);
-    if fault != 0 {
-        return Reading::Refused(fault);
-    }
-    Reading::Axiom(
-        Entry {
-            left: ConceptName(left),
-            kind: kind,
-            role: RoleName(0),
-            filler: 0,
-            tail: tail,
-        },
-        Cursor {
-            at: tail + (1 + width * count),
-        },
-    )
+    check_parts(file, version, tail + 1, count, counts.names)?;
+    let entry = Entry {
+        left: ConceptName(left),
+        kind,
+        role: RoleName(0),
+        filler: 0,
+        tail,
+    };
+    let next = Cursor {
+        at: tail + (1 + version.width() * count),
+    };
+    Ok((entry, next))
 }
 
 // The node of a filler's number: ⊤ is n.
-fn filler_node(filler: usize, width: usize, n: usize) -> usize
-    ensures { result ≡ node_number n (filler_node width filler) }
+fn filler_node(filler: usize, version: Version, n: usize) -> usize
+    ensures { result ≡ node_number n (filler_node (width version) filler) }
 {
-    if filler == top(width) {
-        return n;
-    }
-    filler
+    if filler == version.top() { n } else { filler }
 }
 
-// The tail of kinds 3 and 4.
+// The tail of a restriction.
 fn read_restriction(
     file: &[u8],
-    width: usize,
+    version: Version,
     tail: usize,
     left: usize,
-    kind: u8,
-    n: usize,
-    m: usize,
-) -> Reading
-    requires { (IsWidth width × (tail ≤ length file.now)) × (restricts kind ≡ true) }
-    ensures { result ≡ tail_reading width n m left kind file.now tail }
+    kind: Kind,
+    counts: Counts,
+) -> Result<(Entry, Cursor), FileRefusal>
+    requires inside { tail ≤ length file.now }
+    requires kind { restricts (kind_number kind) ≡ true }
+    ensures { told file_refusal result ≡ tail_reading (width version) counts.names counts.roles left kind file.now tail }
 {
     if file.len() <= tail {
-        return Reading::Refused(7);
+        return Err(FileRefusal::ShortAxiom);
     }
-    let role = wide(file[tail]);
-    if m <= role {
-        return Reading::Refused(11);
+    let role = usize::from(file[tail]);
+    if counts.roles <= role {
+        return Err(FileRefusal::WrongRole);
     }
-    if file.len() < tail + 1 + width {
-        return Reading::Refused(7);
+    let next = tail + (1 + version.width());
+    if file.len() < next {
+        return Err(FileRefusal::ShortAxiom);
     }
-    let filler = number(file, tail + 1, width);
-    let top = top(width);
-    if n <= filler {
-        if filler != top {
-            return Reading::Refused(9);
-        }
+    let filler = version.number(file, tail + 1);
+    if counts.names <= filler && filler != version.top() {
+        return Err(FileRefusal::WrongName);
     }
-    let node = filler_node(filler, width, n);
-    Reading::Axiom(
-        Entry {
-            left: ConceptName(left),
-            kind: kind,
-            role: RoleName(role),
-            filler: node,
-            tail: tail,
-        },
-        Cursor {
-            at: tail + (1 + width),
-        },
-    )
+    let entry = Entry {
+        left: ConceptName(left),
+        kind,
+        role: RoleName(role),
+        filler: filler_node(filler, version, counts.names),
+        tail,
+    };
+    Ok((entry, Cursor { at: next }))
 }
 
 // The axiom at `at`, whose left name is at least `least`.
-pub fn read_axiom(file: &[u8], width: usize, at: usize, n: usize, m: usize, least: usize) -> Reading
-    requires { IsWidth width × (at ≤ length file.now) }
-    ensures { result ≡ reading_at width n m least file.now at }
+pub fn read_axiom(
+    file: &[u8],
+    version: Version,
+    at: usize,
+    counts: Counts,
+    least: usize,
+) -> Result<(Entry, Cursor), FileRefusal>
+    requires { at ≤ length file.now }
+    ensures { told file_refusal result ≡ reading_at (width version) counts.names counts.roles least file.now at }
 {
-    let after = at + width;
+    let after = at + version.width();
     if file.len() < after {
-        return Reading::Refused(7);
+        return Err(FileRefusal::ShortAxiom);
     }
-    let left = number(file, at, width);
-    if n <= left {
-        return Reading::Refused(9);
+    let left = version.number(file, at);
+    if counts.names <= left {
+        return Err(FileRefusal::WrongName);
     }
     if left < least {
-        return Reading::Refused(10);
+        return Err(FileRefusal::LeftNamesNotRising);
     }
     if file.len() <= after {
-        return Reading::Refused(7);
+        return Err(FileRefusal::ShortAxiom);
     }
-    let kind = file[after];
-    match kind {
-        1 | 2 => read_conjunction(file, width, after + 1, left, kind, n, m),
-        3 | 4 => read_restriction(file, width, after + 1, left, kind, n, m),
-        _ => Reading::Refused(8),
-    }
-}
-
-// The number of a refusal; 0 for an axiom.
-pub fn refusal(reading: Reading) -> u8
-    ensures { result ≡ number_of reading }
-{
-    match reading {
-        Reading::Refused(number) => number,
-        Reading::Axiom(_, _) => 0,
+    let kind = Kind::try_from(file[after])?;
+    if kind.is_conjunction() {
+        read_conjunction(file, version, after + 1, left, kind, counts)
+    } else {
+        read_restriction(file, version, after + 1, left, kind, counts)
     }
 }

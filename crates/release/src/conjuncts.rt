@@ -1,38 +1,31 @@
 ghost use Rattle.el.proofs.Tests.{Tells};
 ghost use Rattle.release.specs.Tables.{Shaped, Conjunctive, PartDefined, SomePartDefined};
 
-use crate::table::{count, is_conjunction, kind, part};
+use crate::kinds::Kind;
+use crate::terminology::Terminology;
 
-// Whether a conjunct of x is itself a left name of kind 2.
-fn part_defined(file: &[u8], table: &[u16], n: usize, x: usize) -> bool
-    requires { Conjunctive n file.now table.now x }
-    ensures { Tells result (PartDefined file.now table.now x) }
+// Whether a conjunct of x is itself defined by a conjunction.
+fn part_defined(terminology: &Terminology, n: usize, x: usize) -> bool
+    requires { Conjunctive n terminology.now.file.now terminology.now.table.now x }
+    ensures { Tells result (PartDefined terminology.now.file.now terminology.now.table.now x) }
 {
-    let parts = count(file, table, x);
-    let mut i: usize = 0;
-    while i < parts {
-        let p = part(file, table, x, i);
-        if kind(table, p) == 2 {
+    for i in 0..terminology.count(x) {
+        let part = terminology.part(x, i);
+        if terminology.has_kind(part, Kind::DefinedConjunction) {
             return true;
         }
-        i += 1;
     }
     false
 }
 
-// Whether some conjunct is itself a left name of kind 2: each conjunct is looked up once in the table.
-pub fn some_part_defined(file: &[u8], table: &[u16], n: usize) -> bool
-    requires { Shaped n file.now table.now }
-    ensures { Tells result (SomePartDefined n file.now table.now) }
+// Whether some conjunct is itself defined by a conjunction: each conjunct is looked up once in the table.
+pub fn some_part_defined(terminology: &Terminology, n: usize) -> bool
+    requires { Shaped n terminology.now.file.now terminology.now.table.now }
+    ensures { Tells result (SomePartDefined n terminology.now.file.now terminology.now.table.now) }
 {
-    let mut x: usize = 0;
-    while x < n {
-        let y = x;
-        x += 1;
-        if is_conjunction(table, y) {
-            if part_defined(file, table, n, y) {
-                return true;
-            }
+    for x in 0..n {
+        if terminology.is_conjunction(x) && part_defined(terminology, n, x) {
+            return true;
         }
     }
     false

@@ -1,34 +1,117 @@
-ghost use Rattle.std.specs.Prelude.{◌≡◌};
-ghost use Rattle.release.specs.Files.{number, top_number};
-ghost use Rattle.release.specs.Tables.{HasNumber};
+// The versions of the file, and the numbers that stand in it by its version.
+ghost use Rattle.std.specs.Prelude.{◌≡◌, ◌+◌, ◌≤◌, ◌<◌, length};
+ghost use Rattle.release.specs.Files.{number, top_number, width_of, names_of, roles_of, count_of, header_length, most_names_of};
+ghost use Rattle.release.specs.Versions.{width, HasVersionNumber};
+ghost use Rattle.release.specs.Tables.{HasHeader};
 
 use crate::Release;
+use crate::refusals::FileRefusal;
 
-pub fn wide(x: u8) -> usize
-    ensures { result ≡ x }
-{
-    x as usize
+// A name takes one byte in version 1 and two in version 2.
+#[derive(Clone, Copy, Debug, PartialEq, Eq)]
+pub enum Version {
+    One,
+    Two,
 }
 
-// The number of one or two bytes at a place, low byte first.
-pub fn number(file: &[u8], at: usize, width: usize) -> usize
-    requires { HasNumber width file.now at }
-    ensures { result ≡ number width file.now at }
-{
-    let low = wide(file[at]);
-    if width == 1 {
-        return low;
+impl Version {
+    // The version of a file whose version is known: the low byte tells it.
+    pub fn of(file: &[u8]) -> Self
+        requires { 3 < length file.now }
+        ensures { width result ≡ width_of file.now }
+    {
+        if file[3] == 1 {
+            return Version::One;
+        }
+        Version::Two
     }
-    let high = wide(file[at + 1]);
-    low + 256 * high
+
+    // How many bytes a name takes; also the version's number.
+    pub fn width(self) -> usize
+        ensures { result ≡ width self }
+    {
+        match self {
+            Version::One => 1,
+            Version::Two => 2,
+        }
+    }
+
+    // The number that is ⊤ as a filler.
+    pub fn top(self) -> usize
+        ensures { result ≡ top_number (width self) }
+    {
+        match self {
+            Version::One => 255,
+            Version::Two => 65535,
+        }
+    }
+
+    // The most names that a release can have.
+    pub fn most_names(self) -> usize
+        ensures { result ≡ most_names_of (width self) }
+    {
+        match self {
+            Version::One => 127,
+            Version::Two => Release::NAMES,
+        }
+    }
+
+    // How many bytes stand before the first axiom.
+    pub fn header_length(self) -> usize
+        ensures { result ≡ header_length (width self) }
+    {
+        6 + 2 * self.width()
+    }
+
+    // The number of a name's width at a place, low byte first.
+    pub fn number(self, file: &[u8], at: usize) -> usize
+        requires { at + width self ≤ length file.now }
+        ensures { result ≡ number (width self) file.now at }
+    {
+        let low = usize::from(file[at]);
+        match self {
+            Version::One => low,
+            Version::Two => {
+                let high = usize::from(file[at + 1]);
+                low + 256 * high
+            }
+        }
+    }
+
+    // n, m and a of a header.
+    pub fn names(self, file: &[u8]) -> usize
+        requires { HasHeader (width self) file.now }
+        ensures { result ≡ names_of file.now }
+    {
+        self.number(file, 5)
+    }
+
+    pub fn roles(self, file: &[u8]) -> usize
+        requires { HasHeader (width self) file.now }
+        ensures { result ≡ roles_of file.now }
+    {
+        usize::from(file[5 + self.width()])
+    }
+
+    pub fn axioms(self, file: &[u8]) -> usize
+        requires { HasHeader (width self) file.now }
+        ensures { result ≡ count_of file.now }
+    {
+        self.number(file, 6 + self.width())
+    }
 }
 
-// The number that is ⊤ as a filler.
-pub fn top(width: usize) -> usize
-    ensures { result ≡ top_number width }
-{
-    if width == 1 {
-        return Release::TOP_1;
+// The version that a number stands for.
+impl TryFrom<usize> for Version {
+    type Error = FileRefusal;
+
+    ghost try_from_gives = { HasVersionNumber };
+
+    fn try_from(number: usize) -> Result<Self, FileRefusal> {
+        match number {
+            1 => Ok(Version::One),
+            2 => Ok(Version::Two),
+            _ => Err(FileRefusal::WrongVersion),
+        }
     }
-    Release::TOP_2
 }

@@ -1,11 +1,12 @@
 ghost use Rattle.std.specs.Prelude.{◌≡◌};
 ghost use Rattle.release.specs.Files.{names_of};
 ghost use Rattle.release.specs.Tables.{Release};
-ghost use Rattle.release.specs.Shown.{nowhere, place_in, shown_place, Shown};
+ghost use Rattle.release.specs.Shown.{place_in, shown_place, Shown};
 
-use crate::header::width;
-use crate::table::{Table, count, is_conjunction, kind, tail};
-use crate::{Checked, ConceptName, read_release};
+use crate::number::Version;
+use crate::table::{Row, Table};
+use crate::terminology::Terminology;
+use crate::{ConceptName, read_release};
 
 // A part of one of two files: the file's side, where the part starts and how long it is.
 #[derive(Clone, Copy)]
@@ -15,40 +16,39 @@ pub struct Place {
     pub length: usize,
 }
 
-// Empty, at the start of the first file.
-fn nowhere() -> Place
-    ensures { result ≡ nowhere }
-{
-    Place {
+impl Place {
+    // Empty, at the start of the first file.
+    pub const NOWHERE: Place = Place {
         side: 1,
         start: 0,
         length: 0,
-    }
+    };
 }
 
 // Where a name's axiom stands in an accepted file, by its table. Its left name and its kind byte stand before its tail.
-fn place_in(file: &[u8], table: &[u16], side: u8, names: usize, name: usize) -> Place
-    requires { Release file.now table.now × (names ≡ names_of file.now) }
-    ensures { result ≡ place_in side file.now name }
+fn place_in(terminology: &Terminology, side: u8, names: usize, name: usize) -> Place
+    requires accepted { Release terminology.now.file.now terminology.now.table.now }
+    requires names { names ≡ names_of terminology.now.file.now }
+    ensures { result ≡ place_in side terminology.now.file.now name }
 {
     if names <= name {
-        return nowhere();
+        return Place::NOWHERE;
     }
-    if kind(table, name) == 0 {
-        return nowhere();
-    }
-    let width = width(file);
-    let start = tail(table, name) - 1 - width;
-    if is_conjunction(table, name) {
+    let Some(kind) = terminology.kind(name) else {
+        return Place::NOWHERE;
+    };
+    let width = Version::of(terminology.file).width();
+    let start = terminology.tail(name) - 1 - width;
+    if kind.is_conjunction() {
         return Place {
-            side: side,
-            start: start,
-            length: width + 1 + (1 + width * count(file, table, name)),
+            side,
+            start,
+            length: width + 1 + (1 + width * terminology.count(name)),
         };
     }
     Place {
-        side: side,
-        start: start,
+        side,
+        start,
         length: width + 1 + (1 + width),
     }
 }
@@ -57,24 +57,29 @@ fn place_in(file: &[u8], table: &[u16], side: u8, names: usize, name: usize) -> 
 pub fn axiom_place(first: &[u8], second: &[u8], side: usize, name: ConceptName) -> Place
     ensures { result ≡ shown_place first.now second.now side name.0 }
 {
-    let mut first_table = [0u16; Table::LENGTH];
-    let first_checked = read_release(first, &mut first_table);
-    let mut second_table = [0u16; Table::LENGTH];
-    let second_checked = read_release(second, &mut second_table);
-    let Checked::Accepted(first_counts) = first_checked else {
-        return nowhere();
+    let mut first_table = [Row::BLANK; Table::LENGTH];
+    let Ok(first_counts) = read_release(first, &mut first_table) else {
+        return Place::NOWHERE;
     };
-    let Checked::Accepted(second_counts) = second_checked else {
-        return nowhere();
+    let mut second_table = [Row::BLANK; Table::LENGTH];
+    let Ok(second_counts) = read_release(second, &mut second_table) else {
+        return Place::NOWHERE;
     };
-    let number = name.0;
     if side == 1 {
-        return place_in(first, &first_table, 1, first_counts.names, number);
+        let terminology = Terminology {
+            file: first,
+            table: &first_table,
+        };
+        return place_in(&terminology, 1, first_counts.names, name.0);
     }
     if side == 2 {
-        return place_in(second, &second_table, 2, second_counts.names, number);
+        let terminology = Terminology {
+            file: second,
+            table: &second_table,
+        };
+        return place_in(&terminology, 2, second_counts.names, name.0);
     }
-    nowhere()
+    Place::NOWHERE
 }
 
 // The axiom of a name, as a part of whichever of the two files holds it.

@@ -5,15 +5,14 @@ use mathlib.Core.Bool.{Bool, true, false}
 use mathlib.Core.List.{List, [], ◌∷◌}
 use Prim.Native.Nat.{ℕ, zero, suc, ◌+◌, ◌≤◌}
 use native.Mathlib.Omega.{arith}
-use borrow.Author.Tests.{leb-true, eq-eqb}
-use lib.Dec.{ltb, leb}
+use borrow.Author.Tests.{eq-eqb}
+use lib.Dec.{ltb}
 use lib.ListN.{length, take, set, length-set, length-replicate}
 use lib.Seq.{set_out, length-take-le}
 use Rattle.el.specs.Lists.{pick, all}
 use Rattle.signature.specs.declared.Signature.{Signature}
 use Rattle.signature.specs.Bytes.{is_bit, signature_fault}
-use Rattle.release.specs.Files.{most_names, most_roles}
-use Rattle.signature.specs.Building.{most_bytes, lesser, empty_signature}
+use Rattle.signature.specs.Building.{most_bytes, empty_signature}
 use Rattle.signature.specs.Building.{chosen, with_name, with_role, Built, lent}
 
 -- past the bytes a store changes nothing
@@ -21,19 +20,11 @@ pub chosen_past : (g : Signature) (place : ℕ) → length g.bytes ≤ place →
 chosen_past g place past =
     ap (λ (s : List ℕ). record { names = g.names; roles = g.roles; bytes = s }) (sym (set_out _ _ _ past))
 
-pub lesser_small : (a b : ℕ) → lesser a b ≤ b
-unfolding lesser
-lesser_small a b = small (leb a b) refl
-  where
-    small : (test : Bool) → leb a b ≡ test → pick test a b ≤ b
-    small true e = leb-true a b e
-    small false e = omega arith
-
 pub empty_built : (n m : ℕ) → Built (empty_signature n m)
 unfolding empty_signature
 empty_built n m = record {
-  names = lesser_small n most_names;
-  roles = lesser_small m most_roles;
+  names = omega arith;
+  roles = omega arith;
   long = length-replicate {A = ℕ} most_bytes 0;
   bits = refl;
 }

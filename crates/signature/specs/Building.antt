@@ -4,7 +4,7 @@
 --   byte_at g i             g's byte at the place i below its n + m, elsewhere 0
 --   Built g                g has the shape that each of these steps gives and keeps
 --   lent g, chosen_by g     the bytes of g to lend to a comparison, and the names and roles that they choose
-use Rattle.std.specs.Prelude.{◌≡◌, true, List, ℕ, ◌+◌, ◌≤◌, ltb, leb, length, get_or, take, set, replicate}
+use Rattle.std.specs.Prelude.{◌≡◌, true, List, ℕ, ◌+◌, ◌≤◌, min, ltb, length, get_or, take, set, replicate}
 use Rattle.el.specs.Lists.{pick, all}
 use Rattle.el.specs.Signatures as el
 use Rattle.release.specs.Files.{most_names, most_roles}
@@ -15,13 +15,10 @@ use Rattle.signature.specs.declared.Signature.{Signature}
 abbrev pub most_bytes : ℕ
 most_bytes = most_names + most_roles
 
-unfoldable pub lesser : ℕ → ℕ → ℕ
-lesser a b = pick (leb a b) a b
-
 unfoldable pub empty_signature : ℕ → ℕ → Signature
 empty_signature n m = record {
-  names = lesser n most_names;
-  roles = lesser m most_roles;
+  names = min n most_names;
+  roles = min m most_roles;
   bytes = replicate most_bytes 0;
 }
 

@@ -4,6 +4,9 @@
 use Rattle.std.specs.Prelude.{Bool, ◌&&◌, List, ℕ, ◌+◌, eqb, ltb, leb, length, get_or}
 use Rattle.el.specs.Lists.{pick, all}
 use Rattle.el.specs.Signatures.{Signature}
+use Rattle.release.specs.Refusals.{Numbers}
+use Rattle.signature.specs.declared.SignatureRefusal.{SignatureRefusal}
+use Rattle.signature.specs.declared.SignatureRefusal.TheVariants.{WrongLength, WrongByte}
 
 abbrev pub is_bit : ℕ → Bool
 is_bit b = leb b 1
@@ -14,6 +17,14 @@ wrong_length = 17
 
 abbrev pub wrong_byte : ℕ
 wrong_byte = 18
+
+abbrev pub signature_number : SignatureRefusal → ℕ
+signature_number WrongLength = wrong_length
+signature_number WrongByte = wrong_byte
+
+-- a refusal as it is told: it concerns neither release
+abbrev pub signature_refusal : SignatureRefusal → Numbers
+signature_refusal r = record { number = signature_number r; side = 0 }
 
 -- the first refusal whose condition holds; 0, and the signature is accepted, where neither does
 unfoldable pub signature_fault : ℕ → ℕ → List ℕ → ℕ

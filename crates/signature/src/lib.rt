@@ -2,10 +2,11 @@
 #![tactic(auto)]
 
 ghost use Rattle.std.specs.Prelude.{◌≡◌};
-ghost use Rattle.signature.specs.Bytes.{signature_fault};
-ghost use Rattle.signature.specs.Building.{lesser, empty_signature, with_name, with_role, byte_at};
+ghost use Rattle.release.specs.Refusals.{told, answer};
+ghost use Rattle.signature.specs.Bytes.{signature_fault, signature_refusal};
+ghost use Rattle.signature.specs.Building.{empty_signature, with_name, with_role, byte_at};
 
-use release::{ConceptName, Release, RoleName};
+use release::{ConceptName, Refusal, Release, RoleName};
 
 // A signature that a caller builds: its numbers of names and roles, and its bytes, names first, then roles.
 #[derive(Clone, Copy)]
@@ -19,18 +20,13 @@ impl Signature {
     // As many bytes as the largest release has names and roles.
     pub const LENGTH: usize = Release::NAMES + Release::ROLES;
 
-    // Refusals: the length is not that of the names and roles; a byte is above 1.
-    pub const WRONG_LENGTH: u8 = 17;
-
-    pub const WRONG_BYTE: u8 = 18;
-
-    // No name and no role is chosen.
+    // No name and no role is chosen. `as` is proved to keep the numbers; `try_from` would test them once more.
     pub fn empty(names: usize, roles: usize) -> Self
         ensures { result ≡ empty_signature names roles }
     {
         Signature {
-            names: lesser(names, Release::NAMES) as u16,
-            roles: lesser(roles, Release::ROLES) as u8,
+            names: names.min(Release::NAMES) as u16,
+            roles: roles.min(Release::ROLES) as u8,
             bytes: [0; Signature::LENGTH],
         }
     }
@@ -40,10 +36,8 @@ impl Signature {
         ensures { result ≡ with_name self name.0 }
     {
         let number = name.0;
-        if number < self.names as usize {
-            if number < Signature::LENGTH {
-                self.bytes[number] = 1;
-            }
+        if number < usize::from(self.names) && number < Signature::LENGTH {
+            self.bytes[number] = 1;
         }
         self
     }
@@ -53,8 +47,8 @@ impl Signature {
         ensures { result ≡ with_role self role.0 }
     {
         let number = role.0;
-        if number < self.roles as usize {
-            let place = self.names as usize + number;
+        if number < usize::from(self.roles) {
+            let place = usize::from(self.names) + number;
             if place < Signature::LENGTH {
                 self.bytes[place] = 1;
             }
@@ -66,42 +60,48 @@ impl Signature {
     pub fn byte(self, place: usize) -> u8
         ensures { result ≡ byte_at self place }
     {
-        if self.names as usize + self.roles as usize <= place {
-            return 0;
+        let length = usize::from(self.names) + usize::from(self.roles);
+        if place < length.min(Signature::LENGTH) {
+            self.bytes[place]
+        } else {
+            0
         }
-        if Signature::LENGTH <= place {
-            return 0;
-        }
-        self.bytes[place]
     }
 }
 
-fn lesser(number: usize, limit: usize) -> usize
-    ensures { result ≡ lesser number limit }
-{
-    if number <= limit {
-        return number;
-    }
-    limit
+// Why a signature is refused: its length is not that of the names and roles, or a byte is above 1.
+#[derive(Clone, Copy, Debug, PartialEq, Eq)]
+pub enum SignatureRefusal {
+    WrongLength,
+    WrongByte,
 }
 
-// The refusal of a signature for a release of these numbers of names and roles, or 0. Its length is compared by parts, since
-// the sum of any two numbers may not fit.
-pub fn signature_fault(signature: &[u8], names: usize, roles: usize) -> u8
-    ensures { result ≡ signature_fault names roles signature.now }
-{
-    if signature.len() < names {
-        return Signature::WRONG_LENGTH;
-    }
-    if signature.len() - names != roles {
-        return Signature::WRONG_LENGTH;
-    }
-    let mut i = 0;
-    while i < signature.len() {
-        if 1 < signature[i] {
-            return Signature::WRONG_BYTE;
+impl Refusal for SignatureRefusal {
+    ghost numbers = { signature_refusal };
+
+    fn number(self) -> u8 {
+        match self {
+            SignatureRefusal::WrongLength => 17,
+            SignatureRefusal::WrongByte => 18,
         }
-        i += 1;
     }
-    0
+
+    // It concerns no release.
+    fn side(self) -> u8 {
+        0
+    }
+}
+
+// The refusal of a signature for a release of these numbers of names and roles. Its length is compared by parts, since the sum
+// of any two numbers may not fit.
+pub fn signature_fault(signature: &[u8], names: usize, roles: usize) -> Result<(), SignatureRefusal>
+    ensures { told signature_refusal result ≡ answer 0 (signature_fault names roles signature.now) tt }
+{
+    if signature.len().checked_sub(names) != Some(roles) {
+        return Err(SignatureRefusal::WrongLength);
+    }
+    if !signature.iter().all(|byte| *byte <= 1) {
+        return Err(SignatureRefusal::WrongByte);
+    }
+    Ok(())
 }

@@ -1,41 +1,36 @@
-use Rattle.std.proofs.Common.{get_or, ◌+◌}
-use mathlib.Core.Path.{◌∙◌}
-use mathlib.Core.Logic.{inl, inr}
-use native.Mathlib.Omega.{arith}
-use Rattle.release.proofs.Faults.{kind_joins, kind_restricts, no_kind}
+use mathlib.Core.Path.{◌∙◌, sym}
 use Rattle.release.proofs.Readings.{axiom_7, axiom_9, axiom_10, axiom_short, axiom_8, axiom_as_tail}
+use Rattle.release.proofs.KindNumbers.{restricts_else}
+use Rattle.release.proofs.Refusing.{passed}
 use Rattle.release.proofs.axiom.read_axiom.Goals as goal
 
 pub returns-then-file-after : goal.returns-then-file-after
-returns-then-file-after c = axiom_7 _ _ _ _ _ _ c.if-file-after.true
+returns-then-file-after c = axiom_7 _ _ _ _ _ _ (rw c.width.ensures at c.if-file-after.true)
 
-pub returns-then-n-left : goal.returns-then-n-left
-returns-then-n-left c = axiom_9 _ _ _ _ _ _ c.if-file-after.false _ c.number-left.ensures c.if-n-left.true
+pub returns-then-counts-left : goal.returns-then-counts-left
+returns-then-counts-left c = axiom_9 _ _ _ _ _ _ (rw c.width.ensures at c.if-file-after.false) _ c.number-left.ensures c.if-counts-left.true
 
 pub returns-then-left-least : goal.returns-then-left-least
-returns-then-left-least c = axiom_10 _ _ _ _ _ _ c.if-file-after.false _ c.number-left.ensures c.if-n-left.false c.if-left-least.true
+returns-then-left-least c = axiom_10 _ _ _ _ _ _ (rw c.width.ensures at c.if-file-after.false) _ c.number-left.ensures c.if-counts-left.false c.if-left-least.true
 
 pub returns-then-file-after-2 : goal.returns-then-file-after-2
-returns-then-file-after-2 c = axiom_short _ _ _ _ _ _ c.if-file-after.false _ c.number-left.ensures c.if-n-left.false c.if-left-least.false c.if-file-after-2.true
+returns-then-file-after-2 c = axiom_short _ _ _ _ _ _ (rw c.width.ensures at c.if-file-after.false) _ c.number-left.ensures c.if-counts-left.false c.if-left-least.false
+    (rw c.width.ensures at c.if-file-after-2.true)
 
-pub read_conjunction-requires : goal.read_conjunction-requires
-read_conjunction-requires c = ((c.requires.0, omega arith), kind_joins (get_or c.args.file.now (c.args.at + c.args.width) 0) (omega arith) (omega arith))
+pub returns-in_err-kind : goal.returns-in_err-kind
+returns-in_err-kind c = rw (passed _ c.in_err-kind.field-0.0 c.from_residual.ensures.1, c.in_err-kind.ensures.0, ← c.width.ensures)
+    (axiom_8 _ _ _ _ _ _ c.if-file-after.false _ (rw (← c.width.ensures) at c.number-left.ensures) c.if-counts-left.false c.if-left-least.false c.if-file-after-2.false
+    c.in_err-kind.ensures.1.0 c.in_err-kind.ensures.1.1)
 
-pub read_restriction-requires : goal.read_restriction-requires
-read_restriction-requires c = ((c.requires.0, omega arith), kind_restricts (get_or c.args.file.now (c.args.at + c.args.width) 0) (omega arith) (omega arith))
+pub read_restriction-requires-clause-kind : goal.read_restriction-requires-clause-kind
+read_restriction-requires-clause-kind c = restricts_else c.in_ok-kind.kind (sym c.is_conjunction.ensures ∙ c.if-is_conjunction.false)
 
-pub returns-in-1 : goal.returns-in-1
-returns-in-1 c = c.read_conjunction.ensures ∙ axiom_as_tail _ _ _ _ _ _ c.if-file-after.false _ c.number-left.ensures c.if-n-left.false c.if-left-least.false c.if-file-after-2.false
+pub returns-then-is_conjunction : goal.returns-then-is_conjunction
+returns-then-is_conjunction c = (rw c.width.ensures at c.read_conjunction.ensures) ∙
+    axiom_as_tail _ _ _ _ _ _ (rw c.width.ensures at c.if-file-after.false) _ c.number-left.ensures c.if-counts-left.false c.if-left-least.false
+    (rw c.width.ensures at c.if-file-after-2.false) c.in_ok-kind.kind (rw c.width.ensures at c.in_ok-kind.ensures)
 
-pub returns-in-3 : goal.returns-in-3
-returns-in-3 c = c.read_restriction.ensures ∙ axiom_as_tail _ _ _ _ _ _ c.if-file-after.false _ c.number-left.ensures c.if-n-left.false c.if-left-least.false c.if-file-after-2.false
-
-pub returns-in_default : goal.returns-in_default
-returns-in_default c =
-    let k = no_kind (get_or c.args.file.now (c.args.at + c.args.width) 0) (inl (omega arith)) in
-    axiom_8 _ _ _ _ _ _ c.if-file-after.false _ c.number-left.ensures c.if-n-left.false c.if-left-least.false c.if-file-after-2.false k.0 k.1
-
-pub returns-in_default-2 : goal.returns-in_default-2
-returns-in_default-2 c =
-    let k = no_kind (get_or c.args.file.now (c.args.at + c.args.width) 0) (inr (omega arith)) in
-    axiom_8 _ _ _ _ _ _ c.if-file-after.false _ c.number-left.ensures c.if-n-left.false c.if-left-least.false c.if-file-after-2.false k.0 k.1
+pub returns-else-is_conjunction : goal.returns-else-is_conjunction
+returns-else-is_conjunction c = (rw c.width.ensures at c.read_restriction.ensures) ∙
+    axiom_as_tail _ _ _ _ _ _ (rw c.width.ensures at c.if-file-after.false) _ c.number-left.ensures c.if-counts-left.false c.if-left-least.false
+    (rw c.width.ensures at c.if-file-after-2.false) c.in_ok-kind.kind (rw c.width.ensures at c.in_ok-kind.ensures)

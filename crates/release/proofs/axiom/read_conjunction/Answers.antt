@@ -1,29 +1,24 @@
-use mathlib.Core.Path.{◌∙◌, sym}
+use mathlib.Core.Path.{◌∙◌}
 use native.Mathlib.Omega.{arith}
-use Rattle.release.proofs.Numbers.{few_bytes}
 use Rattle.release.proofs.Faults.{conjunction_7, conjunction_many, conjunction_parts}
-use Rattle.release.proofs.Readings.{joined_refused, joined_axiom}
+use Rattle.release.proofs.Readings.{conjunction_refused, conjunction_read}
+use Rattle.release.proofs.Refusing.{accepts, is_accepted, passes_on, passed}
 use Rattle.release.proofs.axiom.read_conjunction.Goals as goal
 
 pub returns-then-file-tail : goal.returns-then-file-tail
-returns-then-file-tail c = joined_refused _ _ _ _ _ _ _ c.requires.1 7 (conjunction_7 _ _ _ _ c.if-file-tail.true) (λ z. omega arith)
+returns-then-file-tail c = conjunction_refused _ _ _ _ _ _ _ c.requires.kind 7 (omega arith) (conjunction_7 _ _ _ _ c.if-file-tail.true)
 
 pub returns-then-count-gt-CONJUNCTS : goal.returns-then-count-gt-CONJUNCTS
-returns-then-count-gt-CONJUNCTS c = joined_refused _ _ _ _ _ _ _ c.requires.1 12 (conjunction_many _ _ _ _ c.if-file-tail.false _ c.wide-count.ensures c.if-count-gt-CONJUNCTS.true) (λ z. omega arith)
+returns-then-count-gt-CONJUNCTS c = conjunction_refused _ _ _ _ _ _ _ c.requires.kind 12 (omega arith)
+    (conjunction_many _ _ _ _ c.if-file-tail.false _ c.from-count.ensures c.if-count-gt-CONJUNCTS.true)
 
-pub returns-then-fault-ne0 : goal.returns-then-fault-ne0
-returns-then-fault-ne0 c = joined_refused _ _ _ _ _ _ _ c.requires.1 _
-    (conjunction_parts _ _ _ _ c.if-file-tail.false _ c.wide-count.ensures c.if-count-gt-CONJUNCTS.false ∙ sym c.parts_fault-fault.ensures) c.if-fault-ne0.true
-
-pub overflow_mul-result : goal.overflow_mul-result
-overflow_mul-result c = omega (arith, few_bytes c.requires.0.0 c.if-count-gt-CONJUNCTS.false)
-
-pub overflow_add-result : goal.overflow_add-result
-overflow_add-result c = omega (arith, few_bytes c.requires.0.0 c.if-count-gt-CONJUNCTS.false)
-
-pub overflow_add-result-2 : goal.overflow_add-result-2
-overflow_add-result-2 c = omega (arith, few_bytes c.requires.0.0 c.if-count-gt-CONJUNCTS.false)
+pub returns-in_err-check_parts : goal.returns-in_err-check_parts
+returns-in_err-check_parts c = rw (passed _ c.in_err-check_parts.field-0.0 c.from_residual.ensures.1)
+    (passes_on 1 _ _ _ _ _ c.in_err-check_parts.ensures (λ some. conjunction_parts _ _ _ _ c.if-file-tail.false _ c.from-count.ensures c.if-count-gt-CONJUNCTS.false) ∙
+    conjunction_read _ _ _ _ _ _ _ c.requires.kind _ c.from-count.ensures)
 
 pub returns : goal.returns
-returns c = joined_axiom _ _ _ _ _ _ _ c.requires.1 _ c.wide-count.ensures
-    (conjunction_parts _ _ _ _ c.if-file-tail.false _ c.wide-count.ensures c.if-count-gt-CONJUNCTS.false ∙ (sym c.parts_fault-fault.ensures ∙ c.if-fault-ne0.false))
+returns c = rw c.width.ensures
+    (accepts 1 _ _
+    (conjunction_parts _ _ _ _ c.if-file-tail.false _ c.from-count.ensures c.if-count-gt-CONJUNCTS.false ∙ (is_accepted 1 _ _ _ c.in_ok-check_parts.ensures).0) ∙
+    conjunction_read _ _ _ _ _ _ _ c.requires.kind _ c.from-count.ensures)

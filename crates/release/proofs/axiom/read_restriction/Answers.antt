@@ -2,29 +2,34 @@ use mathlib.Core.Path.{◌∙◌, sym}
 use mathlib.Core.Logic.{inl, inr}
 use native.Mathlib.Omega.{arith}
 use Rattle.release.proofs.Faults.{restriction_7, restriction_11, restriction_short, restriction_9, restriction_none, is_filler_lem, no_filler}
-use Rattle.release.proofs.Readings.{restricted_refused, restricted_axiom}
+use Rattle.release.proofs.Readings.{restriction_refused, restriction_read}
+use Rattle.release.proofs.Refusing.{accepts}
 use Rattle.release.proofs.axiom.read_restriction.Goals as goal
-use Rattle.release.proofs.axiom.read_restriction.Goals.{then-n-filler+else-filler-top, else-n-filler}
+use Rattle.release.proofs.axiom.read_restriction.Goals.{else-counts-filler-via-then-counts-filler+else-filler-top, else-counts-filler-via-else-counts-filler}
 
 pub returns-then-file-tail : goal.returns-then-file-tail
-returns-then-file-tail c = restricted_refused _ _ _ _ _ _ _ c.requires.1 7 (restriction_7 _ _ _ _ _ c.if-file-tail.true) (λ z. omega arith)
+returns-then-file-tail c = restriction_refused _ _ _ _ _ _ _ c.requires.kind 7 (omega arith) (restriction_7 _ _ _ _ _ c.if-file-tail.true)
 
-pub returns-then-m-role : goal.returns-then-m-role
-returns-then-m-role c = restricted_refused _ _ _ _ _ _ _ c.requires.1 11 (restriction_11 _ _ _ _ _ c.if-file-tail.false _ c.wide-role.ensures c.if-m-role.true) (λ z. omega arith)
+pub returns-then-counts-role : goal.returns-then-counts-role
+returns-then-counts-role c = restriction_refused _ _ _ _ _ _ _ c.requires.kind 11 (omega arith)
+    (restriction_11 _ _ _ _ _ c.if-file-tail.false _ c.from-role.ensures c.if-counts-role.true)
 
-pub returns-then-file-tail-2 : goal.returns-then-file-tail-2
-returns-then-file-tail-2 c = restricted_refused _ _ _ _ _ _ _ c.requires.1 7
-    (restriction_short _ _ _ _ _ c.if-file-tail.false _ c.wide-role.ensures c.if-m-role.false c.if-file-tail-2.true) (λ z. omega arith)
+pub returns-then-file-next : goal.returns-then-file-next
+returns-then-file-next c = restriction_refused _ _ _ _ _ _ _ c.requires.kind 7 (omega arith)
+    (restriction_short _ _ _ _ _ c.if-file-tail.false _ c.from-role.ensures c.if-counts-role.false (omega (arith, c.width.ensures)))
 
 pub returns-then-filler-top : goal.returns-then-filler-top
-returns-then-filler-top c = restricted_refused _ _ _ _ _ _ _ c.requires.1 9
-    (restriction_9 _ _ _ _ _ c.if-file-tail.false _ c.wide-role.ensures c.if-m-role.false c.if-file-tail-2.false _ c.number-filler.ensures
-    (no_filler c.args.width _ _ c.if-n-filler.true (λ e. c.if-filler-top.true (e ∙ sym c.top-top.ensures)))) (λ z. omega arith)
+returns-then-filler-top c = restriction_refused _ _ _ _ _ _ _ c.requires.kind 9 (omega arith)
+    (restriction_9 _ _ _ _ _ c.if-file-tail.false _ c.from-role.ensures c.if-counts-role.false (omega (arith, c.width.ensures)) _ c.number-filler.ensures
+    (no_filler _ _ _ c.if-counts-filler.true (λ e. c.if-filler-top.true (e ∙ sym c.top.ensures))))
 
 pub returns : goal.returns
 returns c =
-    let a = c.args in
-    let f = is_filler_lem a.width a.n c.number-filler.result
-    (elim c.if-n-filler.branch [ then-n-filler+else-filler-top w ↦ inr (omega (arith, c.top-top.ensures)) | else-n-filler w ↦ inl (omega arith) ]) in
-    restricted_axiom _ _ _ _ _ _ _ c.requires.1 _ _ _ c.wide-role.ensures c.number-filler.ensures c.filler_node-node.ensures
-    (restriction_none _ _ _ _ _ c.if-file-tail.false _ c.wide-role.ensures c.if-m-role.false c.if-file-tail-2.false _ c.number-filler.ensures f)
+    let f = is_filler_lem _ c.args.counts.names c.number-filler.result
+    (elim c.else-counts-filler.branch [
+      | else-counts-filler-via-then-counts-filler+else-filler-top w ↦ inr (w.if-filler-top.false ∙ w.top.ensures)
+      | else-counts-filler-via-else-counts-filler w ↦ inl w.if-counts-filler.false
+    ]) in
+    rw c.width.ensures
+    (accepts 1 _ _ (restriction_none _ _ _ _ _ c.if-file-tail.false _ c.from-role.ensures c.if-counts-role.false (omega (arith, c.width.ensures)) _ c.number-filler.ensures f) ∙
+    restriction_read _ _ _ _ _ _ _ c.requires.kind _ _ _ c.from-role.ensures c.number-filler.ensures c.filler_node.ensures)

@@ -12,15 +12,15 @@ use Rattle.signature.proofs.Signature.with_role.Goals as goal
 
 pub returns-then-place-lt-LENGTH : goal.returns-then-place-lt-LENGTH
 unfolding with_role
-returns-then-place-lt-LENGTH c = simp (lt-ltb _ _ c.if-number-self.true)
+returns-then-place-lt-LENGTH c = rw c.from-then-number-from.ensures (simp (lt-ltb _ _ (rw c.from.ensures at c.if-number-from.true)))
 
 pub returns-else-place-lt-LENGTH : goal.returns-else-place-lt-LENGTH
 unfolding with_role
 returns-else-place-lt-LENGTH c =
     let good = c.well_formed in
     let long : length c.args.self.bytes ≡ most_bytes = search rules in
-    simp (lt-ltb _ _ c.if-number-self.true) (chosen_past _ (c.args.self.names + c.args.role.0) (omega arith))
+    simp (lt-ltb _ _ (rw c.from.ensures at c.if-number-from.true)) (chosen_past _ (c.args.self.names + c.args.role.0) (omega (arith, c.from-then-number-from.ensures)))
 
-pub returns-else-number-self : goal.returns-else-number-self
+pub returns-else-number-from : goal.returns-else-number-from
 unfolding with_role
-returns-else-number-self c = simp (le-ltb _ _ c.if-number-self.false)
+returns-else-number-from c = simp (le-ltb _ _ (rw c.from.ensures at c.if-number-from.false))

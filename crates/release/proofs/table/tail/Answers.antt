@@ -1,6 +1,0 @@
-use Rattle.release.specs.Tables.{tail_at}
-use Rattle.release.proofs.table.tail.Goals as goal
-
-pub returns : goal.returns
-unfolding tail_at
-returns c = c.wide_16.ensures

@@ -1,0 +1,7 @@
+use mathlib.Core.Path.{refl}
+use Rattle.release.specs.Tables.{kind_at}
+use Rattle.release.proofs.terminology.Terminology.kind.Goals as goal
+
+pub returns : goal.returns
+unfolding kind_at
+returns c = refl
