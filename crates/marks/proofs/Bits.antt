@@ -187,6 +187,16 @@ outside_bit a b k e = by_bits (bit a k) (bit b k) (bit_small a k) (bit_small b k
     by_bits zero (suc (suc q)) h l f = absurd (omega arith)
     by_bits (suc (suc p)) q h l f = absurd (omega arith)
 
+pub not_within : (a b k : ℕ) → bit (bit_xor (bit_or a b) b) k ≡ 1 → bit b k ≡ 1 → ⊥
+not_within a b k e f = by_bits (bit a k) (bit b k) (bit_small a k) f (sym (bit_xor_lem (bit_or a b) b k ∙ ap (λ (z : ℕ). differ z (bit b k)) (bit_or_lem a b k)) ∙ e)
+  where
+    by_bits : (p q : ℕ) → p < 2 → q ≡ 1 → differ (max p q) q ≡ 1 → ⊥
+    by_bits zero (suc zero) h l g = omega arith
+    by_bits (suc zero) (suc zero) h l g = omega arith
+    by_bits p zero h l g = omega arith
+    by_bits p (suc (suc q)) h l g = omega arith
+    by_bits (suc (suc p)) q h l g = omega arith
+
 pub not_outside : (a b k : ℕ) → (bit (bit_xor (bit_or a b) b) k ≡ 1 → ⊥) → bit a k ≡ 1 → bit b k ≡ 1
 not_outside a b k f e = by_bits (bit a k) (bit b k) e (bit_small b k) (λ g. f (bit_xor_lem (bit_or a b) b k ∙ ap (λ (z : ℕ). differ z (bit b k)) (bit_or_lem a b k) ∙ g))
   where

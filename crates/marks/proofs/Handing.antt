@@ -2,22 +2,24 @@
 --   stays_anywhere                     a mark of any square stays where the marks of one grow
 --   taken, given                       a row absorbed, as a step along inclusions
 --   covering_joined, covering_none     the line of what needs no look
---   near_one, near_none, known_start, known_more, known_end     the rows above a row, looked at one after the other
+--   chain, near_one, near_none, known_start .. known_end          the rows above a row, looked at one after the other
 --   done_none, done_more, rest_none, rest_done, rest_more, rest_end     all rows, one after the other
 use mathlib.Core.Path.{◌≡◌}
-use mathlib.Core.Bool.{Bool}
+use mathlib.Core.Bool.{Bool, ◌||◌}
 use mathlib.Core.List.{List}
 use mathlib.Core.Logic.{inl, inr}
 use Prim.Native.Nat.{ℕ, ◌+◌, ◌-◌, ◌*◌, ◌%◌, ◌≤◌, ◌<◌}
 use native.Mathlib.Omega.{arith}
 use native.Mathlib.Decide.{ℕ_discrete, dec_lt}
 use Rattle.marks.specs.declared.Square.{Square}
-use Rattle.marks.specs.Squares.{place, Marked, Extends, Within}
+use Rattle.marks.specs.declared.inclusions.Direction.{Direction}
+use Rattle.marks.specs.declared.inclusions.Direction.TheVariants.{Down, Up}
+use Rattle.marks.specs.Squares.{place, Marked, Extends, First}
 use Rattle.marks.specs.Passes.{Grows, none, more, Pass, Below, FromRow}
-use Rattle.marks.specs.Lines.{Has, Empty, Added, Joined, NextOutside}
-use Rattle.marks.specs.Inclusions.{Taking, Giving, Every, Done, Given, Rest, Covering, Near, Others}
+use Rattle.marks.specs.Lines.{Has, Empty, Added, Joined, MarkedOutside}
+use Rattle.marks.specs.Inclusions.{Taking, Giving, Reaches, Every, Done, Given, Rest, Covering, Near, Others}
 use Rattle.marks.proofs.Squares.{column_bit}
-use Rattle.marks.proofs.Passes.{pass_by, below_none, below_more, below_end}
+use Rattle.marks.proofs.Passes.{pass_by, pass_as, pass_both, below_none, below_more, below_end}
 
 -- every byte keeps its bits
 extends_anywhere : {p q : Square} {w v : List ℕ} {x y : ℕ} → Extends q w v → Marked p w x y → Marked p v x y
@@ -51,11 +53,9 @@ pub covering_none : {p : Square} {k : List ℕ} {c : ℕ} {w i : List ℕ} → C
 covering_none = record { stays = λ y h. h; only = λ y b m. inl m }
 
 -- rows contained in each other
-pub take_chain : {q : Square} (y c x : ℕ) (w : List ℕ) → Within q y c w → Within q c x w → Within q y x w
-take_chain y c x w f g = record { marked = λ z h m. g.marked z h (f.marked z h m) }
-
-pub give_chain : {q : Square} (y c x : ℕ) (w : List ℕ) → Within q c y w → Within q x c w → Within q x y w
-give_chain y c x w f g = record { marked = λ z h m. f.marked z h (g.marked z h m) }
+pub chain : (d : Direction) (q : Square) (y c x : ℕ) (w : List ℕ) → Reaches d q y c w → Reaches d q c x w → Reaches d q y x w
+chain Down q y c x w f g = record { marked = λ z h m. g.marked z h (f.marked z h m) }
+chain Up q y c x w f g = record { marked = λ z h m. f.marked z h (g.marked z h m) }
 
 -- what is known of the rows above x, if it is known of those in the line i: of those in the line j, and of those before a
 pub record Known (R : ℕ → ℕ → List ℕ → Type 0) (p : Square) (k i j : List ℕ) (x a : ℕ) (w : List ℕ) : Type 0 where
@@ -69,23 +69,33 @@ module _ {R : ℕ → ℕ → List ℕ → Type 0} {p : Square} {k : List ℕ} {
   pub near_none : {i : List ℕ} {w : List ℕ} → Near R p k i i x w
   near_none = record { each = λ d y b m. inl m }
 
-  pub known_start : {i : List ℕ} {r : ℕ} {w : List ℕ} → NextOutside p w x i 0 r → Known R p k i i x r w
-  known_start n = record { covered = λ f d y b m. f y b m; before = λ f d y b l m. f y b (n.none y (omega arith) l m) }
+  pub known_start : {i : List ℕ} {w : List ℕ} → Known R p k i i x 0 w
+  known_start = record { covered = λ f d y b m. f y b m; before = λ f d y b l m. absurd (omega arith) }
 
-  pub known_more : {i j l : List ℕ} {a r : ℕ} {w : List ℕ} → ((y c x : ℕ) (w : List ℕ) → R y c w → R c x w → R y x w) → a ≤ p.names → Covering p k a w j l
-      → NextOutside p w x l (a + 1) r → Known R p k i j x a w → R a x w → Known R p k i l x r w
-  known_more {i} {j} {l} {a} {r} {w} chain h g n s here = record { covered = known; before = λ f d y b e m. by_place f d y b e m (dec_lt y a) (ℕ_discrete y a) }
+  known_to : {i j : List ℕ} {a r : ℕ} {w : List ℕ} → First (MarkedOutside p w x j) (λ y. Marked p w x y → Has j y) p.names a r → Known R p k i j x a w → Known R p k i j x r w
+  known_to {i} {j} {a} {r} {w} n s = record { covered = s.covered; before = λ f d y b l m. by_place f d y b l m (dec_lt y a) }
+    where
+      by_place : ((y : ℕ) → y ≤ p.names → Has i y → R y x w) → Done p.names k (Every R p) w → (y : ℕ) → y ≤ p.names → y < r → Marked p w x y → Dec (y < a) → R y x w
+      by_place f d y b l m (yes g) = s.before f d y b g m
+      by_place f d y b l m (no g) = s.covered f d y b (n.before y (omega arith) l m)
+
+  known_more : {i j l : List ℕ} {a : ℕ} {w : List ℕ} → ((y c x : ℕ) (w : List ℕ) → R y c w → R c x w → R y x w) → a ≤ p.names → Covering p k a w j l
+      → Known R p k i j x a w → R a x w → Known R p k i l x (a + 1) w
+  known_more {i} {j} {l} {a} {w} chain h g s here = record { covered = known; before = λ f d y b e m. by_place f d y b e m (ℕ_discrete y a) }
     where
       known : ((y : ℕ) → y ≤ p.names → Has i y → R y x w) → Done p.names k (Every R p) w → (y : ℕ) → y ≤ p.names → Has l y → R y x w
       known f d y b m = elim (g.only y b m) [ inl z ↦ s.covered f d y b z | inr z ↦ chain y a x w ((d.at a h z.0).each y b z.1) here ]
 
-      by_place : ((y : ℕ) → y ≤ p.names → Has i y → R y x w) → Done p.names k (Every R p) w → (y : ℕ) → y ≤ p.names → y < r → Marked p w x y → Dec (y < a) → Dec (y ≡ a) → R y x w
-      by_place f d y b e m (yes g) z = s.before f d y b g m
-      by_place f d y b e m (no g) (yes z) = rw z here
-      by_place f d y b e m (no g) (no z) = known f d y b (n.none y (omega arith) e m)
+      by_place : ((y : ℕ) → y ≤ p.names → Has i y → R y x w) → Done p.names k (Every R p) w → (y : ℕ) → y ≤ p.names → y < a + 1 → Marked p w x y → Dec (y ≡ a) → R y x w
+      by_place f d y b e m (yes z) = rw z here
+      by_place f d y b e m (no z) = s.before f d y b (omega arith) m
 
-  pub known_end : {i j : List ℕ} {a : ℕ} {w : List ℕ} → p.names < a → Known R p k i j x a w → Others R p k i x w
-  known_end h s = record { each = λ f d. record { each = λ y b m. s.before f d y b (omega arith) m } }
+  -- a turn: the next row above x that the line has not
+  pub known_turn : {Rule : List ℕ → ℕ → ℕ → Type 0} {q : Square} {i j l : List ℕ} {a c : ℕ} {u w v : List ℕ} {r t : Bool} → ((y c x : ℕ) (w : List ℕ) → R y c w → R c x w → R y x w)
+      → First (MarkedOutside p w x j) (λ y. Marked p w x y → Has j y) p.names a c → Covering p k c v j l → Pass Rule q (Known R p k i j x a) u w r → Pass Rule q (R c x) w v t
+      → Pass Rule q (Known R p k i l x (c + 1)) u v (r || t)
+  known_turn {i = i} {j = j} {c = c} chain n g s here =
+      pass_both {D = Known R p k i j x c} (λ m e. known_more chain n.inside g m e) (pass_as (known_to n) s) here
 
   pub near_others : {i j : List ℕ} {w : List ℕ} → Empty i → Near R p k i j x w → Others R p k j x w → Given p.names k (Every R p) x w
   near_others e g o = record { done = λ d. o.each (λ y b m. elim (g.each d y b m) [ inl z ↦ absurd (e.none y z) | inr z ↦ z ]) d }

@@ -1,4 +1,5 @@
 -- Laws of squares of marks. To be read in this order.
+pub mod Lists
 pub mod Bits
 pub mod WordBits
 pub mod Squares
@@ -7,5 +8,3 @@ pub mod Lines
 pub mod Scans
 pub mod Turning
 pub mod Handing
-pub mod Orders
-pub mod Waits

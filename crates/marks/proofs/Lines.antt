@@ -1,11 +1,12 @@
 -- Laws of lines.
---   tells_has, tells_has_not           a test of a column;  or_added: a line with more bits in a byte
+--   tells_has                          a test of a column;  or_added: a line with more bits in a byte
 --   join_none, join_more, join_end     a row joined to a line, byte after byte
 --   out_start .. out_none              the next column outside a line
 --   missing_further                    a byte of a row set where a line has nothing;  full_none .. full_end: a row looked through for such bytes
+--   column_few, walk_on                the columns of a line, given one after the other
 --   empty_zeros                        a line of zeros has no column
 use mathlib.Core.Path.{◌≡◌, refl, sym, ap, ◌∙◌}
-use mathlib.Core.Bool.{Bool, true, false}
+use mathlib.Core.Bool.{Bool, true}
 use mathlib.Core.List.{List}
 use mathlib.Core.Logic.{◌⊎◌, inl, inr}
 use Prim.Native.Nat.{ℕ, suc, ◌+◌, ◌*◌, ◌/◌, ◌%◌, ◌^◌, ◌≤◌, ◌<◌, max, zero}
@@ -13,10 +14,16 @@ use native.Mathlib.Omega.{arith}
 use native.Mathlib.Decide.{ℕ_discrete}
 use lib.ListN.{length, get_or, length-set, replicate}
 use lib.Bits.{bit_or, bit_xor}
-use Rattle.el.proofs.Tests.{Tells, always, never}
+use lib.Dec.{eqb}
+use borrow.Author.Tests.{eqb-true, eq-eqb}
+use Rattle.el.proofs.Tests.{Tells}
+use Rattle.std.specs.Prelude.{None}
 use Rattle.marks.specs.declared.Square.{Square}
 use Rattle.marks.specs.Squares.{bit, place, Room, Marked, Put}
 use Rattle.marks.specs.Passes.{Grows, more, Pass}
+use Rattle.std.specs.Prelude.{Option, Some}
+use Rattle.marks.specs.declared.columns.Columns.{Columns}
+use Rattle.marks.specs.Columns.{Walkable, ColumnGiven}
 use Rattle.marks.specs.Lines.{Has, Empty, Added, Joined, NextOutside, Missing, Full}
 use Rattle.marks.proofs.Bits.{bit_small, bit_same, bit_other, both_zero, not_bit, bit_of_not, bit_of_zero, bit_or_lem, or_at, or_stays, or_has, or_only}
 use Rattle.marks.proofs.Squares.{not_true, place_column, column_bit, or_row}
@@ -24,13 +31,9 @@ use Rattle.marks.proofs.Passes.{room_stays, unset_falls, put_grows, grows_furthe
 
 -- one column
 module _ (k : List ℕ) (y : ℕ) where
-  pub tells_has : get_or k (y / 8) 0 / 2 ^ (y % 8) % 2 ≡ 1 → Tells true (Has k y)
+  pub tells_has : Tells (eqb (get_or k (y / 8) 0 / 2 ^ (y % 8) % 2) 1) (Has k y)
   unfolding bit
-  tells_has h = always (record { is = h })
-
-  pub tells_has_not : (get_or k (y / 8) 0 / 2 ^ (y % 8) % 2 ≡ 1 → ⊥) → Tells false (Has k y)
-  unfolding bit
-  tells_has_not h = never (λ m. h m.is)
+  tells_has = record { sound = λ e. record { is = eqb-true _ _ e }; complete = λ h. eq-eqb _ _ h.is }
 
   pub or_added : y / 8 < length k → Added y k (or_at k (y / 8) (1 * 2 ^ (y % 8) % 256))
   or_added l = record {
@@ -82,8 +85,8 @@ module _ {q : Square} {w : List ℕ} {x : ℕ} {k : List ℕ} {from : ℕ} where
   pub out_start : (y : ℕ) → y ≡ from → InBefore q w x k from y
   out_start y e = record { after = omega arith; has = λ z h l b m. absurd (omega arith) }
 
-  pub out_none : {y : ℕ} → from ≤ suc q.names → InBefore q w x k from y → q.names < y → NextOutside q w x k from (q.names + 1)
-  out_none f n l = record { after = omega arith; inside = omega arith; none = λ z h b m. n.has z h (omega arith) (omega arith) m; found = λ h. absurd (omega arith) }
+  pub out_none : {y : ℕ} → InBefore q w x k from y → q.names < y → NextOutside q w x k from None
+  out_none n l = record { each = λ z h b m. n.has z h (omega arith) b m }
 
 -- what a line has not, marked in a row
 pub missing_further : {q : Square} {u w : List ℕ} {k : List ℕ} {x target : ℕ} (i : ℕ) → Grows (Missing k x) q u w → Room q u → x ≤ q.names → i ≤ q.names / 8 → target ≡ place q x 0
@@ -163,3 +166,10 @@ empty_zeros k = record { none = λ y h. omega (arith, sym (ap (λ (b : ℕ). bit
     zeros zero i = refl
     zeros (suc k) zero = refl
     zeros (suc k) (suc i) = zeros k i
+
+-- a walk of columns: each column that it gives is one of the names or ⊤, and it goes on
+pub column_few : {n y : ℕ} {s t : Columns} → Walkable n s → ColumnGiven s (Some y) t → y ≤ n
+column_few w g = rw w.names at g.column
+
+pub walk_on : {n : ℕ} {r : Option ℕ} {s t : Columns} → Walkable n s → ColumnGiven s r t → Walkable n t
+walk_on w g = record { names = g.names ∙ w.names; spans = rw g.line w.spans; few = w.few }

@@ -6,7 +6,7 @@
 --   due_there, due_not, due_as                             a mark that is there, that is not allowed, that a test tells of
 --   pass_found, pass_next                                  a pass that ends with its first part that changed something
 --   pass_changed, pass_unchanged                           two passes, by whether the second changed anything
---   turn_changed, turn_unchanged, turn_both, turn_skipped  the same for a turn of a loop; turns_none, turns_to, turns_end: no turn
+--   turn_both, turn_skipped                                the same for a turn of a loop; turns_none, turns_to, turns_end: no turn
 --   pass_closed                                            a pass that changed nothing ends the passes
 --   passes_left, pass_less                                  passes end: one that finds something leaves fewer bits unset, and one that finds nothing is the last
 -- Not here: laws of single cells (Squares).
@@ -21,7 +21,7 @@ use native.Mathlib.Decide.{ℕ_discrete, dec_lt}
 use Rattle.el.proofs.Tests.{Tells}
 use Rattle.el.specs.Lists.{pick}
 use Rattle.marks.specs.declared.Square.{Square}
-use Rattle.marks.specs.Squares.{place, Room, Marked, Unmarked, Frame, Put, Kept, Within, NextMarked, unset}
+use Rattle.marks.specs.Squares.{place, Room, Marked, Unmarked, Frame, Put, Kept, Within, First, Nowhere, NotMarked, unset}
 use Rattle.marks.specs.Passes.{Grows, none, more, Pass, Closed, Below, Due, AllGood, FromRow}
 use Rattle.marks.proofs.Squares.{not_true, not_false, refuted, frame_same, frame_further, frame_room, hand_byte}
 use Rattle.marks.proofs.Bits.{or_at}
@@ -142,12 +142,6 @@ module _ {Rule : List ℕ → ℕ → ℕ → Type 0} {q : Square} where
   turns_none = pass_none below_none
 
   module _ {D : ℕ → List ℕ → Type 0} {u w : List ℕ} where
-    pub turn_changed : {k : ℕ} {v : List ℕ} {r t : Bool} → Pass Rule q (Below D k) u w r → Pass Rule q (D k) w v t → t ≡ true → Pass Rule q (Below D (k + 1)) u v true
-    turn_changed p s e = pass_changed p s e
-
-    pub turn_unchanged : {k : ℕ} {v : List ℕ} {r t : Bool} → Pass Rule q (Below D k) u w r → Pass Rule q (D k) w v t → t ≡ false → Pass Rule q (Below D (k + 1)) u v r
-    turn_unchanged p s e = pass_unchanged below_more p s e
-
     pub turn_both : {k : ℕ} {v : List ℕ} {r t : Bool} → Pass Rule q (Below D k) u w r → Pass Rule q (D k) w v t → Pass Rule q (Below D (k + 1)) u v (r || t)
     turn_both p s = pass_both below_more p s
 
@@ -197,14 +191,15 @@ pub record HasMark (q : Square) (a x y : ℕ) (w : List ℕ) : Type 0 where
   pub marked : Marked q w a y → Marked q w x y
 
 -- columns of a row that are looked at one after the other, those that are marked
-pub marks_to : {q : Square} {a z k r : ℕ} {w : List ℕ} → NextMarked q w a k r → Below (HasMark q a z) k w → Below (HasMark q a z) r w
-marks_to {k = k} n b = record { at = λ i l. elim (dec_lt i k) [ yes h ↦ b.at i h | no h ↦ record { marked = λ m. absurd (n.none i (omega arith) l m) } ] }
+pub marks_more : {q : Square} {a z k y : ℕ} {w v : List ℕ} {r : Bool} → First (Marked q w a) (NotMarked q w a) q.names k y → Put q z y w v r → r ≡ false
+    → Below (HasMark q a z) k w → Below (HasMark q a z) (y + 1) v
+marks_more {q} {a} {z} {k} {y} {w} n p e b = below_more (rw (p.same e) to) (record { marked = λ m. p.there })
+  where
+    to : Below (HasMark q a z) y w
+    to = record { at = λ i l. elim (dec_lt i k) [ yes h ↦ b.at i h | no h ↦ record { marked = λ m. absurd (n.before i (omega arith) l m) } ] }
 
-pub marks_more : {q : Square} {a z y : ℕ} {w v : List ℕ} {r : Bool} → Put q z y w v r → r ≡ false → Below (HasMark q a z) y w → Below (HasMark q a z) (y + 1) v
-marks_more p e b = below_more (rw (p.same e) b) (record { marked = λ m. p.there })
-
-pub marks_end : {q : Square} {a z k : ℕ} {w : List ℕ} → q.names < k → Below (HasMark q a z) k w → Within q a z w
-marks_end l b = record { marked = λ y h m. (b.at y (omega arith)).marked m }
+pub marks_end : {q : Square} {a z k : ℕ} {w : List ℕ} → Nowhere (NotMarked q w a) q.names k → Below (HasMark q a z) k w → Within q a z w
+marks_end {k = k} n b = record { marked = λ y h m. elim (dec_lt y k) [ yes l ↦ (b.at y l).marked m | no l ↦ absurd (n.each y (omega arith) h m) ] }
 
 -- one mark that is new, and then the whole row
 pub absorb_pass : {q : Square} {D : List ℕ → Type 0} {a z y : ℕ} {t u w v : List ℕ} {r : Bool} → u ≡ t → Marked q u a y → Put q z y u w r → r ≡ true → Grows (FromRow q a z) q w v

@@ -6,17 +6,20 @@
 -- Not here: reading a block (WordBits).
 use mathlib.Core.Path.{◌≡◌, sym, ap, ◌∙◌}
 use mathlib.Core.List.{List}
-use Prim.Native.Nat.{ℕ, suc, ◌+◌, ◌-◌, ◌*◌, ◌/◌, ◌%◌, ◌≤◌, ◌<◌}
+use Prim.Native.Nat.{ℕ, ◌+◌, ◌-◌, ◌*◌, ◌/◌, ◌%◌, ◌≤◌, ◌<◌}
 use native.Mathlib.Omega.{arith}
 use native.Mathlib.Decide.{dec_lt, dec_le}
 use borrow.Author.Tests.{le-leb, lt-leb}
 use lib.Bits.{bit_or, bit_xor}
 use lib.ListN.{length, get_or}
+use Rattle.std.specs.Bool.{then_some}
+use Rattle.std.specs.Prelude.{Option, leb}
+use Rattle.std.specs.Option.{IfSome}
 use Rattle.marks.specs.declared.Square.{Square}
 use Rattle.marks.specs.Squares.{bit, place, farthest, most_cells, Place, Room, Marked, Within, NextMarked}
 use Rattle.marks.specs.Lines.{Has, Spans, NextOutside}
-use Rattle.marks.specs.Words.{ReadBits, block_end, Rest, FirstBit, InRow, or_none}
-use Rattle.marks.proofs.Bits.{bit_of_zero, both_zero, outside_bit, not_outside, within_byte}
+use Rattle.marks.specs.Words.{ReadBits, block_end, Rest, FirstBit, InRow}
+use Rattle.marks.proofs.Bits.{bit_of_zero, both_zero, outside_bit, not_outside, not_within, within_byte}
 use Rattle.marks.proofs.Squares.{NoneBefore, place_column, row_inside}
 use Rattle.marks.proofs.Lines.{InBefore}
 use Rattle.marks.proofs.WordBits.{bit_few, end_after}
@@ -26,6 +29,14 @@ row_at_lem {q} room h l p = let b = row_inside {i = q.names / 8} room h (omega a
 
 pub line_at : {n y : ℕ} {k : List ℕ} → n ≤ 65535 → y ≤ n → Spans n k → InRow n k 0 y
 line_at few l s = record { column = l; inside = omega (arith, s.inside); near = omega arith }
+
+-- a column that was found, and that is told where it is one of the line
+pub within_line : {from y : ℕ} {r : Option ℕ} (t n : ℕ) → from ≤ y → r ≡ then_some (leb (y + t) n) (y + t) → IfSome r (λ z. (from ≤ z) × (z ≤ n))
+within_line {from} {y} t n h e = rw e (by_order (dec_le (y + t) n))
+  where
+    by_order : Dec (y + t ≤ n) → IfSome (then_some (leb (y + t) n) (y + t)) (λ z. (from ≤ z) × (z ≤ n))
+    by_order (yes l) = rw (le-leb _ _ l) (omega arith, l)
+    by_order (no l) = let g : n < y + t = omega arith in rw (lt-leb _ _ g) tt
 
 -- a block of a row
 module _ {q : Square} {w : List ℕ} {x row y r : ℕ} (at : Place q x 0 row) (rest : Rest q.names w row y r) where
@@ -62,21 +73,16 @@ module _ {q : Square} {w : List ℕ} {x row y r : ℕ} (at : Place q x 0 row) (r
           by_order (yes g) = n.none z h g k m
           by_order (no g) = omega (arith, marked_rest z (omega arith) (omega (arith, inside_block)) m, first.none (z - y) (omega arith))
 
-      pub next_found : {found : ℕ} → from ≤ suc q.names → found ≡ or_none q.names (y + t) → NextMarked q w x from found
-      next_found f e = rw e (by_order (dec_le (y + t) q.names))
+      pub next_found : {r : Option ℕ} → r ≡ then_some (leb (y + t) q.names) (y + t) → NextMarked q w x from r
+      next_found e = rw e (by_order (dec_le (y + t) q.names))
         where
           is : bit r (y + t - y) ≡ 1
           is = let e : y + t - y ≡ t = omega arith in rw e first.is
 
-          by_order : Dec (y + t ≤ q.names) → NextMarked q w x from (or_none q.names (y + t))
-          by_order (yes l) = rw (le-leb _ _ l) (record {
-            after = omega (arith, n.after);
-            inside = omega arith;
-            none = λ z h k m. before z h k (omega arith) m;
-            found = λ k. rest_marked (y + t) (omega arith) inside_block is;
-          })
-          by_order (no l) = let g : q.names < y + t = omega arith in rw (lt-leb _ _ g)
-              (record { after = omega arith; inside = omega arith; none = λ z h k m. before z h (omega arith) (omega arith) m; found = λ k. absurd (omega arith) })
+          by_order : Dec (y + t ≤ q.names) → NextMarked q w x from (then_some (leb (y + t) q.names) (y + t))
+          by_order (yes l) = rw (le-leb _ _ l)
+              (record { after = omega (arith, n.after); inside = l; there = rest_marked (y + t) (omega arith) inside_block is; before = λ z h k m. before z h k (omega arith) m })
+          by_order (no l) = let g : q.names < y + t = omega arith in rw (lt-leb _ _ g) (record { each = λ z h k m. before z h (omega arith) k m })
 
 -- a block of a row without the columns of a line
 module _ {q : Square} {w k : List ℕ} {x row y r o : ℕ} (at : Place q x 0 row) (rest : Rest q.names w row y r) (line : Rest q.names k 0 y o) where
@@ -84,6 +90,11 @@ module _ {q : Square} {w k : List ℕ} {x row y r o : ℕ} (at : Place q x 0 row
   line_has z h l e =
       let i : z / 8 ≡ 0 + z / 8 = omega arith in
       record { is = ap (λ (b : ℕ). bit (get_or k b 0) (z % 8)) i ∙ sym (line.bits z h l) ∙ e }
+
+  has_line : (z : ℕ) → y ≤ z → z < block_end q.names y → Has k z → bit o (z - y) ≡ 1
+  has_line z h l m =
+      let i : 0 + z / 8 ≡ z / 8 = omega arith in
+      line.bits z h l ∙ ap (λ (b : ℕ). bit (get_or k b 0) (z % 8)) i ∙ m.is
 
   module _ {from : ℕ} (n : InBefore q w x k from y) where
     pub out_block : {end : ℕ} → end ≡ block_end q.names y → bit_xor (bit_or r o) o ≤ 0 → InBefore q w x k from end
@@ -109,21 +120,23 @@ module _ {q : Square} {w k : List ℕ} {x row y r o : ℕ} (at : Place q x 0 row
               let none : bit (bit_xor (bit_or r o) o) (z - y) ≡ 0 = first.none (z - y) (omega arith) in
               line_has z (omega arith) (omega (arith, out_inside)) (not_outside r o (z - y) (λ e. omega arith) (marked_rest at rest z (omega arith) (omega (arith, out_inside)) m))
 
-      pub out_found : {found : ℕ} → from ≤ suc q.names → found ≡ or_none q.names (y + t) → NextOutside q w x k from found
-      out_found f e = rw e (by_order (dec_le (y + t) q.names))
+      pub out_found : {r : Option ℕ} → r ≡ then_some (leb (y + t) q.names) (y + t) → NextOutside q w x k from r
+      out_found e = rw e (by_order (dec_le (y + t) q.names))
         where
           is : bit r (y + t - y) ≡ 1
           is = let e : y + t - y ≡ t = omega arith in rw e (outside_bit r o t first.is)
 
-          by_order : Dec (y + t ≤ q.names) → NextOutside q w x k from (or_none q.names (y + t))
+          line_not : Has k (y + t) → ⊥
+          line_not m = let e : y + t - y ≡ t = omega arith in not_within r o t first.is (rw e at (has_line (y + t) (omega arith) out_inside m))
+
+          by_order : Dec (y + t ≤ q.names) → NextOutside q w x k from (then_some (leb (y + t) q.names) (y + t))
           by_order (yes l) = rw (le-leb _ _ l) (record {
             after = omega (arith, n.after);
-            inside = omega arith;
-            none = λ z h b m. out_before z h b (omega arith) m;
-            found = λ b. rest_marked at rest (y + t) (omega arith) out_inside is;
+            inside = l;
+            there = record { marked = rest_marked at rest (y + t) (omega arith) out_inside is; out = λ m. line_not m };
+            before = λ z h b m. out_before z h b (omega arith) m;
           })
-          by_order (no l) = let g : q.names < y + t = omega arith in rw (lt-leb _ _ g)
-              (record { after = omega arith; inside = omega arith; none = λ z h b m. out_before z h (omega arith) (omega arith) m; found = λ b. absurd (omega arith) })
+          by_order (no l) = let g : q.names < y + t = omega arith in rw (lt-leb _ _ g) (record { each = λ z h b m. out_before z h (omega arith) b m })
 
 -- the columns below y of one row seen in another
 pub record SeenWithin (q : Square) (w : List ℕ) (from to y missing : ℕ) : Type 0 where

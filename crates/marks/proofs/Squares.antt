@@ -11,15 +11,20 @@ use mathlib.Core.Path.{◌≡◌, refl, sym, ap, ◌∙◌}
 use mathlib.Core.Bool.{Bool, true, false, false≢true}
 use mathlib.Core.List.{List}
 use mathlib.Core.Logic.{◌⊎◌, inl, inr}
-use Prim.Native.Nat.{ℕ, suc, ◌+◌, ◌*◌, ◌/◌, ◌%◌, ◌^◌, ◌≤◌, ◌<◌}
+use Prim.Native.Nat.{ℕ, suc, ◌+◌, ◌-◌, ◌*◌, ◌/◌, ◌%◌, ◌^◌, ◌≤◌, ◌<◌}
 use native.Mathlib.Nat.{mul-le-mul, mul-le-mul_right, mul_left_comm, suc-mul, mod-lt, zero-lt-suc}
 use native.Mathlib.Numerals.{add-one}
 use native.Mathlib.Omega.{arith}
 use native.Mathlib.Decide.{ℕ_discrete, dec_lt}
-use lib.ListN.{length, get_or, set, length-set}
-use lib.Seq.{get_or-set_same, get_or-set_other}
+use lib.ListN.{length, get_or, set, length-set, replicate, take, drop}
+use Rattle.std.specs.Prelude.{◌++◌}
+use Rattle.std.proofs.lemmas.List.{get_or-append_right, get_or_append_left, get_or-replicate, length-replicate, length-take-le, length-drop, length-append, get_or-take, get_or-drop}
+use lib.Seq.{get_or-set_other}
 use lib.Bits.{bit_or}
-use Rattle.el.proofs.Tests.{Tells, always, never}
+use lib.Dec.{eqb}
+use borrow.Author.Tests.{eqb-true, eq-eqb}
+use Rattle.el.proofs.Tests.{Tells}
+use Rattle.std.specs.Prelude.{Some, None}
 use Rattle.marks.specs.declared.Square.{Square}
 use Rattle.marks.specs.Squares.{bit, width, span, place, behind, Area, Lent, Small, most_names, most_cells, farthest, Place, Room, Marked, Unmarked, Apart, Behind, Touches}
 use Rattle.marks.specs.Squares.{Frame, Extends, Put, Hints, Kept, NextMarked, NextUnmarked}
@@ -234,6 +239,14 @@ row_inside {q} {x = x} {r = r} {i = i} room h l p =
     let e : r + i ≡ place q x 0 + i = ap (λ (z : ℕ). z + i) p.is in
     (omega (arith, row_byte q x i h l, room.fits), omega (arith, row_byte q x i h l, span_small q.names room.small.few, room.small.near))
 
+-- the number of the bytes of a row
+pub row_bytes : (n : ℕ) {r : ℕ} → r ≡ width n → r ≡ n / 8 + 1
+unfolding width
+row_bytes n e = e
+
+pub byte_inside : {q : Square} {w : List ℕ} {x r i e : ℕ} (n : ℕ) → Room q w → q.names ≡ n → x ≤ n → e ≡ width n → i < e → Place q x 0 r → r + i < length w
+byte_inside {i = i} n room s h e l p = (row_inside {i = i} room (omega arith) (omega (arith, row_bytes n e)) p).0
+
 -- no mark so far
 pub record NoneBefore (q : Square) (w : List ℕ) (x from y : ℕ) : Type 0 where
   pub after : from ≤ y
@@ -249,17 +262,17 @@ module _ {q : Square} {w : List ℕ} {x from : ℕ} where
   pub next_start : (y : ℕ) → y ≡ from → NoneBefore q w x from y
   next_start y e = record { after = omega arith; none = λ z h l k m. absurd (omega arith) }
 
-  pub next_none : {y : ℕ} → from ≤ suc q.names → NoneBefore q w x from y → q.names < y → NextMarked q w x from (q.names + 1)
-  next_none f n l = record { after = omega arith; inside = omega arith; none = λ z h k m. n.none z h (omega arith) (omega arith) m; found = λ h. absurd (omega arith) }
+  pub next_none : {y : ℕ} → NoneBefore q w x from y → q.names < y → NextMarked q w x from None
+  next_none n l = record { each = λ z h k m. n.none z h (omega arith) k m }
 
 -- the next cell of a row that is not marked
 module _ {q : Square} {w : List ℕ} {x from : ℕ} where
   pub all_start : (y : ℕ) → y ≡ from → AllBefore q w x from y
   all_start y e = record { after = omega arith; all = λ z h l k. absurd (omega arith) }
 
-  pub unmarked_here : {y i : ℕ} → y ≤ q.names → AllBefore q w x from y → Place q x y i → (get_or w i 0 / 2 ^ (y % 8) % 2 ≡ 1 → ⊥) → NextUnmarked q w x from y
+  pub unmarked_here : {y i : ℕ} → y ≤ q.names → AllBefore q w x from y → Place q x y i → (get_or w i 0 / 2 ^ (y % 8) % 2 ≡ 1 → ⊥) → NextUnmarked q w x from (Some y)
   unfolding bit
-  unmarked_here l n p e = record { after = n.after; inside = omega arith; all = λ z h k. n.all z h k (omega arith); found = λ h m. e (rw p.is m.is) }
+  unmarked_here l n p e = record { after = n.after; inside = l; there = λ m. e (rw p.is m.is); before = λ z h k. n.all z h k (omega arith) }
 
   pub all_one : {y i : ℕ} → AllBefore q w x from y → Place q x y i → get_or w i 0 / 2 ^ (y % 8) % 2 ≡ 1 → AllBefore q w x from (y + 1)
   unfolding bit
@@ -282,8 +295,8 @@ module _ {q : Square} {w : List ℕ} {x from : ℕ} where
           let there : place q x z ≡ i = sym (place_column q x z) ∙ ap (λ (b : ℕ). place q x 0 + b) same ∙ place_column q x y ∙ sym p.is in
           record { is = rw there (high_bits (get_or w i 0) (y % 8) (z % 8) (omega arith) (omega arith) e) }
 
-  pub unmarked_none : {y : ℕ} → from ≤ suc q.names → AllBefore q w x from y → q.names < y → NextUnmarked q w x from (q.names + 1)
-  unmarked_none f n l = record { after = omega arith; inside = omega arith; all = λ z h k. n.all z h (omega arith) (omega arith); found = λ h. absurd (omega arith) }
+  pub unmarked_none : {y : ℕ} → AllBefore q w x from y → q.names < y → NextUnmarked q w x from None
+  unmarked_none n l = record { each = λ z h k. n.all z h (omega arith) k }
 
 -- hints
 pub hints_none : {p : Square} {w : List ℕ} → Hints p w w
@@ -310,13 +323,9 @@ module _ {q : Square} {x y i : ℕ} (w : List ℕ) (p : Place q x y i) where
   marked_byte : Marked q w x y → bit (get_or w i 0) (y % 8) ≡ 1
   marked_byte m = rw p.is m.is
 
-  pub tells_marked : get_or w i 0 / 2 ^ (y % 8) % 2 ≡ 1 → Tells true (Marked q w x y)
+  pub tells_marked : Tells (eqb (get_or w i 0 / 2 ^ (y % 8) % 2) 1) (Marked q w x y)
   unfolding bit
-  tells_marked h = always (byte_marked h)
-
-  pub tells_unmarked : (get_or w i 0 / 2 ^ (y % 8) % 2 ≡ 1 → ⊥) → Tells false (Marked q w x y)
-  unfolding bit
-  tells_unmarked h = never (λ m. h (marked_byte m))
+  tells_marked = record { sound = λ e. byte_marked (eqb-true _ _ e); complete = λ m. eq-eqb _ _ (marked_byte m) }
 
   pub put_found : get_or w i 0 / 2 ^ (y % 8) % 2 ≡ 1 → Put q x y w w false
   unfolding bit
@@ -390,40 +399,7 @@ module _ {p q : Square} {w v : List ℕ} (f : Frame q w v) (apart : Apart p q) {
   pub marked_frame : Marked p v x y → Marked p w x y
   marked_frame m = record { is = rw (← byte_stays) m.is }
 
--- rows set to 0, byte after byte
-pub record RowsZero (q : Square) (w v : List ℕ) (i : ℕ) : Type 0 where
-  pub touches : Touches q w v
-  pub zero : (j : ℕ) → q.base ≤ j → j < q.base + i → get_or v j 0 ≡ 0
-
-pub rows_none : {q : Square} {w : List ℕ} → RowsZero q w w 0
-rows_none = record { touches = touches_same; zero = λ j h l. absurd (omega arith) }
-
-pub rows_more : {q : Square} {w v : List ℕ} {i : ℕ} → Room q w → i < span q.names → RowsZero q w v i → RowsZero q w (set v (q.base + i) 0) (i + 1)
-rows_more {q} {w} {v} {i} room l z = record
-    { touches = touches_further z.touches (set_touches v (q.base + i) 0 (omega arith) (omega arith)); zero = λ j h k. by_place j h k (ℕ_discrete j (q.base + i)) }
-  where
-    by_place : (j : ℕ) → q.base ≤ j → j < q.base + (i + 1) → Dec (j ≡ q.base + i) → get_or (set v (q.base + i) 0) j 0 ≡ 0
-    by_place j h k (yes e) = rw e (get_or-set_same v (q.base + i) 0 0 (omega (arith, room.fits, z.touches.long)))
-    by_place j h k (no e) = get_or-set_other v (q.base + i) j 0 0 e ∙ z.zero j h (omega arith)
-
 -- zeroed memory
-pub zeroed_none : {w : List ℕ} → Zeroed 0 w w
-zeroed_none = record { long = refl; zero = λ i h. absurd (omega arith); past = λ i h. refl }
-
-pub zeroed_more : {k : ℕ} {w v : List ℕ} → k < length v → Zeroed k w v → Zeroed (k + 1) w (set v k 0)
-zeroed_more {k} {w} {v} l z = record {
-  long = length-set v k 0 ∙ z.long;
-  zero = λ i h. by_place i h (ℕ_discrete i k);
-  past = λ i h. get_or-set_other v k i 0 0 (λ e. omega arith) ∙ z.past i (omega arith);
-}
-  where
-    by_place : (i : ℕ) → i < k + 1 → Dec (i ≡ k) → get_or (set v k 0) i 0 ≡ 0
-    by_place i h (yes e) = rw e (get_or-set_same v k 0 0 l)
-    by_place i h (no e) = get_or-set_other v k i 0 0 e ∙ z.zero i (omega arith)
-
-pub zeroed_end : {i k : ℕ} {w v : List ℕ} → i ≤ k → k ≤ i → Zeroed i w v → Zeroed k w v
-zeroed_end {i} {k} h l z = let e : i ≡ k = omega arith in rw (← e) z
-
 pub zero_unmarked : {q : Square} {w : List ℕ} {x y : ℕ} → get_or w (place q x y) 0 ≡ 0 → Marked q w x y → ⊥
 zero_unmarked {y = y} e m = let z : bit 0 (y % 8) ≡ 1 = rw e at m.is in omega (arith, bit_of_zero (y % 8))
 
@@ -439,17 +415,47 @@ hints_more {p} {w = w} {x = x} {row = row} {i = i} m room h l at hints =
     let e : row + i ≡ place p x 0 + i = ap (λ (z : ℕ). z + i) at.is in
     hints_further hints (or_hints w (row + i) m (omega (arith, place_from_lem p x 0)) (omega (arith, row_byte p x i h l)) (omega (arith, row_byte p x i h l, room.fits, hints.touches.long)))
 
-pub rows_unmarked : {q : Square} {w v : List ℕ} {i : ℕ} → span q.names ≤ i → RowsZero q w v i → Unmarked q v
-rows_unmarked {q} h z = record { none = λ x y k l m. zero_unmarked (z.zero (place q x y) (place_from_lem q x y) (omega (arith, place_below q x y k l))) m }
-
 pub span_is : (n : ℕ) {r : ℕ} → r ≡ width n → (n + 1) * r ≡ span n
 unfolding span
 span_is n e = rw (e, add-one)
+
+-- rows filled with 0
+pub rows_filled : {q : Square} {w : List ℕ} (k : ℕ) → Room q w → k ≡ span q.names
+    → Touches q w (take q.base w ++ (replicate k 0 ++ drop (q.base + k) w)) × Unmarked q (take q.base w ++ (replicate k 0 ++ drop (q.base + k) w))
+rows_filled {q} {w} k room e = (touches, record { none = λ x y h l m. zero_unmarked (none (place q x y) (place_from_lem q x y) (omega (arith, place_below q x y h l))) m })
+  where
+    mid : List ℕ
+    mid = replicate k 0 ++ drop (q.base + k) w
+
+    base_fits : q.base ≤ length w
+    base_fits = omega (arith, room.fits)
+
+    head : length (take q.base w) ≡ q.base
+    head = length-take-le q.base w base_fits
+
+    zeros : length {A = ℕ} (replicate k 0) ≡ k
+    zeros = length-replicate k 0
+
+    none : (i : ℕ) → q.base ≤ i → i < q.base + span q.names → get_or (take q.base w ++ mid) i 0 ≡ 0
+    none i h l = get_or-append_right (take q.base w) mid q.base i 0 head h ∙ get_or_append_left (replicate k 0) _ 0 (i - q.base) (omega (arith, zeros)) ∙ get_or-replicate k _ 0 0 (omega arith)
+
+    touches : Touches q w (take q.base w ++ mid)
+    touches = record {
+      long = omega (arith, length-append (take q.base w) mid, length-append (replicate k 0) (drop (q.base + k) w), head, zeros, length-drop (q.base + k) w, room.fits);
+      before = λ i h. get_or_append_left (take q.base w) mid 0 i (omega (arith, head)) ∙ get_or-take q.base w i 0 h;
+      past = λ i h.
+          let j : q.base + k + (i - q.base - k) ≡ i = omega arith in
+          get_or-append_right (take q.base w) mid q.base i 0 head (omega arith) ∙ get_or-append_right (replicate k 0) (drop (q.base + k) w) k (i - q.base) 0 zeros (omega arith)
+          ∙ get_or-drop (q.base + k) w (i - q.base - k) 0 ∙ ap (λ (p : ℕ). get_or w p 0) j;
+    }
 
 -- the k-th square of hints
 module _ {q p : Square} {w : List ℕ} {k : ℕ} (area : Area q w) (roomy : 5 * span q.names ≤ size q.names) (few : k ≤ 4) (is : p ≡ behind q k) where
   pub hint_room : Room p w
   hint_room = rw is (lent_room k few (record { area = area; roomy = roomy }))
+
+  pub hint_behind : 1 ≤ k → q.base + span q.names ≤ p.base
+  hint_behind l = rw is (lent_behind k l few (record { area = area; roomy = roomy })).after
 
   pub hint_kept : {v : List ℕ} → 1 ≤ k → Hints p w v → Kept q w v
   hint_kept l h = hints_kept (rw is (lent_behind k l few (record { area = area; roomy = roomy }))) h

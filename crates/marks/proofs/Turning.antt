@@ -7,7 +7,7 @@ use Prim.Native.Nat.{ℕ, ◌+◌, ◌≤◌, ◌<◌}
 use native.Mathlib.Omega.{arith}
 use native.Mathlib.Decide.{ℕ_discrete, dec_lt}
 use Rattle.marks.specs.declared.Square.{Square}
-use Rattle.marks.specs.Squares.{span, Marked, Unmarked, Touches, Put, NextMarked}
+use Rattle.marks.specs.Squares.{span, Marked, Unmarked, Touches, Put, First, Nowhere, NotMarked}
 use Rattle.marks.specs.Inclusions.{TurnedBelow, Turned}
 use Rattle.marks.proofs.Squares.{touches_frame, frame_marked, marked_frame}
 
@@ -28,30 +28,31 @@ module _ {q p : Square} where
   pub turned_none : {w : List ℕ} → q.names ≡ p.names → Unmarked p w → TurnedBelow q w p w 0
   turned_none e u = record { to = λ x y h. absurd (omega arith); from = λ x y h l m. absurd (u.none y x (omega arith) (omega arith) m) }
 
-  pub turned_start : {w : List ℕ} {x r : ℕ} → NextMarked q w x 0 r → TurnedBelow q w p w x → TurnedTo q w p x r
-  turned_start n b = record { below = b; row = λ i h l m. absurd (n.none i (omega arith) h m) }
+  pub turned_start : {w : List ℕ} {x : ℕ} → TurnedBelow q w p w x → TurnedTo q w p x 0
+  turned_start b = record { below = b; row = λ i h l m. absurd (omega arith) }
 
-  pub turned_more : {w v : List ℕ} {x y r : ℕ} {f : Bool} → q.base + span q.names ≤ p.base → q.names ≡ p.names → x ≤ q.names → y ≤ q.names → Marked q w x y → Put p y x w v f
-      → NextMarked q v x (y + 1) r → TurnedTo q w p x y → TurnedTo q v p x r
-  turned_more {w} {v} {x} {y} {r} apart e xb yb here put n b = record {
+  pub turned_more : {w v : List ℕ} {x y k : ℕ} {f : Bool} → q.base + span q.names ≤ p.base → q.names ≡ p.names → x ≤ q.names → First (Marked q w x) (NotMarked q w x) q.names k y
+      → Put p y x w v f → TurnedTo q w p x k → TurnedTo q v p x (y + 1)
+  turned_more {w} {v} {x} {y} {k} apart e xb n put b = record {
     below = record {
       to = λ i j h l k m. put.extends.stays j i (b.below.to i j h l k (was_marked apart put.hints.touches l k m));
-      from = λ i j h l m. still_marked apart put.hints.touches h l (elim (put.only j i (omega arith) (omega arith) m) [ inl k ↦ b.below.from i j h l k | inr k ↦ rw (k.0, k.1) here ]);
+      from = λ i j h l m. still_marked apart put.hints.touches h l (elim (put.only j i (omega arith) (omega arith) m) [ inl g ↦ b.below.from i j h l g | inr g ↦ rw (g.0, g.1) n.there ]);
     };
-    row = λ i h l m. by_place i h l m (dec_lt i y) (ℕ_discrete i y);
+    row = λ i h l m. by_place i h l (was_marked apart put.hints.touches xb l m) (dec_lt i k) (ℕ_discrete i y);
   }
     where
-      by_place : (i : ℕ) → i < r → i ≤ q.names → Marked q v x i → Dec (i < y) → Dec (i ≡ y) → Marked p v i x
-      by_place i h l m (yes k) j = put.extends.stays i x (b.row i k l (was_marked apart put.hints.touches xb l m))
-      by_place i h l m (no k) (yes j) = rw j put.there
-      by_place i h l m (no k) (no j) = absurd (n.none i (omega arith) h m)
+      by_place : (i : ℕ) → i < y + 1 → i ≤ q.names → Marked q w x i → Dec (i < k) → Dec (i ≡ y) → Marked p v i x
+      by_place i h l m (yes g) j = put.extends.stays i x (b.row i g l m)
+      by_place i h l m (no g) (yes j) = rw j put.there
+      by_place i h l m (no g) (no j) = absurd (n.before i (omega arith) (omega arith) m)
 
-  pub turned_end : {w : List ℕ} {x y : ℕ} → q.names < y → TurnedTo q w p x y → TurnedBelow q w p w (x + 1)
-  turned_end {w} {x} {y} h b = record { to = λ i j k l g m. by_place i j k l g m (ℕ_discrete i x); from = b.below.from }
+  pub turned_end : {w : List ℕ} {x k : ℕ} → Nowhere (NotMarked q w x) q.names k → TurnedTo q w p x k → TurnedBelow q w p w (x + 1)
+  turned_end {w} {x} {k} n b = record { to = λ i j h l g m. by_place i j h l g m (ℕ_discrete i x) (dec_lt j k); from = b.below.from }
     where
-      by_place : (i j : ℕ) → i < x + 1 → i ≤ q.names → j ≤ q.names → Marked q w i j → Dec (i ≡ x) → Marked p w j i
-      by_place i j k l g m (yes e) = let c : Marked q w x j = rw e at m in rw e (b.row j (omega arith) g c)
-      by_place i j k l g m (no e) = b.below.to i j (omega arith) l g m
+      by_place : (i j : ℕ) → i < x + 1 → i ≤ q.names → j ≤ q.names → Marked q w i j → Dec (i ≡ x) → Dec (j < k) → Marked p w j i
+      by_place i j h l g m (yes e) (yes f) = let c : Marked q w x j = rw e at m in rw e (b.row j f g c)
+      by_place i j h l g m (yes e) (no f) = absurd (n.each j (omega arith) g (rw e at m))
+      by_place i j h l g m (no e) f = b.below.to i j (omega arith) l g m
 
   pub turned_all : {w : List ℕ} {k : ℕ} → q.names < k → TurnedBelow q w p w k → Turned q w p w
   turned_all h b = record { to = λ x y l g m. b.to x y (omega arith) l g m; from = b.from }

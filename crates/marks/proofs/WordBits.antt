@@ -1,7 +1,7 @@
 -- Laws of words.
 --   reads_none, reads_more             a word read byte after byte, the highest first
 --   first_bit                          what counting the zeros at the low end of a number gives
---   rest_of_word, rest_of_byte         the bits of a row from a column on;  end_after, end_near: where they end
+--   rest_of_word, rest_of_byte         the bits of a row from a column on;  end_after: they end after it
 use mathlib.Core.Path.{◌≡◌, refl, sym, ap, ◌∙◌}
 use mathlib.Core.List.{List}
 use Prim.Native.Nat.{ℕ, zero, suc, ◌+◌, ◌-◌, ◌*◌, ◌/◌, ◌%◌, ◌^◌, ◌≤◌, ◌<◌}
@@ -62,24 +62,21 @@ reads_more {k} {p} {r} {s} l rd = record {
         ap (λ (z : ℕ). bit (256 * r + get_or s p 0) z) (sym e) ∙ high_bit r (get_or s p 0) i l ∙ rd.read.bits i (omega arith) ∙ ap (λ (z : ℕ). bit (get_or s z 0) (i % 8)) d ∙ ap
         (λ (z : ℕ). bit (get_or s (p + j / 8) 0) z) m
 
--- the bytes i .. 7 read, and the one before them
-pub reads_start : {s : List ℕ} {p : ℕ} → Reads (64 - 8 * 8) s p 0
-reads_start = reads_none
+-- the last i of eight bytes read, and the one before them
+pub read_fits : {i p r : ℕ} {s : List ℕ} → i < 8 → Reads (8 * i) s p r → r < 2 ^ 56
+read_fits {i} h rd = lt_of_lt_of_le rd.small (pow_mono {i = 8 * i} {j = 56} (omega arith))
 
-pub read_fits : {i p r : ℕ} {s : List ℕ} → 0 < i → Reads (64 - 8 * i) s p r → r < 2 ^ 56
-read_fits {i} h rd = lt_of_lt_of_le rd.small (pow_mono {i = 64 - 8 * i} {j = 56} (omega arith))
+pub reads_step : (at : ℕ) {i r b : ℕ} {s : List ℕ} → i < 8 → (b ≡ get_or s (at + (7 - i)) 0) × (b ≤ 255) → Reads (8 * i) s (at + (8 - i)) r
+    → Reads (8 * (i + 1)) s (at + (8 - (i + 1))) (256 * r + b)
+reads_step at {i} {r} {b} {s} h e rd =
+    let k : 8 * (i + 1) ≡ 8 * i + 8 = omega arith in
+    let p : at + (8 - i) ≡ at + (7 - i) + 1 = omega arith in
+    let n : at + (8 - (i + 1)) ≡ at + (7 - i) = omega arith in
+    let byte : get_or s (at + (7 - i)) 0 < 256 = omega arith in
+    rw (k, n, e.0) (reads_more byte (rw p at rd))
 
-pub reads_step : (at : ℕ) {i r b : ℕ} {s : List ℕ} → 0 < i → i ≤ 8 → (b ≡ get_or s (at + (i - 1)) 0) × (b ≤ 255) → Reads (64 - 8 * i) s (at + i) r
-    → Reads (64 - 8 * (i - 1)) s (at + (i - 1)) (256 * r + b)
-reads_step at {i} {r} {b} {s} h l e rd =
-    let k : 64 - 8 * (i - 1) ≡ 64 - 8 * i + 8 = omega arith in
-    let p : at + i ≡ at + (i - 1) + 1 = omega arith in
-    let byte : get_or s (at + (i - 1)) 0 < 256 = omega arith in
-    rw (k, e.0) (reads_more byte (rw p at rd))
-
-pub reads_end : {i at r : ℕ} {s : List ℕ} → i ≤ 0 → Reads (64 - 8 * i) s (at + i) r → Reads 64 s at r
-reads_end {i} {at} h rd =
-    let z : i ≡ 0 = omega arith in
+pub reads_end : {i at r : ℕ} {s : List ℕ} → i ≡ 8 → Reads (8 * i) s (at + (8 - i)) r → Reads 64 s at r
+reads_end {i} {at} z rd =
     let p : at + 0 ≡ at = omega arith in
     rw p at (rw z at rd)
 
@@ -147,13 +144,6 @@ module _ (n y : ℕ) where
   end_after = by_order (dec_le (8 * (y / 64) + 7) (n / 8))
     where
       by_order : Dec (8 * (y / 64) + 7 ≤ n / 8) → y < block_end n y
-      by_order (yes h) = omega (arith, end_of_word h)
-      by_order (no h) = let l : n / 8 < 8 * (y / 64) + 7 = omega arith in omega (arith, end_of_byte l)
-
-  pub end_near : block_end n y ≤ y + 64
-  end_near = by_order (dec_le (8 * (y / 64) + 7) (n / 8))
-    where
-      by_order : Dec (8 * (y / 64) + 7 ≤ n / 8) → block_end n y ≤ y + 64
       by_order (yes h) = omega (arith, end_of_word h)
       by_order (no h) = let l : n / 8 < 8 * (y / 64) + 7 = omega arith in omega (arith, end_of_byte l)
 

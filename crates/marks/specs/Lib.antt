@@ -7,3 +7,4 @@ pub mod Lines
 pub mod Inclusions
 pub mod Orders
 pub mod Waits
+pub mod Columns

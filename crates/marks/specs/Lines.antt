@@ -3,12 +3,14 @@
 --   Empty k                      it has none;  line_bytes: the bytes of a line
 --   Added y k l                  the line l is k with the column y
 --   Joined q w x k l             the line l is k with the columns that are marked in row x
---   NextOutside q w x k from r   r is the first column of row x from `from` on that is marked and not in k, or the number after the last
+--   MarkedOutside q w x k y      the cell in row x and column y is marked, and y not in k
+--   NextOutside q w x k from r   r is the first such column of row x from `from` on, if there is one
 --   Missing k x w a b            the rule that marks in row x what k has not
 --   Full q k x w                 each column is in k or marked in row x
-use Rattle.std.specs.Prelude.{◌≡◌, List, ◌⊎◌, ℕ, suc, ◌/◌, ◌%◌, ◌≤◌, ◌<◌, length, get_or}
+use Rattle.std.specs.Prelude.{◌≡◌, List, ◌⊎◌, ℕ, ◌/◌, ◌%◌, ◌≤◌, ◌<◌, length, get_or}
+use Rattle.std.specs.Prelude.{Option}
 use Rattle.marks.specs.declared.Square.{Square}
-use Rattle.marks.specs.Squares.{bit, Marked}
+use Rattle.marks.specs.Squares.{bit, Marked, Next}
 
 abbrev pub line_bytes : ℕ
 line_bytes = 128
@@ -34,11 +36,12 @@ pub record Joined (q : Square) (w : List ℕ) (x : ℕ) (k l : List ℕ) : Type 
   pub has : (y : ℕ) → y ≤ q.names → Marked q w x y → Has l y
   pub only : (y : ℕ) → y ≤ q.names → Has l y → Has k y ⊎ Marked q w x y
 
-pub record NextOutside (q : Square) (w : List ℕ) (x : ℕ) (k : List ℕ) (from r : ℕ) : Type 0 where
-  pub after : from ≤ r
-  pub inside : r ≤ suc q.names
-  pub none : (y : ℕ) → from ≤ y → y < r → Marked q w x y → Has k y
-  pub found : r ≤ q.names → Marked q w x r
+pub record MarkedOutside (q : Square) (w : List ℕ) (x : ℕ) (k : List ℕ) (y : ℕ) : Type 0 where
+  pub marked : Marked q w x y
+  pub out : Has k y → ⊥
+
+abbrev pub NextOutside : Square → List ℕ → ℕ → List ℕ → ℕ → Option ℕ → Type 0
+NextOutside q w x k from r = Next (MarkedOutside q w x k) (λ y. Marked q w x y → Has k y) q.names from r
 
 pub record Missing (k : List ℕ) (x : ℕ) (w : List ℕ) (a b : ℕ) : Type 0 where
   pub row : a ≡ x

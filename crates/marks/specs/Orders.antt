@@ -1,19 +1,26 @@
 -- An order of the nodes: a hint, of which no more is promised than that nodes stand in it.
---   node_at o k              the node at place k of the order o; past its end the number that is no node
+--   node_at o k             the node at place k of the order o, if there is one
 --   placed o k x            the order o with the node x at place k; unchanged where one of the two is out of range
---   NodesPlaced n o p       each place of the order p has what it has in o, or a node of a square of n names
-use Rattle.std.specs.Prelude.{◌≡◌, ◌&&◌, List, ◌⊎◌, ℕ, ◌≤◌, ltb, get_or, set}
+--   Stands n p k            at place k of the order p a node stands of a square of n names
+--   NodesPlaced n o p       each place of the order p has what it has in o, or such a node
+use Rattle.std.specs.Prelude.{◌≡◌, ◌&&◌, ◌⊎◌, ℕ, ◌≤◌, ltb, Option, Some, None, get_or, set}
 use Rattle.el.specs.Lists.{pick}
+use Rattle.marks.specs.declared.order.Order.{Order}
 
--- how many nodes an order has: also the number that is no node
+-- how many nodes an order has
 abbrev pub most_nodes : ℕ
 most_nodes = 1024
 
-unfoldable pub node_at : List ℕ → ℕ → ℕ
-node_at o k = pick (ltb k most_nodes) (get_or o k 0) most_nodes
+abbrev pub node_at : Order → ℕ → Option ℕ
+node_at o k = get_or o.nodes k None
 
-unfoldable pub placed : List ℕ → ℕ → ℕ → List ℕ
-placed o k x = pick (ltb k most_nodes && ltb x most_nodes) (set o k x) o
+abbrev pub placed : Order → ℕ → ℕ → Order
+placed o k x = pick (ltb k most_nodes && ltb x most_nodes) (record { nodes = set o.nodes k (Some x) }) o
 
-pub record NodesPlaced (n : ℕ) (o p : List ℕ) : Type 0 where
-  pub at : (k : ℕ) → (node_at p k ≡ node_at o k) ⊎ (node_at p k ≤ n)
+pub record Stands (n : ℕ) (p : Order) (k : ℕ) : Type 0 where
+  pub node : ℕ
+  pub is : node_at p k ≡ Some node
+  pub few : node ≤ n
+
+pub record NodesPlaced (n : ℕ) (o p : Order) : Type 0 where
+  pub at : (k : ℕ) → (node_at p k ≡ node_at o k) ⊎ Stands n p k

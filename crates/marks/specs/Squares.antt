@@ -3,7 +3,7 @@
 --   width n            the bytes of a row;  span n: of all rows; behind them, up to the size of the square (Memory), is memory for hints
 --   place q x y        the byte of the cell in row x and column y of the square q; its bit is y % 8
 --   Room q w           the square q lies in the memory w
---   Marked q w x y     the cell is marked;  Unmarked q w: no cell is
+--   Marked q w x y     the cell is marked;  NotMarked q w x y: it is not;  Unmarked q w: no cell is
 --   Touches q w v      v is w but for bytes of the rows of q;  Frame q w v: but for bytes lent for q
 --   Area q w           the memory lent for q is in w;  Lent q w: and has room for four squares of hints;  behind q k: the k-th of these
 --   Apart p q          no byte of the rows of p is lent for q;  Behind q p: the rows of p are lent for q, behind the rows of q
@@ -13,9 +13,14 @@
 --   Kept q w v         v is w with more hints behind the rows of q
 --   Put q x y w v r    v is w with the cell marked; r: it was not marked in w
 --   Within q a x w     row x has the marks of row a
---   NextMarked q w x from r   r is the first column of row x from `from` on that is marked, or the number after the last
+--   First There Skipped n from y   y is a column from `from` up to n of which There holds, and Skipped holds of each before it
+--   Nowhere Skipped n from   Skipped holds of each column from `from` up to n
+--   Next There Skipped n from r   r is the first column of which There holds, if there is one; of those before, or of all, Skipped holds
+--   NextMarked q w x from r   r is the first column of row x from `from` on that is marked, if there is one
 --   NextUnmarked q w x from r   the same, the first that is not marked
 use Rattle.std.specs.Prelude.{◌≡◌, Bool, true, false, List, [], ◌∷◌, ◌⊎◌, ℕ, zero, suc, ◌+◌, ◌-◌, ◌*◌, ◌/◌, ◌%◌, ◌^◌, ◌≤◌, ◌<◌, length, get_or}
+use Rattle.std.specs.Prelude.{Option}
+use Rattle.std.specs.Option.{MatchOption}
 use Rattle.marks.specs.declared.Square.{Square}
 use Rattle.marks.specs.Memory.{size}
 
@@ -128,14 +133,23 @@ pub record Put (q : Square) (x y : ℕ) (w v : List ℕ) (r : Bool) : Type 0 whe
 pub record Within (q : Square) (a x : ℕ) (w : List ℕ) : Type 0 where
   pub marked : (y : ℕ) → y ≤ q.names → Marked q w a y → Marked q w x y
 
-pub record NextMarked (q : Square) (w : List ℕ) (x from r : ℕ) : Type 0 where
-  pub after : from ≤ r
-  pub inside : r ≤ suc q.names
-  pub none : (y : ℕ) → from ≤ y → y < r → Marked q w x y → ⊥
-  pub found : r ≤ q.names → Marked q w x r
+pub record First (There Skipped : ℕ → Type 0) (n from y : ℕ) : Type 0 where
+  pub after : from ≤ y
+  pub inside : y ≤ n
+  pub there : There y
+  pub before : (z : ℕ) → from ≤ z → z < y → Skipped z
 
-pub record NextUnmarked (q : Square) (w : List ℕ) (x from r : ℕ) : Type 0 where
-  pub after : from ≤ r
-  pub inside : r ≤ suc q.names
-  pub all : (y : ℕ) → from ≤ y → y < r → Marked q w x y
-  pub found : r ≤ q.names → Marked q w x r → ⊥
+pub record Nowhere (Skipped : ℕ → Type 0) (n from : ℕ) : Type 0 where
+  pub each : (z : ℕ) → from ≤ z → z ≤ n → Skipped z
+
+abbrev pub Next : (ℕ → Type 0) → (ℕ → Type 0) → ℕ → ℕ → Option ℕ → Type 0
+Next There Skipped n from r = MatchOption r (Nowhere Skipped n from) (First There Skipped n from)
+
+abbrev pub NotMarked : Square → List ℕ → ℕ → ℕ → Type 0
+NotMarked q w x y = Marked q w x y → ⊥
+
+abbrev pub NextMarked : Square → List ℕ → ℕ → ℕ → Option ℕ → Type 0
+NextMarked q w x from r = Next (Marked q w x) (NotMarked q w x) q.names from r
+
+abbrev pub NextUnmarked : Square → List ℕ → ℕ → ℕ → Option ℕ → Type 0
+NextUnmarked q w x from r = Next (NotMarked q w x) (Marked q w x) q.names from r

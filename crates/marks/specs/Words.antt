@@ -31,7 +31,3 @@ pub record InRow (n : ℕ) (s : List ℕ) (row y : ℕ) : Type 0 where
   pub column : y ≤ n
   pub inside : row + n / 8 < length s
   pub near : row + n / 8 < farthest * 2
-
--- a column that was found, or the number after the last column where it lies past that
-abbrev pub or_none : ℕ → ℕ → ℕ
-or_none n y = pick (leb y n) y (n + 1)

@@ -6,11 +6,14 @@ ghost use Rattle.el.proofs.Tests.{Tells};
 ghost use Rattle.marks.specs.Squares.{span, behind, Unmarked, Touches, width, most_names, most_cells, Small, Place, Room, Marked, Put};
 ghost use Rattle.marks.specs.Memory.{size, Zeroed};
 
+pub mod columns;
 pub mod hints;
 pub mod inclusions;
 pub mod line;
 pub mod order;
+mod path;
 pub mod rows;
+pub mod rules;
 pub mod turned;
 pub mod waiting;
 pub mod words;
@@ -30,59 +33,6 @@ fn width(names: usize) -> usize
     names / 8 + 1
 }
 
-// The byte of a cell: the only product with a row.
-fn place(square: Square, x: usize, y: usize) -> usize
-    requires small { Small square }
-    requires x_le_names { (x ≤ square.names) × (y ≤ square.names) }
-    ensures { Place square x y result }
-{
-    let width = width(square.names);
-    square.base + (x * width + y / 8)
-}
-
-// Whether a cell is marked.
-pub fn is_marked(work: &[u8], square: Square, x: usize, y: usize) -> bool
-    requires room { Room square work.now }
-    requires x_le_names { (x ≤ square.names) × (y ≤ square.names) }
-    ensures { Tells result (Marked square work.now x y) }
-{
-    let i = place(square, x, y);
-    let byte = work[i];
-    let bit = (byte >> (y % 8)) % 2;
-    if bit == 1 {
-        return true;
-    }
-    false
-}
-
-// Marks a cell. Whether it was not marked yet.
-pub fn mark(work: &mut [u8], square: Square, x: usize, y: usize) -> bool
-    requires room { Room square work.old }
-    requires x_le_names { (x ≤ square.names) × (y ≤ square.names) }
-    ensures { Put square x y work.old work.new result }
-{
-    let i = place(square, x, y);
-    let byte = work[i];
-    let bit = (byte >> (y % 8)) % 2;
-    if bit == 1 {
-        return false;
-    }
-    work[i] = byte | (1 << (y % 8));
-    true
-}
-
-// The k-th square behind a square, in the memory that is lent for it: room for hints.
-pub fn behind(square: Square, k: usize) -> Square
-    requires { Small square × (k ≤ 4) }
-    ensures { result ≡ behind square k }
-{
-    let width = width(square.names);
-    Square {
-        base: square.base + k * ((square.names + 1) * width),
-        names: square.names,
-    }
-}
-
 // Whether there is room for four squares behind one. It lacks only for a few numbers of names that are small.
 pub fn is_roomy(names: usize) -> bool
     requires { names ≤ most_names }
@@ -99,28 +49,71 @@ pub fn size(names: usize) -> usize
     (names + 1) * (names + 1)
 }
 
-// Sets the rows of a square to 0.
-pub fn clear_rows(work: &mut [u8], square: Square)
-    requires { Room square work.old }
-    ensures { Touches square work.old work.new × Unmarked square work.new }
-{
-    let width = width(square.names);
-    let span = (square.names + 1) * width;
-    let mut i = 0;
-    while i < span {
-        work[square.base + i] = 0;
-        i += 1;
-    }
-}
-
 // Sets the first `count` bytes to 0.
 pub fn clear(work: &mut [u8], count: usize)
     requires { count ≤ length work.old }
     ensures { Zeroed count work.old work.new }
 {
-    let mut i = 0;
-    while i < count {
-        work[i] = 0;
-        i += 1;
+    work[..count].fill(0);
+}
+
+impl Square {
+    // The k-th square behind a square, in the memory that is lent for it: room for hints.
+    pub fn behind(self, k: usize) -> Square
+        requires { Small self × (k ≤ 4) }
+        ensures { result ≡ behind self k }
+    {
+        let width = width(self.names);
+        Square {
+            base: self.base + k * ((self.names + 1) * width),
+            names: self.names,
+        }
+    }
+
+    // The byte of a cell: the only product with a row.
+    fn place(self, x: usize, y: usize) -> usize
+        requires small { Small self }
+        requires x_le_names { (x ≤ self.names) × (y ≤ self.names) }
+        ensures { Place self x y result }
+    {
+        let width = width(self.names);
+        self.base + (x * width + y / 8)
+    }
+
+    // Whether a cell is marked.
+    pub fn is_marked(self, work: &[u8], x: usize, y: usize) -> bool
+        requires room { Room self work.now }
+        requires x_le_names { (x ≤ self.names) × (y ≤ self.names) }
+        ensures { Tells result (Marked self work.now x y) }
+    {
+        let i = self.place(x, y);
+        let byte = work[i];
+        (byte >> (y % 8)) % 2 == 1
+    }
+
+    // Marks a cell. Whether it was not marked yet.
+    pub fn mark(self, work: &mut [u8], x: usize, y: usize) -> bool
+        requires room { Room self work.old }
+        requires x_le_names { (x ≤ self.names) × (y ≤ self.names) }
+        ensures { Put self x y work.old work.new result }
+    {
+        let i = self.place(x, y);
+        let byte = work[i];
+        let bit = (byte >> (y % 8)) % 2;
+        if bit == 1 {
+            return false;
+        }
+        work[i] = byte | (1 << (y % 8));
+        true
+    }
+
+    // Sets the rows of a square to 0.
+    pub fn clear_rows(self, work: &mut [u8])
+        requires { Room self work.old }
+        ensures { Touches self work.old work.new × Unmarked self work.new }
+    {
+        let width = width(self.names);
+        let span = (self.names + 1) * width;
+        work[self.base..self.base + span].fill(0);
     }
 }

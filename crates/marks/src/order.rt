@@ -1,151 +1,118 @@
 // An order of the nodes in which each one comes after those that are marked in its row, as far as that can be had. It is only a
 // hint: no more is promised than that nodes stand in it, so whoever goes by it looks whether a node is left.
-ghost use Rattle.std.specs.Prelude.{◌≡◌, ◌≤◌};
+ghost use Rattle.std.specs.Prelude.{◌≡◌, None, ◌+◌, ◌*◌, ◌≤◌};
 ghost use Rattle.marks.specs.Squares.{Room};
 ghost use Rattle.marks.specs.Orders.{node_at, placed, NodesPlaced};
 
-use crate::line::Line;
-use crate::{Square, line};
+use crate::Square;
+use crate::path::Path;
 
-#[derive(Clone, Copy)]
-pub struct Order {}
+#[derive(Drop)]
+pub struct Order {
+    nodes: [Option<u16>; Path::NODES],
+}
 
 impl Order {
-    pub const NODES: usize = 1024;
+    // more than a search takes: it enters a node once and leaves it once
+    const TURNS: usize = 4096;
 
-    // more than there are turns: a node is put on the stack once and taken off once
-    pub const TURNS: usize = 8192;
-
-    pub const NONE: u16 = 65535;
-}
-
-fn wide(x: u16) -> usize
-    ensures { result ≡ x }
-{
-    x as usize
-}
-
-fn narrow(x: usize) -> u16
-    requires { x ≤ 65535 }
-    ensures { result ≡ x }
-{
-    x as u16
-}
-
-// The node at a place, or a number that is none.
-pub fn at(order: &[u16; Order::NODES], place: usize) -> usize
-    ensures { result ≡ node_at order.now place }
-{
-    if place < Order::NODES {
-        return wide(order[place]);
-    }
-    Order::NODES
-}
-
-// Puts a node at a place. Out of range nothing happens.
-pub fn put(order: &mut [u16; Order::NODES], place: usize, node: usize)
-    ensures { order.new ≡ placed order.old place node }
-{
-    if place < Order::NODES {
-        if node < Order::NODES {
-            order[place] = narrow(node);
+    // No node stands in it.
+    pub fn new() -> Order
+        ensures { (place : _) → node_at result place ≡ None }
+    {
+        Order {
+            nodes: [None; Path::NODES],
         }
     }
+
+    // The node at a place.
+    pub fn at(&self, place: usize) -> Option<usize>
+        ensures { result ≡ node_at self.now place }
+    {
+        if place < Path::NODES {
+            return self.nodes[place].map(usize::from);
+        }
+        None
+    }
+
+    // Puts a node at a place. Out of range nothing happens.
+    pub fn put(&mut self, place: usize, node: usize)
+        ensures { self.new ≡ placed self.old place node }
+    {
+        if place < Path::NODES && node < Path::NODES {
+            // no `From` leads to u16, and `try_from` has an arm that is never taken
+            self.nodes[place] = Some(node as u16);
+        }
+    }
+
+    // Writes the order, by a search into the depth. `before` says which node is to come directly before one.
+    pub fn sort<F: Fn(usize) -> Option<usize>>(&mut self, work: &[u8], square: Square, before: F)
+        requires room { Room square work.now }
+        requires names_bound { square.names ≤ 1023 }
+        requires callable { F.IsAlwaysCallable before }
+        ensures { NodesPlaced square.names self.old self.new }
+    {
+        let mut path = Path::new();
+        let mut count = 0;
+        for root in 0..=square.names {
+            if !path.has_met(root) {
+                path.enter(root);
+                count = self.finish(work, square, &before, &mut path, count);
+            }
+        }
+    }
+
+    // Puts down the nodes of the path, the last one first, each once no node is left that is to come before it. The next free place.
+    fn finish<F: Fn(usize) -> Option<usize>>(
+        &mut self,
+        work: &[u8],
+        square: Square,
+        before: &F,
+        path: &mut Path,
+        from: usize,
+    ) -> usize
+        requires room { Room square work.now }
+        requires names_bound { (square.names ≤ 1023) × (from ≤ 4096 * 1024) }
+        requires callable { F.IsAlwaysCallable before.now }
+        ensures nodes { NodesPlaced square.names self.old self.new }
+        ensures count { result ≤ from + 4096 }
+    {
+        let mut count = from;
+        for _ in 0..Order::TURNS {
+            let Some(x) = path.end() else {
+                return count;
+            };
+            if square.names < x {
+                return count;
+            }
+            if !go_on(work, square, before, path, x) {
+                self.put(count, x);
+                count += 1;
+                path.leave();
+            }
+        }
+        count
+    }
 }
 
-// The next node that is to come before x and was not met yet: first the one that `before` has for it, then those of its row from the
-// column `from` on.
-fn next(
+// Goes on from node x to one that is to come before it: first to the one that `before` says, then to those of its row. Whether there
+// is one that was not met yet.
+fn go_on<F: Fn(usize) -> Option<usize>>(
     work: &[u8],
     square: Square,
-    before: &[u16; Order::NODES],
-    met: &[u8; Line::LENGTH],
+    before: &F,
+    path: &mut Path,
     x: usize,
-    from: usize,
-) -> usize
+) -> bool
     requires room { Room square work.now }
     requires x_le_names { (x ≤ square.names) × (square.names ≤ 1023) }
+    requires callable { F.IsAlwaysCallable before.now }
 {
-    let node = at(before, x);
-    if node <= square.names {
-        if line::has(met, node) {
-            return next_marked(work, square, met, x, from);
+    match before(x) {
+        Some(node) if node <= square.names && !path.has_met(node) => {
+            path.enter(node);
+            true
         }
-        return node;
-    }
-    next_marked(work, square, met, x, from)
-}
-
-// The next node of row x from the column `from` on that was not met yet.
-fn next_marked(
-    work: &[u8],
-    square: Square,
-    met: &[u8; Line::LENGTH],
-    x: usize,
-    from: usize,
-) -> usize
-    requires room { Room square work.now }
-    requires x_le_names { (x ≤ square.names) × (square.names ≤ 1023) }
-{
-    if from <= square.names {
-        return line::next_outside(work, square, x, met, from);
-    }
-    Order::NODES
-}
-
-// Writes the order, by a search into the depth.
-pub fn sort(
-    work: &[u8],
-    square: Square,
-    before: &[u16; Order::NODES],
-    order: &mut [u16; Order::NODES],
-)
-    requires room { Room square work.now }
-    requires names_bound { square.names ≤ 1023 }
-    ensures { NodesPlaced square.names order.old order.new }
-{
-    let mut met = [0u8; Line::LENGTH];
-    let mut stack = [0u16; Order::NODES];
-    let mut columns = [0u16; Order::NODES];
-    let mut depth = 0;
-    let mut count = 0;
-    let mut root = 0;
-    let mut left = Order::TURNS;
-    while 0 < left {
-        left -= 1;
-        if depth == 0 {
-            if square.names < root {
-                return;
-            }
-            if line::has(&met, root) {
-                root += 1;
-                continue;
-            }
-            line::add(&mut met, root);
-            put(&mut stack, 0, root);
-            put(&mut columns, 0, 0);
-            depth = 1;
-            root += 1;
-            continue;
-        }
-        let x = at(&stack, depth - 1);
-        if square.names < x {
-            return;
-        }
-        let from = at(&columns, depth - 1);
-        let node = next(work, square, before, &met, x, from);
-        if node <= square.names {
-            line::add(&mut met, node);
-            if node != at(before, x) {
-                put(&mut columns, depth - 1, node);
-            }
-            put(&mut stack, depth, node);
-            put(&mut columns, depth, 0);
-            depth += 1;
-        } else {
-            put(order, count, x);
-            count += 1;
-            depth -= 1;
-        }
+        _ => path.enter_marked(work, square, x),
     }
 }

@@ -1,3 +1,4 @@
+-- The product is small, since the names are few.
 use native.Mathlib.Omega.{arith}
 use Rattle.marks.proofs.Squares.{size_is, size_small}
 use Rattle.marks.proofs.size.Goals as goal

@@ -1,3 +1,4 @@
+-- Few names have few bytes.
 use Rattle.marks.proofs.Squares.{width_is}
 use Rattle.marks.proofs.width.Goals as goal
 

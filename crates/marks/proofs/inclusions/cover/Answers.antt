@@ -1,3 +1,4 @@
+-- A row joined to the line, or none.
 use Rattle.marks.proofs.Handing.{covering_joined, covering_none}
 use Rattle.marks.proofs.inclusions.cover.Goals as goal
 

@@ -1,3 +1,4 @@
+-- The byte of the column gets one bit more.
 use Rattle.marks.proofs.Lines.{or_added}
 use Rattle.marks.proofs.line.add.Goals as goal
 

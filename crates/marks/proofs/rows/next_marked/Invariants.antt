@@ -1,9 +1,0 @@
-use Prim.Native.Nat.{◌+◌, ◌-◌}
-use Rattle.marks.proofs.Squares.{NoneBefore}
-use Rattle.marks.proofs.rows.next_marked.Given as goal
-
-abbrev pub invariant-loop-y : goal.invariant-loop-y
-invariant-loop-y l = NoneBefore l.square l.work l.x l.from l.y
-
-abbrev pub decreases-loop-y : goal.decreases-loop-y
-decreases-loop-y l = 64 + l.square.names - l.y
