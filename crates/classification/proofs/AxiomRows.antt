@@ -16,6 +16,7 @@ use Rattle.release.specs.Tables.{kind_at, role_at, filler_at, tail_at, count_at,
 use Rattle.release.specs.Entries.{node_number}
 use Rattle.release.proofs.Numbers.{in_numbers, numbers_at}
 use Rattle.release.proofs.Linked as linked
+use Rattle.release.specs.declared.table.Row as table
 use Rattle.classification.specs.Inclusions.{node_at}
 use Rattle.classification.proofs.Nodes.{at_name}
 
@@ -56,18 +57,18 @@ restricts_kind false true h = refl
 restricts_kind false false h = refl
 
 -- the axiom of a name
-pub record Found (s t : List ℕ) (n x : ℕ) : Type 0 where
+pub record Found (s : List ℕ) (t : List table.Row) (n x : ℕ) : Type 0 where
   pub it : Axiom
   pub member : In (axioms_of s) it
   pub left : it.left ≡ x
   pub row : AxiomRow n s t it
 
-pub record PartAt (s t : List ℕ) (x y : ℕ) : Type 0 where
+pub record PartAt (s : List ℕ) (t : List table.Row) (x y : ℕ) : Type 0 where
   pub at : ℕ
   pub inside : at < count_at s t x
   pub is : part_at s t x at ≡ y
 
-module _ {s t : List ℕ} {n x : ℕ} (f : Found s t n x) where
+module _ {s : List ℕ} {t : List table.Row} {n x : ℕ} (f : Found s t n x) where
   abbrev pub joint : Bool
   joint = is_conjunction f.it
 
@@ -121,7 +122,7 @@ module _ {s t : List ℕ} {n x : ℕ} (f : Found s t n x) where
   unfolding part_at
   part_at_lem h {y} i = let p = numbers_at (width_of s) (count_at s t x) s (tail_at t x + 1) (rw (parts_are h) at i) in record { at = p.place; inside = p.small; is = p.is }
 
-module _ {s t : List ℕ} {n : ℕ} (r : Release s t) (names : n ≡ names_of s) where
+module _ {s : List ℕ} {t : List table.Row} {n : ℕ} (r : Release s t) (names : n ≡ names_of s) where
   pub formed : Formed n (axioms_of s)
   formed = subst (λ k. Formed k (axioms_of s)) (sym names) (linked.formed s r.accepted)
 

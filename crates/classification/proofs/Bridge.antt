@@ -16,6 +16,7 @@ use Rattle.el.proofs.Classification.{Link, Includes, the_same, to_everything, by
 use Rattle.release.specs.Files.{names_of, axioms_of}
 use Rattle.release.specs.Tables.{count_at, part_at, Release}
 use Rattle.release.specs.Entries.{node_number}
+use Rattle.release.specs.declared.table.Row as table
 use Rattle.marks.specs.declared.Square.{Square}
 use Rattle.marks.specs.Squares.{Marked}
 use Rattle.marks.specs.Passes.{Below}
@@ -33,7 +34,7 @@ pub record Through (q : Square) (w : List ℕ) (x y : ℕ) : Type 0 where
   pub second : Marked q w it y
 
 -- a step is a rule, or goes through a node
-module _ {s t : List ℕ} {q : Square} (r : Release s t) (names : q.names ≡ names_of s) where
+module _ {s : List ℕ} {t : List table.Row} {q : Square} (r : Release s t) (names : q.names ≡ names_of s) where
   module _ {w : List ℕ} {x y : ℕ} (h : x ≤ q.names) (l : y ≤ q.names) where
     pub step_includes : Step s t q w x y → Includes (axioms_of s) (says q w) (node_at q.names x) (node_at q.names y) ⊎ Through q w x y
     step_includes (to_itself e) = inl (the_same (ap (node_at q.names) (sym e)))

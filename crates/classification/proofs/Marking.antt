@@ -6,22 +6,22 @@
 --   gathered_.., filled_.., axiom_..      what is left to mark by conjuncts, by fillers, by an axiom
 -- Not here: the other laws of passes for any rule (crate marks).
 use mathlib.Core.Path.{◌≡◌, refl, sym, ◌∙◌}
-use mathlib.Core.Bool.{Bool, true, false, false≢true}
+use mathlib.Core.Bool.{Bool, true, false, ◌||◌, false≢true}
 use mathlib.Core.List.{List}
 use Prim.Native.Nat.{ℕ, suc, ◌≤◌, ◌<◌}
 use native.Mathlib.Omega.{arith}
-use borrow.Author.Tests.{ne_eqb}
 use Rattle.el.proofs.Tests.{Tells, tells_as, never, always}
 use Rattle.el.proofs.Derivations.{Serves}
 use Rattle.release.specs.Files.{joins, restricts}
 use Rattle.release.specs.Tables.{kind_at, role_at, filler_at, count_at, part_at, HasRow, Conjunctive, Shaped}
 use Rattle.release.proofs.Faults.{restricts_not_joins}
+use Rattle.release.specs.declared.table.Row as table
 use Rattle.marks.specs.declared.Square.{Square}
-use Rattle.marks.specs.Squares.{Room, Marked, Put}
+use Rattle.marks.specs.Squares.{Marked, Put}
 use Rattle.marks.specs.Passes.{Grows, Pass, Below, Due, FromRow}
 use Rattle.marks.specs.Inclusions.{Taking}
 use Rattle.marks.proofs.Squares.{refuted, frame_area}
-use Rattle.marks.proofs.Passes.{room_stays, grows_frame, marks_stay, below_end, pass_none, pass_as, pass_changed, pass_unchanged, pass_by, grows_as, put_pass, put_grows, due_not, due_as}
+use Rattle.marks.proofs.Passes.{room_stays, grows_frame, marks_stay, below_end, pass_none, pass_as, pass_both, pass_by, grows_as, put_pass, put_grows, due_not, due_as}
 use Rattle.classification.specs.Steps.{PartMarked, Gathers, Fills, Step, to_itself, to_top, to_part, to_gathered, to_filled, through, Gathered, Seeds, GatheredAt, FilledAt}
 use Rattle.classification.specs.Steps.{AxiomSettled, Setting, SeededSetting, InRow, Source, DefinedConjunction, DefinedRestriction, Pair, Restriction, Over}
 
@@ -31,14 +31,11 @@ not_both k j r = absurd (false≢true (sym (restricts_not_joins k r) ∙ j))
 pub joined : {kind k : ℕ} → kind ≡ k → kind ≡ 2 → joins k ≡ true
 joined e two = rw (← e, two) refl
 
-pub joined_1 : {kind k : ℕ} → kind ≡ k → kind ≡ 1 → joins k ≡ true
-joined_1 e one = rw (← e, one) refl
-
-pub shaped_row : {n : ℕ} {s t : List ℕ} {x : ℕ} → Shaped n s t → x < n → HasRow t x
+pub shaped_row : {n : ℕ} {s : List ℕ} {t : List table.Row} {x : ℕ} → Shaped n s t → x < n → HasRow t x
 shaped_row h l = record { row = omega (arith, h.rows) }
 
 -- what is asked
-module _ {s t : List ℕ} {q : Square} where
+module _ {s : List ℕ} {t : List table.Row} {q : Square} where
   pub setting_stays : {w v : List ℕ} → Grows (Step s t q) q w v → Setting s t q w → Setting s t q v
   setting_stays g h = record { shaped = h.shaped; room = room_stays g h.room; area = frame_area (grows_frame g) h.area; few = h.few }
 
@@ -48,7 +45,7 @@ module _ {s t : List ℕ} {q : Square} where
   pub in_top_row : {w : List ℕ} {b : ℕ} → Setting s t q w → b < q.names → InRow s t q w q.names b
   in_top_row h l = record { setting = h; row = omega arith; name = l }
 
-module _ {s t : List ℕ} {q : Square} {w : List ℕ} {x b : ℕ} (h : InRow s t q w x b) where
+module _ {s : List ℕ} {t : List table.Row} {q : Square} {w : List ℕ} {x b : ℕ} (h : InRow s t q w x b) where
   pub name_row : HasRow t b
   name_row = shaped_row h.setting.shaped h.name
 
@@ -59,7 +56,7 @@ module _ {s t : List ℕ} {q : Square} {w : List ℕ} {x b : ℕ} (h : InRow s t
   part_small {i} j l e = omega (arith, e, h.setting.shaped.part b i h.name j l)
 
 -- a definition, for a whole column
-module _ {s t : List ℕ} {q : Square} {w : List ℕ} {y : ℕ} (h : Setting s t q w) (l : y < q.names) where
+module _ {s : List ℕ} {t : List table.Row} {q : Square} {w : List ℕ} {y : ℕ} (h : Setting s t q w) (l : y < q.names) where
   pub defined_parts : kind_at t y ≡ 2 → Conjunctive q.names s t y
   defined_parts e = record { shaped = h.shaped; is_name = l; is_conjunctive = joined refl e }
 
@@ -67,7 +64,7 @@ module _ {s t : List ℕ} {q : Square} {w : List ℕ} {y : ℕ} (h : Setting s t
   pair i k d = record { rows = h.shaped.rows; room = h.room; fillers = h.shaped.filler; left = i; is_restriction = k; right = l; defined = d }
 
 -- conjuncts and fillers of a marked name
-module _ {s t : List ℕ} {q : Square} {w v : List ℕ} {x b : ℕ} {r : Bool} (h : Source s t q w x b) where
+module _ {s : List ℕ} {t : List table.Row} {q : Square} {w v : List ℕ} {x b : ℕ} {r : Bool} (h : Source s t q w x b) where
   pub part_pass : {i y : ℕ} → joins (kind_at t b) ≡ true → i < count_at s t b → y ≡ part_at s t b i → Put q x y w v r → Pass (Step s t q) q (PartMarked s t q x b i) w v r
   part_pass {i} j l e p = pass_as (λ m. record { is = rw (← e) m }) (put_pass p (to_part b i h.in_row.name j h.marked l e))
 
@@ -75,21 +72,21 @@ module _ {s t : List ℕ} {q : Square} {w v : List ℕ} {x b : ℕ} {r : Bool} (
   fill_pass k l f p = put_pass p (to_filled b h.in_row.name k h.marked l f)
 
 -- the fillers of two names
-module _ {t : List ℕ} {q : Square} {w : List ℕ} {b y r f : ℕ} (h : Pair t q w b y r f) where
+module _ {t : List table.Row} {q : Square} {w : List ℕ} {b y r f : ℕ} (h : Pair t q w b y r f) where
   pub fillers_small : {under : ℕ} → under ≡ filler_at t b → (under ≤ q.names) × (f ≤ q.names)
   fillers_small e =
       let z : restricts (kind_at t y) ≡ true = rw h.defined.kind refl in
       (rw e (h.fillers b h.left h.is_restriction), rw h.defined.filler (h.fillers y h.right z))
 
-pub not_due : {t : List ℕ} {q : Square} {w : List ℕ} {b y r f role : ℕ} → DefinedRestriction t y r f → role ≡ role_at t b → (role ≡ r → ⊥) → Due false (Fills t q b y w) (Marked q w b y)
+pub not_due : {t : List table.Row} {q : Square} {w : List ℕ} {b y r f role : ℕ} → DefinedRestriction t y r f → role ≡ role_at t b → (role ≡ r → ⊥) → Due false (Fills t q b y w) (Marked q w b y)
 not_due d e n = due_not (λ g. n (e ∙ g.role ∙ sym d.role))
 
-pub due_fill : {t : List ℕ} {q : Square} {w : List ℕ} {b y r f role under : ℕ} {a : Bool} → DefinedRestriction t y r f → role ≡ role_at t b → Serves role r → under ≡ filler_at t b
+pub due_fill : {t : List table.Row} {q : Square} {w : List ℕ} {b y r f role under : ℕ} {a : Bool} → DefinedRestriction t y r f → role ≡ role_at t b → Serves role r → under ≡ filler_at t b
     → Tells a (Marked q w under f) → Due a (Fills t q b y w) (Marked q w b y)
 due_fill d e same i m = due_as (tells_as (λ z. record { kind = d.kind; role = sym e ∙ same ∙ d.role; filler = rw (← i, ← d.filler) z }) (λ z. rw (i, d.filler) z.filler) m)
 
 -- the conjuncts of a name, all marked or one not
-module _ {s t : List ℕ} {q : Square} {w : List ℕ} {x y : ℕ} where
+module _ {s : List ℕ} {t : List table.Row} {q : Square} {w : List ℕ} {x y : ℕ} where
   pub part_marked : {i z : ℕ} {r : Bool} → z ≡ part_at s t y i → Tells r (Marked q w x z) → r ≡ true → PartMarked s t q x y i w
   part_marked e m k = record { is = rw (← e) (m.sound k) }
 
@@ -100,7 +97,7 @@ module _ {s t : List ℕ} {q : Square} {w : List ℕ} {x y : ℕ} where
   gathers_all d l b = always (record { kind = d.kind; parts = below_end (omega (arith, d.count)) b })
 
 -- a defined conjunction in a row
-module _ {s t : List ℕ} {q : Square} {w : List ℕ} {x b : ℕ} where
+module _ {s : List ℕ} {t : List table.Row} {q : Square} {w : List ℕ} {x b : ℕ} where
   pub gathered_there : Marked q w x b → Pass (Step s t q) q (Gathered s t q x b) w w false
   gathered_there m = pass_none (record { marked = λ g. m })
 
@@ -111,24 +108,17 @@ module _ {s t : List ℕ} {q : Square} {w : List ℕ} {x b : ℕ} where
   gathered_not g = pass_none (record { marked = λ z. absurd (g z) })
 
 -- a row
-module _ {q : Square} {w u v : List ℕ} {x : ℕ} {a b : Bool} (room : Room q w) (h : x ≤ q.names) (p : Put q x x w u a) (o : Put q x q.names u v b) where
-  itself : (s t : List ℕ) → Pass (Step s t q) q (λ z. Marked q z x x) w u a
-  itself s t = put_pass p (to_itself refl)
+pub seeds : {q : Square} {w u v : List ℕ} {x : ℕ} {a b : Bool} → Put q x x w u a → Put q x q.names u v b → Seeds q x w v (a || b)
+seeds {x = x} p o = record {
+  pass = λ s t. pass_both (λ d m. record { itself = d; top = m }) (put_pass p (to_itself refl)) (put_pass o (to_top refl));
+  itself = o.extends.stays x x p.there;
+}
 
-  top : (s t : List ℕ) → Pass (Step s t q) q (λ z. Marked q z x q.names) u v b
-  top s t = put_pass o (to_top refl)
-
-  pub seeds_changed : b ≡ true → Seeds q x w v true
-  seeds_changed e = record { pass = λ s t. pass_changed (itself s t) (top s t) e; itself = o.extends.stays x x p.there }
-
-  pub seeds_unchanged : b ≡ false → Seeds q x w v a
-  seeds_unchanged e = record { pass = λ s t. pass_unchanged (λ d m. record { itself = d; top = m }) (itself s t) (top s t) e; itself = o.extends.stays x x p.there }
-
-pub in_row_at : {s t : List ℕ} {q : Square} {w : List ℕ} {x b z : ℕ} → InRow s t q w x b → z < q.names → InRow s t q w x z
+pub in_row_at : {s : List ℕ} {t : List table.Row} {q : Square} {w : List ℕ} {x b z : ℕ} → InRow s t q w x b → z < q.names → InRow s t q w x z
 in_row_at h l = record { setting = h.setting; row = h.row; name = l }
 
 -- a new mark dealt with: what is asked stays, and a mark put by a rule is growth
-module _ {s t : List ℕ} {q : Square} {w v : List ℕ} (g : Grows (Step s t q) q w v) where
+module _ {s : List ℕ} {t : List table.Row} {q : Square} {w v : List ℕ} (g : Grows (Step s t q) q w v) where
   pub in_row_stays : {x b : ℕ} → InRow s t q w x b → InRow s t q v x b
   in_row_stays h = record { setting = setting_stays g h.setting; row = h.row; name = h.name }
 
@@ -142,73 +132,72 @@ module _ {s t : List ℕ} {q : Square} {w v : List ℕ} (g : Grows (Step s t q) 
   seeded_stays h = record { setting = setting_stays g h.setting; seeded = record { at = λ x l. let m = h.seeded.at x l in record { itself = marks_stay g m.itself; top = marks_stay g m.top } } }
 
 -- new marks dealt with
-pub gather_grows : {s t : List ℕ} {q : Square} {w v : List ℕ} {r : Bool} {x y : ℕ} → InRow s t q w x y → Gathers s t q x y w → Put q x y w v r → Grows (Step s t q) q w v
+pub gather_grows : {s : List ℕ} {t : List table.Row} {q : Square} {w v : List ℕ} {r : Bool} {x y : ℕ} → InRow s t q w x y → Gathers s t q x y w → Put q x y w v r → Grows (Step s t q) q w v
 gather_grows h g p = put_grows p (to_gathered h.name g)
 
-pub restriction_of : {s t : List ℕ} {q : Square} {w : List ℕ} {x b filler : ℕ} → Setting s t q w → b < q.names → filler ≡ filler_at t b → filler ≡ x
+pub restriction_of : {s : List ℕ} {t : List table.Row} {q : Square} {w : List ℕ} {x b filler : ℕ} → Setting s t q w → b < q.names → filler ≡ filler_at t b → filler ≡ x
     → restricts (kind_at t b) ≡ true → Marked q w b b → Restriction s t q w x b
 restriction_of h l e f r m = record { setting = h; name = l; itself = m; is_restriction = r; filler = sym e ∙ f }
 
-pub filler_small : {s t : List ℕ} {q : Square} {w : List ℕ} {x b : ℕ} → Restriction s t q w x b → x ≤ q.names
+pub filler_small : {s : List ℕ} {t : List table.Row} {q : Square} {w : List ℕ} {x b : ℕ} → Restriction s t q w x b → x ≤ q.names
 filler_small {b = b} h = omega (arith, h.filler, h.setting.shaped.filler b h.name h.is_restriction)
 
-pub over_of : {s t : List ℕ} {q : Square} {w : List ℕ} {x b y : ℕ} → Restriction s t q w x b → Marked q w x y → y ≤ q.names → Over s t q w b y
+pub over_of : {s : List ℕ} {t : List table.Row} {q : Square} {w : List ℕ} {x b y : ℕ} → Restriction s t q w x b → Marked q w x y → y ≤ q.names → Over s t q w b y
 over_of h m l = record { setting = h.setting; name = h.name; itself = h.itself; is_restriction = h.is_restriction; marked = rw h.filler m; column = l }
 
-pub over_grows : {s t : List ℕ} {q : Square} {w v : List ℕ} {b y z kind filler role role_z : ℕ} {r : Bool} → Over s t q w b y → z < q.names → kind ≡ kind_at t z → kind ≡ 4
-    → filler ≡ filler_at t z → filler ≡ y → role ≡ role_at t b → role_z ≡ role_at t z → Serves role role_z → Put q b z w v r → Grows (Step s t q) q w v
-over_grows {t = t} {y = y} {z = z} h l e four f g i j same p =
-    let k : filler_at t z ≡ y = sym f ∙ g in
-    put_grows p (to_filled _ h.name h.is_restriction h.itself l (record { kind = sym e ∙ four; role = sym i ∙ same ∙ j; filler = rw k h.marked }))
+pub over_grows : {s : List ℕ} {t : List table.Row} {q : Square} {w v : List ℕ} {b y z role : ℕ} {r : Bool} → Over s t q w b y → z < q.names → role ≡ role_at t b
+    → DefinedRestriction t z role y → Put q b z w v r → Grows (Step s t q) q w v
+over_grows h l i d p =
+    put_grows p (to_filled _ h.name h.is_restriction h.itself l (record { kind = d.kind; role = sym i ∙ d.role; filler = rw (← d.filler) h.marked }))
 
 -- a row handed on to another one, in which its node is marked
-pub row_grows : {s t : List ℕ} {q : Square} {w v : List ℕ} {x c : ℕ} → Marked q w x c → c ≤ q.names → Grows (FromRow q c x) q w v → Grows (Step s t q) q w v
+pub row_grows : {s : List ℕ} {t : List table.Row} {q : Square} {w v : List ℕ} {x c : ℕ} → Marked q w x c → c ≤ q.names → Grows (FromRow q c x) q w v → Grows (Step s t q) q w v
 row_grows {c = c} m h g = grows_as (λ u y z k i j f. through c h (rw f.row (marks_stay k m)) f.marked) g
 
 pub handed_down : {q : Square} {w v : List ℕ} {x c : ℕ} → Marked q w x c → c ≤ q.names → Grows (FromRow q c x) q w v → Grows (Taking q q) q w v
 handed_down {c = c} m h g = grows_as (λ u y z k i j f. record { it = c; inside = h; above = rw f.row (marks_stay k m); marked = f.marked }) g
 
-taking_step : {s t : List ℕ} {q : Square} {w : List ℕ} {x y : ℕ} → Taking q q w x y → Step s t q w x y
+taking_step : {s : List ℕ} {t : List table.Row} {q : Square} {w : List ℕ} {x y : ℕ} → Taking q q w x y → Step s t q w x y
 taking_step k = through k.it k.inside k.above k.marked
 
-pub taking_grows : {s t : List ℕ} {q : Square} {w v : List ℕ} → Grows (Taking q q) q w v → Grows (Step s t q) q w v
+pub taking_grows : {s : List ℕ} {t : List table.Row} {q : Square} {w v : List ℕ} → Grows (Taking q q) q w v → Grows (Step s t q) q w v
 taking_grows g = grows_as (λ u x y k i j f. taking_step f) g
 
-pub taking_pass : {s t : List ℕ} {q : Square} {D : List ℕ → Type 0} {w v : List ℕ} {r : Bool} → Pass (Taking q q) q D w v r → Pass (Step s t q) q D w v r
+pub taking_pass : {s : List ℕ} {t : List table.Row} {q : Square} {D : List ℕ → Type 0} {w v : List ℕ} {r : Bool} → Pass (Taking q q) q D w v r → Pass (Step s t q) q D w v r
 taking_pass p = pass_by (λ u x y k i j f. taking_step f) p
 
 -- columns
-pub seeded_source : {s t : List ℕ} {q : Square} {w : List ℕ} {x : ℕ} → SeededSetting s t q w → x < q.names → Source s t q w x x
+pub seeded_source : {s : List ℕ} {t : List table.Row} {q : Square} {w : List ℕ} {x : ℕ} → SeededSetting s t q w → x < q.names → Source s t q w x x
 seeded_source {x = x} h l = record { in_row = record { setting = h.setting; row = omega arith; name = l }; marked = (h.seeded.at x (omega arith)).itself }
 
-pub gathered_at : {s t : List ℕ} {q : Square} {w v : List ℕ} {x y : ℕ} {r : Bool} → Pass (Step s t q) q (Gathered s t q x y) w v r → Pass (Step s t q) q (GatheredAt s t q y x) w v r
+pub gathered_at : {s : List ℕ} {t : List table.Row} {q : Square} {w v : List ℕ} {x y : ℕ} {r : Bool} → Pass (Step s t q) q (Gathered s t q x y) w v r → Pass (Step s t q) q (GatheredAt s t q y x) w v r
 gathered_at p = pass_as (λ g. record { marked = g.marked }) p
 
-pub filled_not : {t : List ℕ} {q : Square} {w : List ℕ} {y b : ℕ} {r : Bool} → r ≡ restricts (kind_at t b) → r ≡ false → FilledAt t q y b w
+pub filled_not : {t : List table.Row} {q : Square} {w : List ℕ} {y b : ℕ} {r : Bool} → r ≡ restricts (kind_at t b) → r ≡ false → FilledAt t q y b w
 filled_not e f = record { marked = λ k. absurd (false≢true (sym f ∙ e ∙ k)) }
 
-pub filled_none : {t : List ℕ} {q : Square} {w : List ℕ} {y b : ℕ} {r : Bool} → Due r (Fills t q b y w) (Marked q w b y) → r ≡ false → FilledAt t q y b w
+pub filled_none : {t : List table.Row} {q : Square} {w : List ℕ} {y b : ℕ} {r : Bool} → Due r (Fills t q b y w) (Marked q w b y) → r ≡ false → FilledAt t q y b w
 filled_none d e = record { marked = λ k. d.settled e }
 
-pub filled_at : {s t : List ℕ} {q : Square} {w v : List ℕ} {y b : ℕ} {r : Bool} → Pass (Step s t q) q (λ u. Marked q u b y) w v r → Pass (Step s t q) q (FilledAt t q y b) w v r
+pub filled_at : {s : List ℕ} {t : List table.Row} {q : Square} {w v : List ℕ} {y b : ℕ} {r : Bool} → Pass (Step s t q) q (λ u. Marked q u b y) w v r → Pass (Step s t q) q (FilledAt t q y b) w v r
 filled_at p = pass_as (λ m. record { marked = λ k f. m }) p
 
 -- an axiom, by its kind
-not_filled : {t : List ℕ} {q : Square} {w : List ℕ} {x kind : ℕ} → kind ≡ kind_at t x → (kind ≡ 4 → ⊥) → Below (FilledAt t q x) q.names w
-not_filled e n = record { at = λ b l. record { marked = λ k f. absurd (n (e ∙ f.kind)) } }
+not_filled : {t : List table.Row} {q : Square} {w : List ℕ} {x : ℕ} → (kind_at t x ≡ 4 → ⊥) → Below (FilledAt t q x) q.names w
+not_filled n = record { at = λ b l. record { marked = λ k f. absurd (n f.kind) } }
 
-module _ {s t : List ℕ} {q : Square} {w : List ℕ} {x kind : ℕ} (e : kind ≡ kind_at t x) where
-  not_gathered : (kind ≡ 2 → ⊥) → Below (GatheredAt s t q x) (suc q.names) w
-  not_gathered n = record { at = λ y l. record { marked = λ g. absurd (n (e ∙ g.kind)) } }
+module _ {s : List ℕ} {t : List table.Row} {q : Square} {w : List ℕ} {x : ℕ} where
+  not_gathered : (kind_at t x ≡ 2 → ⊥) → Below (GatheredAt s t q x) (suc q.names) w
+  not_gathered n = record { at = λ y l. record { marked = λ g. absurd (n g.kind) } }
 
-  pub axiom_filled : kind ≡ 4 → Below (FilledAt t q x) q.names w → AxiomSettled s t q x w
-  axiom_filled four f = record { parts = λ j. not_both (kind_at t x) j (rw (← e, four) refl); gathered = not_gathered (λ k. omega arith); filled = f }
+  pub axiom_gathered : {kind : ℕ} → kind ≡ kind_at t x → kind ≡ 2 → Below (GatheredAt s t q x) (suc q.names) w → Below (PartMarked s t q x x) (count_at s t x) w → AxiomSettled s t q x w
+  axiom_gathered e two g p = record { parts = λ j. p; gathered = g; filled = not_filled (λ k. omega arith) }
 
-  pub axiom_gathered : kind ≡ 2 → Below (GatheredAt s t q x) (suc q.names) w → Below (PartMarked s t q x x) (count_at s t x) w → AxiomSettled s t q x w
-  axiom_gathered two g p = record { parts = λ j. p; gathered = g; filled = not_filled e (λ k. omega arith) }
+  -- an axiom that gives nothing, and none
+  pub axiom_idle : {kind : ℕ} → kind ≡ kind_at t x → kind ≡ 3 → AxiomSettled s t q x w
+  axiom_idle e three =
+      let k : kind_at t x ≡ 3 = sym e ∙ three in
+      record { parts = λ j. absurd (false≢true (rw k at j)); gathered = not_gathered (λ z. omega arith); filled = not_filled (λ z. omega arith) }
 
-  pub axiom_parts : kind ≡ 1 → Below (PartMarked s t q x x) (count_at s t x) w → AxiomSettled s t q x w
-  axiom_parts one p = record { parts = λ j. p; gathered = not_gathered (λ k. omega arith); filled = not_filled e (λ k. omega arith) }
-
-  pub axiom_none : (kind ≡ 4 → ⊥) → (kind ≡ 2 → ⊥) → (kind ≡ 1 → ⊥) → AxiomSettled s t q x w
-  axiom_none four two one = record { parts = λ j. absurd (false≢true (rw (← e, ne_eqb kind 1 one, ne_eqb kind 2 two) at j)); gathered = not_gathered two; filled = not_filled e four }
+  pub axiom_absent : 0 ≡ kind_at t x → AxiomSettled s t q x w
+  axiom_absent e = record { parts = λ j. absurd (false≢true (rw (← e) at j)); gathered = not_gathered (λ z. omega arith); filled = not_filled (λ z. omega arith) }

@@ -17,6 +17,7 @@ use Rattle.release.specs.Tables.{Release}
 use Rattle.release.specs.Entries.{node_number}
 use Rattle.release.proofs.Checks.{header_sound}
 use Rattle.release.proofs.Linked.{no_header_fault}
+use Rattle.release.specs.declared.table.Row as table
 use Rattle.marks.specs.declared.Square.{Square}
 use Rattle.marks.specs.Squares.{Marked, Apart, Frame}
 use Rattle.marks.specs.Passes.{Closed, Below, AllGood}
@@ -37,7 +38,7 @@ good_says : (s : List ℕ) (q : Square) (w : List ℕ) → AllGood q (Means s q.
 good_says s q w g a b i j h = rw (at_number q.names a i, at_number q.names b j)
     at (g.good (node_number q.names a) (node_number q.names b) (number_small q.names a i) (number_small q.names b j) (marked a b refl refl h))
 
-pub setting : {s t : List ℕ} {q : Square} {w : List ℕ} → Unclassified s t q w → Setting s t q w
+pub setting : {s : List ℕ} {t : List table.Row} {q : Square} {w : List ℕ} → Unclassified s t q w → Setting s t q w
 setting {s} u = record {
   shaped = ranges u.release u.names;
   room = u.area.room;
@@ -45,7 +46,7 @@ setting {s} u = record {
   few = omega (arith, u.names, (header_sound s (no_header_fault s u.release.accepted)).names);
 }
 
-module _ {s t : List ℕ} {q : Square} (r : Release s t) (names : q.names ≡ names_of s) where
+module _ {s : List ℕ} {t : List table.Row} {q : Square} (r : Release s t) (names : q.names ≡ names_of s) where
   step_sound : (w : List ℕ) (x y : ℕ) → AllGood q (Means s q.names) w → x ≤ q.names → y ≤ q.names → Step s t q w x y → Means s q.names x y
   step_sound w x y g h l o = elim (step_includes r names h l o) [
     | inl i ↦ includes_sound (formed r names) (says q w) (good_says s q w g) (node_at q.names x) (node_at q.names y) (at_node q.names x h) (at_node q.names y l) i
@@ -57,7 +58,7 @@ module _ {s t : List ℕ} {q : Square} (r : Release s t) (names : q.names ≡ na
       (includes_complete (formed r names) (says q v) (λ a b i j k. rows_closed r names rows a b i k) (node_at q.names x) (node_at q.names y) (at_node q.names x h)
       (at_node q.names y l) p)
 
-pub classified : {s t : List ℕ} {q : Square} {w v : List ℕ} → Unclassified s t q w → Closed (Step s t q) q (Below (Settled s t q) (suc q.names)) w v → Classified s q w v
+pub classified : {s : List ℕ} {t : List table.Row} {q : Square} {w v : List ℕ} → Unclassified s t q w → Closed (Step s t q) q (Below (Settled s t q) (suc q.names)) w v → Classified s q w v
 classified {v = v} u c = record {
   frame = grows_frame c.grows;
   inclusions = record {

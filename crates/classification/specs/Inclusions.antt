@@ -10,6 +10,7 @@ use Rattle.el.proofs.Classification.{Included}
 use Rattle.release.specs.Files.{names_of, axioms_of}
 use Rattle.release.specs.Tables.{Release}
 use Rattle.release.specs.Entries.{node_number}
+use Rattle.release.specs.declared.table.Row as table
 use Rattle.marks.specs.declared.Square.{Square}
 use Rattle.marks.specs.Squares.{bit, place, Area, Marked, Unmarked, Frame}
 
@@ -20,7 +21,7 @@ unfoldable pub says : Square → List ℕ → Node → Node → Bool
 says q w x y = eqb (bit (get_or w (place q (node_number q.names x) (node_number q.names y)) 0) (node_number q.names y % 8)) 1
 
 -- what classifying asks: an accepted release and its table, and a square without marks for its nodes
-pub record Unclassified (s t : List ℕ) (q : Square) (w : List ℕ) : Type 0 where
+pub record Unclassified (s : List ℕ) (t : List table.Row) (q : Square) (w : List ℕ) : Type 0 where
   pub release : Release s t
   pub names : q.names ≡ names_of s
   pub area : Area q w

@@ -2,12 +2,13 @@
 // defined conjunctions with this conjunct. Nothing is said of what they hold, so whoever reads a name from them tests what it asks of it.
 ghost use Rattle.std.specs.Prelude.{◌<◌, ◌≡◌, true};
 ghost use Rattle.release.specs.Files.{joins, restricts};
-ghost use Rattle.release.specs.Tables.{kind_at, Shaped};
+ghost use Rattle.release.specs.Tables.{kind_at};
 ghost use Rattle.marks.specs.Squares.{Area, Kept};
+ghost use Rattle.classification.specs.Steps.{Of, Listable};
 
+use crate::Classification;
 use marks::Square;
-use marks::hints::{next, put, turn};
-use release::table;
+use release::Kind;
 
 // Which of the four squares behind the rows holds what; the first is for what was seen of a row.
 #[derive(Clone, Copy)]
@@ -21,54 +22,56 @@ impl Hints {
     pub const CONJUNCTS: usize = 4;
 }
 
-// Notes a restriction by its filler.
-fn list_restriction(file: &[u8], table: &[u16], work: &mut [u8], square: Square, b: usize)
-    requires shaped { Shaped square.names file.now table.now × Area square work.old }
-    requires b_lt_names { (b < square.names) × (restricts (kind_at table.now b) ≡ true) }
-    ensures { Kept square work.old work.new }
-{
-    let filler = table::filler(table, b);
-    put(work, square, Hints::FILLERS, filler, b);
-}
-
-// Notes a defined conjunction by each of its conjuncts.
-fn list_conjunction(file: &[u8], table: &[u16], work: &mut [u8], square: Square, z: usize)
-    requires shaped { Shaped square.names file.now table.now × Area square work.old }
-    requires z_lt_names { (z < square.names) × (joins (kind_at table.now z) ≡ true) }
-    ensures { Kept square work.old work.new }
-{
-    let count = table::count(file, table, z);
-    let mut i = 0;
-    while i < count {
-        let part = table::part(file, table, z, i);
-        i += 1;
-        put(work, square, Hints::CONJUNCTS, part, z);
+impl<'a> Classification<'a> {
+    // Notes a restriction by its filler.
+    fn list_restriction(&self, work: &mut [u8], b: usize)
+        requires listable { Of Listable self.now work.old }
+        requires b_lt_names { (b < self.now.square.names) × (restricts (kind_at self.now.terminology.table.now b) ≡ true) }
+        ensures { Kept self.now.square work.old work.new }
+    {
+        let filler = self.terminology.filler(b);
+        self.square.put_hint(work, Hints::FILLERS, filler, b);
     }
-}
 
-// Notes each name by its axiom.
-pub fn list(file: &[u8], table: &[u16], work: &mut [u8], square: Square)
-    requires { Shaped square.names file.now table.now × Area square work.old }
-    ensures { Kept square work.old work.new }
-{
-    let mut next = 0;
-    while next < square.names {
-        let b = next;
-        next += 1;
-        if table::is_restriction(table, b) {
-            list_restriction(file, table, work, square, b);
-        } else if table::kind(table, b) == 2 {
-            list_conjunction(file, table, work, square, b);
+    // Notes a defined conjunction by each of its conjuncts.
+    fn list_conjunction(&self, work: &mut [u8], z: usize)
+        requires listable { Of Listable self.now work.old }
+        requires z_lt_names { (z < self.now.square.names) × (joins (kind_at self.now.terminology.table.now z) ≡ true) }
+        ensures { Kept self.now.square work.old work.new }
+    {
+        let count = self.terminology.count(z);
+        for i in 0..count {
+            let part = self.terminology.part(z, i);
+            self.square.put_hint(work, Hints::CONJUNCTS, part, z);
+        }
+    }
+
+    // Notes each name by its axiom.
+    pub(crate) fn list(&self, work: &mut [u8])
+        requires { Of Listable self.now work.old }
+        ensures { Kept self.now.square work.old work.new }
+    {
+        for x in 0..self.square.names {
+            match self.terminology.kind(x) {
+                Some(Kind::PrimitiveRestriction | Kind::DefinedRestriction) => {
+                    self.list_restriction(work, x);
+                }
+                Some(Kind::DefinedConjunction) => self.list_conjunction(work, x),
+                _ => {}
+            }
         }
     }
 }
 
 // Notes for each node what lies below it, unless it is noted: ⊤ has something below it then.
-pub fn list_below(work: &mut [u8], square: Square)
+pub fn list_below(square: Square, work: &mut [u8])
     requires { Area square work.old }
     ensures { Kept square work.old work.new }
 {
-    if square.names < next(work, square, Hints::BELOW, square.names, 0) {
-        turn(work, square, Hints::BELOW);
+    if square
+        .next_hint(work, Hints::BELOW, square.names, 0)
+        .is_none()
+    {
+        square.turn_hints(work, Hints::BELOW);
     }
 }

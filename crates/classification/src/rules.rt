@@ -5,131 +5,94 @@ ghost use Rattle.release.specs.Files.{joins};
 ghost use Rattle.release.specs.Tables.{kind_at, count_at};
 ghost use Rattle.marks.specs.Squares.{Room, Marked};
 ghost use Rattle.marks.specs.Passes.{Pass, Below, Due};
-ghost use Rattle.classification.specs.Steps.{Step, PartMarked, Gathers, Fills, Gathered, Seeds, InRow, Source, Pair, DefinedConjunction};
+ghost use Rattle.classification.specs.Steps.{Of, Step, PartMarked, Gathers, Fills, Gathered, Seeds, InRow, Source, Pair, DefinedConjunction};
 
-use marks::{Square, is_marked, mark};
-use release::table;
+use crate::Classification;
+use release::Kind;
 
-// Marks x ⊑ x and x ⊑ ⊤. Whether a mark is new.
-pub fn seed(work: &mut [u8], square: Square, x: usize) -> bool
-    requires room { Room square work.old }
-    requires x_le_names { x ≤ square.names }
-    ensures { Seeds square x work.old work.new result }
-{
-    let changed = mark(work, square, x, x);
-    if mark(work, square, x, square.names) {
-        return true;
+impl<'a> Classification<'a> {
+    // Marks x ⊑ x and x ⊑ ⊤. Whether a mark is new.
+    pub(crate) fn seed(&self, work: &mut [u8], x: usize) -> bool
+        requires room { Room self.now.square work.old }
+        requires x_le_names { x ≤ self.now.square.names }
+        ensures { Seeds self.now.square x work.old work.new result }
+    {
+        let itself = self.square.mark(work, x, x);
+        let top = self.square.mark(work, x, self.square.names);
+        itself | top
     }
-    changed
-}
 
-// Marks the conjuncts of b, which is marked in row x. Whether a mark is new.
-pub fn mark_parts(
-    file: &[u8],
-    table: &[u16],
-    work: &mut [u8],
-    square: Square,
-    x: usize,
-    b: usize,
-) -> bool
-    requires source { Source file.now table.now square work.old x b }
-    requires b_value { joins (kind_at table.now b) ≡ true }
-    ensures { Pass (Step file.now table.now square) square (Below (PartMarked file.now table.now square x b) (count_at file.now table.now b)) work.old work.new result }
-{
-    let count = table::count(file, table, b);
-    let mut changed = false;
-    let mut i = 0;
-    while i < count {
-        let part = table::part(file, table, b, i);
-        i += 1;
-        if mark(work, square, x, part) {
-            changed = true;
+    // Marks the conjuncts of b, which is marked in row x. Whether a mark is new.
+    pub(crate) fn mark_parts(&self, work: &mut [u8], x: usize, b: usize) -> bool
+        requires source { Of Source self.now work.old x b }
+        requires b_value { joins (kind_at self.now.terminology.table.now b) ≡ true }
+        ensures { Pass (Of Step self.now) self.now.square (Below (Of PartMarked self.now x b) (count_at self.now.terminology.file.now self.now.terminology.table.now b)) work.old work.new result }
+    {
+        let count = self.terminology.count(b);
+        let mut changed = false;
+        for i in 0..count {
+            let part = self.terminology.part(b, i);
+            let new = self.square.mark(work, x, part);
+            changed |= new;
         }
+        changed
     }
-    changed
-}
 
-// Whether y, a defined restriction with this role and filler, is not marked in row b yet, and the restriction b serves for it. The
-// cell is looked at first, since most are marked or not asked for.
-pub fn fills(
-    table: &[u16],
-    work: &[u8],
-    square: Square,
-    b: usize,
-    y: usize,
-    role: usize,
-    filler: usize,
-) -> bool
-    requires { Pair table.now square work.now b y role filler }
-    ensures { Due result (Fills table.now square b y work.now) (Marked square work.now b y) }
-{
-    if is_marked(work, square, b, y) {
-        return false;
-    }
-    if table::role(table, b) != role {
-        return false;
-    }
-    let under = table::filler(table, b);
-    is_marked(work, square, under, filler)
-}
-
-// Whether all conjuncts of the defined conjunction y, which has `count` of them, are marked in row x.
-fn has_parts(
-    file: &[u8],
-    table: &[u16],
-    work: &[u8],
-    square: Square,
-    x: usize,
-    y: usize,
-    count: usize,
-) -> bool
-    requires in_row { InRow file.now table.now square work.now x y }
-    requires defined_conjunction { DefinedConjunction file.now table.now y count }
-    ensures { Tells result (Gathers file.now table.now square x y work.now) }
-{
-    let mut i = 0;
-    while i < count {
-        let part = table::part(file, table, y, i);
-        if is_marked(work, square, x, part) {
-            i += 1;
-        } else {
+    // Whether y, a defined restriction with this role and filler, is not marked in row b yet, and the restriction b serves for it. The
+    // cell is looked at first, since most are marked or not asked for.
+    pub(crate) fn fills(&self, work: &[u8], b: usize, y: usize, role: usize, filler: usize) -> bool
+        requires { Pair self.now.terminology.table.now self.now.square work.now b y role filler }
+        ensures { Due result (Fills self.now.terminology.table.now self.now.square b y work.now) (Marked self.now.square work.now b y) }
+    {
+        if self.square.is_marked(work, b, y) {
             return false;
         }
+        if self.terminology.role(b) != role {
+            return false;
+        }
+        let under = self.terminology.filler(b);
+        self.square.is_marked(work, under, filler)
     }
-    true
-}
 
-// Whether y is a defined conjunction, and all its conjuncts are marked in row x.
-pub fn gathers(file: &[u8], table: &[u16], work: &[u8], square: Square, x: usize, y: usize) -> bool
-    requires { InRow file.now table.now square work.now x y }
-    ensures { Tells result (Gathers file.now table.now square x y work.now) }
-{
-    if table::kind(table, y) != 2 {
-        return false;
+    // Whether all conjuncts of the defined conjunction y, which has `count` of them, are marked in row x.
+    fn has_parts(&self, work: &[u8], x: usize, y: usize, count: usize) -> bool
+        requires in_row { Of InRow self.now work.now x y }
+        requires defined_conjunction { DefinedConjunction self.now.terminology.file.now self.now.terminology.table.now y count }
+        ensures { Tells result (Of Gathers self.now x y work.now) }
+    {
+        for i in 0..count {
+            let part = self.terminology.part(y, i);
+            if !self.square.is_marked(work, x, part) {
+                return false;
+            }
+        }
+        true
     }
-    let count = table::count(file, table, y);
-    has_parts(file, table, work, square, x, y, count)
-}
 
-// Marks the defined conjunction y, which has `count` conjuncts, in row x if all of them are marked there. Whether the mark is new.
-pub fn gather(
-    file: &[u8],
-    table: &[u16],
-    work: &mut [u8],
-    square: Square,
-    x: usize,
-    y: usize,
-    count: usize,
-) -> bool
-    requires in_row { InRow file.now table.now square work.old x y }
-    requires defined_conjunction { DefinedConjunction file.now table.now y count }
-    ensures { Pass (Step file.now table.now square) square (Gathered file.now table.now square x y) work.old work.new result }
-{
-    if is_marked(work, square, x, y) {
-        return false;
+    // Whether y is a defined conjunction, and all its conjuncts are marked in row x.
+    pub(crate) fn gathers(&self, work: &[u8], x: usize, y: usize) -> bool
+        requires { Of InRow self.now work.now x y }
+        ensures { Tells result (Of Gathers self.now x y work.now) }
+    {
+        if !self.terminology.has_kind(y, Kind::DefinedConjunction) {
+            return false;
+        }
+        let count = self.terminology.count(y);
+        self.has_parts(work, x, y, count)
     }
-    if has_parts(file, table, work, square, x, y, count) {
-        return mark(work, square, x, y);
+
+    // Marks the defined conjunction y, which has `count` conjuncts, in row x if all of them are marked there. Whether the mark is new.
+    pub(crate) fn gather(&self, work: &mut [u8], x: usize, y: usize, count: usize) -> bool
+        requires in_row { Of InRow self.now work.old x y }
+        requires defined_conjunction { DefinedConjunction self.now.terminology.file.now self.now.terminology.table.now y count }
+        ensures { Pass (Of Step self.now) self.now.square (Of Gathered self.now x y) work.old work.new result }
+    {
+        if self.square.is_marked(work, x, y) {
+            return false;
+        }
+        if self.has_parts(work, x, y, count) {
+            return self.square.mark(work, x, y);
+        }
+        false
     }
-    false
 }

@@ -3,159 +3,166 @@ ghost use Rattle.std.specs.Prelude.{◌≡◌, suc, ◌<◌};
 ghost use Rattle.release.specs.Tables.{kind_at};
 ghost use Rattle.marks.specs.Squares.{Kept};
 ghost use Rattle.marks.specs.Passes.{Pass, Closed, Below};
-ghost use Rattle.classification.specs.Steps.{Step, Seeded, Settled, GatheredAt, FilledAt, AxiomSettled, Setting, SeededSetting};
+ghost use Rattle.marks.proofs.Squares.{frame_area};
+ghost use Rattle.marks.proofs.Passes.{grows_frame, room_stays};
+ghost use Rattle.classification.specs.Steps.{Of, Step, Seeded, Settled, GatheredAt, FilledAt, AxiomSettled, Setting, SeededSetting};
 
-use crate::hints::list;
-use crate::propagation::propagate;
-use crate::rules::{fills, gather, mark_parts, seed};
-use marks::inclusions::take_all;
+use crate::Classification;
+use crate::hints::list_below;
+use marks::Square;
+use marks::inclusions::{Direction, Handing};
 use marks::order::Order;
+use marks::rules::{Rules, close};
 use marks::waiting::Waiting;
-use marks::{Square, hints, mark};
-use release::table;
+use release::Kind;
 
-// Marks x ⊑ x and x ⊑ ⊤ for all x. Whether a mark is new.
-fn seed_all(file: &[u8], table: &[u16], work: &mut [u8], square: Square) -> bool
-    requires { Setting file.now table.now square work.old }
-    ensures { Pass (Step file.now table.now square) square (Below (Seeded square) (suc square.names)) work.old work.new result }
-{
-    let mut changed = false;
-    let mut next = 0;
-    while next <= square.names {
-        let x = next;
-        next += 1;
-        let seeded = seed(work, square, x);
-        changed = changed | seeded;
+impl<'a> Classification<'a> {
+    // Marks x ⊑ x and x ⊑ ⊤ for all x. Whether a mark is new.
+    fn seed_all(&self, work: &mut [u8]) -> bool
+        requires { Of Setting self.now work.old }
+        ensures { Pass (Of Step self.now) self.now.square (Below (Seeded self.now.square) (suc self.now.square.names)) work.old work.new result }
+    {
+        let mut changed = false;
+        for x in 0..self.nodes() {
+            let seeded = self.seed(work, x);
+            changed |= seeded;
+        }
+        changed
     }
-    changed
-}
 
-// Marks the defined conjunction y in each row in which all its conjuncts are marked. Whether a mark is new.
-fn gather_column(file: &[u8], table: &[u16], work: &mut [u8], square: Square, y: usize) -> bool
-    requires setting { Setting file.now table.now square work.old }
-    requires y_lt_names { y < square.names }
-    requires y_value { kind_at table.now y ≡ 2 }
-    ensures { Pass (Step file.now table.now square) square (Below (GatheredAt file.now table.now square y) (suc square.names)) work.old work.new result }
-{
-    let count = table::count(file, table, y);
-    let mut changed = false;
-    let mut x = 0;
-    while x <= square.names {
-        let gathered = gather(file, table, work, square, x, y, count);
-        changed = changed | gathered;
-        x += 1;
+    // Marks the defined conjunction y in each row in which all its conjuncts are marked. Whether a mark is new. By itself, and with a copy of
+    // what it works on, so that the compiler has registers for the loop; so too the next one.
+    #[inline(never)]
+    fn gather_column(&self, work: &mut [u8], y: usize) -> bool
+        requires setting { Of Setting self.now work.old }
+        requires y_lt_names { y < self.now.square.names }
+        requires y_value { kind_at self.now.terminology.table.now y ≡ 2 }
+        ensures { Pass (Of Step self.now) self.now.square (Below (Of GatheredAt self.now y) (suc self.now.square.names)) work.old work.new result }
+    {
+        let own = *self;
+        let count = own.terminology.count(y);
+        let mut changed = false;
+        for row in 0..self.nodes() {
+            let gathered = own.gather(work, row, y, count);
+            changed |= gathered;
+        }
+        changed
     }
-    changed
-}
 
-// Marks the defined restriction y in the row of each restriction that serves for it. Whether a mark is new.
-fn fill_column(file: &[u8], table: &[u16], work: &mut [u8], square: Square, y: usize) -> bool
-    requires seeded_setting { SeededSetting file.now table.now square work.old }
-    requires y_lt_names { y < square.names }
-    requires y_value { kind_at table.now y ≡ 4 }
-    ensures { Pass (Step file.now table.now square) square (Below (FilledAt table.now square y) square.names) work.old work.new result }
-{
-    let role = table::role(table, y);
-    let filler = table::filler(table, y);
-    let mut changed = false;
-    let mut next = 0;
-    while next < square.names {
-        let b = next;
-        next += 1;
-        if table::is_restriction(table, b) {
-            if fills(table, work, square, b, y, role, filler) {
-                let new = mark(work, square, b, y);
-                changed = changed | new;
+    // Marks the defined restriction y in the row of each restriction that serves for it. Whether a mark is new.
+    #[inline(never)]
+    fn fill_column(&self, work: &mut [u8], y: usize) -> bool
+        requires seeded_setting { Of SeededSetting self.now work.old }
+        requires y_lt_names { y < self.now.square.names }
+        requires y_value { kind_at self.now.terminology.table.now y ≡ 4 }
+        ensures { Pass (Of Step self.now) self.now.square (Below (FilledAt self.now.terminology.table.now self.now.square y) self.now.square.names) work.old work.new result }
+    {
+        let own = *self;
+        let role = own.terminology.role(y);
+        let filler = own.terminology.filler(y);
+        let mut changed = false;
+        for b in 0..own.square.names {
+            if own.terminology.is_restriction(b) && own.fills(work, b, y, role, filler) {
+                let new = own.square.mark(work, b, y);
+                changed |= new;
             }
         }
+        changed
     }
-    changed
+
+    // Marks what the axiom of x gives: its conjuncts in its row, and its column where it defines x. Whether a mark is new.
+    fn axiom(&self, work: &mut [u8], x: usize) -> bool
+        requires seeded_setting { Of SeededSetting self.now work.old }
+        requires x_lt_names { x < self.now.square.names }
+        ensures { Pass (Of Step self.now) self.now.square (Of AxiomSettled self.now x) work.old work.new result }
+    {
+        match self.terminology.kind(x) {
+            Some(Kind::DefinedRestriction) => self.fill_column(work, x),
+            Some(Kind::DefinedConjunction) => {
+                let gathered = self.gather_column(work, x);
+                let parts = self.mark_parts(work, x, x);
+                gathered | parts
+            }
+            Some(Kind::PrimitiveConjunction) => self.mark_parts(work, x, x),
+            Some(Kind::PrimitiveRestriction) => false,
+            None => false,
+        }
+    }
+
+    // Does so for all axioms. Whether a mark is new.
+    fn axioms(&self, work: &mut [u8]) -> bool
+        requires { Of SeededSetting self.now work.old }
+        ensures { Pass (Of Step self.now) self.now.square (Below (Of AxiomSettled self.now) self.now.square.names) work.old work.new result }
+    {
+        let mut changed = false;
+        for x in 0..self.square.names {
+            let new = self.axiom(work, x);
+            changed |= new;
+        }
+        changed
+    }
+
+    // Writes the hints: where to look, and what the rows have so far.
+    fn prepare(&self, work: &mut [u8])
+        requires { Of Setting self.now work.old }
+        ensures { Kept self.now.square work.old work.new }
+    {
+        self.list(work);
+        self.square.see_all(work);
+    }
+
+    // Passes until nothing is left to mark. What a pass finds is followed up from row to row before the next one.
+    pub(crate) fn close(&self, work: &mut [u8], order: &Order)
+        requires { Of Setting self.now work.old }
+        ensures { Closed (Of Step self.now) self.now.square (Below (Of Settled self.now) (suc self.now.square.names)) work.old work.new }
+    {
+        let mut waiting = Waiting::new();
+        self.prepare(work);
+        close(self, work, &mut waiting, order);
+    }
 }
 
-// Marks what the axiom of x gives: its conjuncts in its row, and its column where it defines x. Whether a mark is new.
-fn axiom(file: &[u8], table: &[u16], work: &mut [u8], square: Square, x: usize) -> bool
-    requires seeded_setting { SeededSetting file.now table.now square work.old }
-    requires x_lt_names { x < square.names }
-    ensures { Pass (Step file.now table.now square) square (AxiomSettled file.now table.now square x) work.old work.new result }
-{
-    let kind = table::kind(table, x);
-    if kind == 4 {
-        return fill_column(file, table, work, square, x);
-    }
-    if kind == 2 {
-        let gathered = gather_column(file, table, work, square, x);
-        let parts = mark_parts(file, table, work, square, x, x);
-        return gathered | parts;
-    }
-    if kind == 1 {
-        return mark_parts(file, table, work, square, x, x);
-    }
-    false
-}
+impl<'a> Rules for Classification<'a> {
+    ghost marks = { λ c. c.square };
 
-// Does so for all axioms. Whether a mark is new.
-fn axioms(file: &[u8], table: &[u16], work: &mut [u8], square: Square) -> bool
-    requires { SeededSetting file.now table.now square work.old }
-    ensures { Pass (Step file.now table.now square) square (Below (AxiomSettled file.now table.now square) square.names) work.old work.new result }
-{
-    let mut changed = false;
-    let mut next = 0;
-    while next < square.names {
-        let x = next;
-        next += 1;
-        let new = axiom(file, table, work, square, x);
-        changed = changed | new;
-    }
-    changed
-}
+    ghost setting = { Of Setting };
 
-// One pass: what is marked in any row, what the axioms give, and what the rows above each row have. Whether a mark is new; the pass
-// goes no further where one is, since what is left is found faster from there (propagation).
-fn pass(
-    file: &[u8],
-    table: &[u16],
-    work: &mut [u8],
-    square: Square,
-    order: &[u16; Order::NODES],
-) -> bool
-    requires { Setting file.now table.now square work.old }
-    ensures { Pass (Step file.now table.now square) square (Below (Settled file.now table.now square) (suc square.names)) work.old work.new result }
-{
-    if seed_all(file, table, work, square) {
-        return true;
-    }
-    if axioms(file, table, work, square) {
-        return true;
-    }
-    take_all(work, square, square, order)
-}
+    ghost allowed = { Of Step };
 
-// Writes the hints: where to look, and what the rows have so far.
-fn prepare(file: &[u8], table: &[u16], work: &mut [u8], square: Square)
-    requires { Setting file.now table.now square work.old }
-    ensures { Kept square work.old work.new }
-{
-    list(file, table, work, square);
-    hints::see_all(work, square);
-}
+    ghost done = { λ c. Below (Of Settled c) (suc c.square.names) };
 
-// Passes until nothing is left to mark. What a pass finds is followed up from row to row before the next one. A pass is called in two places,
-// so that the compiler makes a function of it, with registers for its loops.
-pub fn close(
-    file: &[u8],
-    table: &[u16],
-    work: &mut [u8],
-    square: Square,
-    order: &[u16; Order::NODES],
-)
-    requires { Setting file.now table.now square work.old }
-    ensures { Closed (Step file.now table.now square) square (Below (Settled file.now table.now square) (suc square.names)) work.old work.new }
-{
-    let mut waiting = [0u16; Waiting::LENGTH];
-    prepare(file, table, work, square);
-    let mut changed = pass(file, table, work, square, order);
-    while changed {
-        propagate(file, table, work, &mut waiting, square);
-        changed = pass(file, table, work, square, order);
+    fn marks(&self) -> Square {
+        self.square
     }
+
+    // Over a copy, of which the compiler keeps the parts in registers.
+    fn deal(&self, work: &mut [u8], waiting: &mut Waiting, x: usize) {
+        let own = *self;
+        own.deal_with(work, waiting, x);
+    }
+
+    // Those that are not as they were seen.
+    fn wait_for_new(&self, work: &mut [u8], waiting: &mut Waiting) {
+        list_below(self.square, work);
+        self.square.wait_for_new(work, waiting);
+    }
+
+    // First what is marked in any row, then what the axioms give, then what the rows above each row have. The pass goes no further where a
+    // mark is new, since what is left is found faster from there.
+    fn pass(&self, work: &mut [u8], order: &Order) -> bool {
+        if self.seed_all(work) {
+            return true;
+        }
+        if self.axioms(work) {
+            return true;
+        }
+        let handing = Handing {
+            inclusions: self.square,
+            marks: self.square,
+            direction: Direction::Down,
+        };
+        handing.hand_all(work, order)
+    }
+
+    ghost stays = { λ c w v g s. record { shaped = s.shaped; room = room_stays g s.room; area = frame_area (grows_frame g) s.area; few = s.few } };
 }

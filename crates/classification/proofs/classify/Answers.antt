@@ -1,3 +1,4 @@
+-- The marks put at first are growth, and the passes after them close it.
 use Rattle.marks.proofs.Passes.{closed_further}
 use Rattle.classification.proofs.Marking.{setting_stays}
 use Rattle.classification.proofs.Meaning.{setting, classified}
