@@ -15,20 +15,19 @@ use Rattle.el.specs.Lists.{pick}
 use Rattle.el.specs.Concepts.{Concept, top, name, both, some}
 use Rattle.el.specs.Axioms.{Axiom}
 use Rattle.el.specs.Derivability.{same, to_top, one, other, meet, under, chain}
-use Rattle.outline.specs.Atoms.{Atom, root_of, Same}
+use Rattle.outline.specs.declared.Atom.{Atom}
+use Rattle.outline.specs.Atoms.{atom, root_of, Same}
 
 pub data Pending : Type 0 where
   awaits : ℕ → Concept → Pending
-
-abbrev pub atom : ℕ → ℕ → ℕ → Atom
-atom value owner child = record { value = value; owner = owner; child = child }
 
 pub data Reads : List Pending → ℕ → List Atom → Type 0 where
   done : {k : ℕ} → Reads [] k []
   read_top : {k o : ℕ} {ps : List Pending} {rest : List Atom} → Reads ps k rest → Reads (awaits o top ∷ ps) k rest
   read_name : {k o b : ℕ} {ps : List Pending} {rest : List Atom} → Reads ps k rest → Reads (awaits o (name b) ∷ ps) k (atom b o 0 ∷ rest)
   read_both : {k o : ℕ} {c d : Concept} {ps : List Pending} {rest : List Atom} → Reads (awaits o c ∷ (awaits o d ∷ ps)) k rest → Reads (awaits o (both c d) ∷ ps) k rest
-  read_some : {k o r : ℕ} {c : Concept} {ps : List Pending} {rest : List Atom} → Reads (awaits (suc k) c ∷ ps) (suc (suc k)) rest → Reads (awaits o (some r c) ∷ ps) (suc k) (atom r o (suc k) ∷ rest)
+  read_some : {k o r : ℕ} {c : Concept} {ps : List Pending} {rest : List Atom} → Reads (awaits (suc k) c ∷ ps) (suc (suc k)) rest
+      → Reads (awaits o (some r c) ∷ ps) (suc k) (atom r o (suc k) ∷ rest)
 
 abbrev pub pending_of : List Pending → ℕ → Concept
 pending_of [] o = top

@@ -1,49 +1,53 @@
 -- A concept as a flat list of atoms, its conjuncts and those of each ∃'s filler. A root is the whole concept, number 0, or the filler of an
 -- ∃, numbered from 1. An atom has an owner, the root that it is a conjunct of; a child, the root that is its filler, or 0 for a name; and
 -- a value, its role or its name.
---   value_at o i, owner_at o i, child_at o i     the numbers of atom i in the memory o
+--   atom_at o i                atom i of the outline o;  value_at o i, owner_at o i, child_at o i: its numbers
+--   child_of a                 the root that is the filler of the atom a, none for a name
 --   atoms_from o i left         the atoms from i on, as many as left
 --   root_of atoms k             the concept that is root k, by these atoms
 --   Shape n o r                the ranges and the order that loops over an outline rely on
 --   Outlined n c o r           o holds an outline of c
-use Rattle.std.specs.Prelude.{◌≡◌, List, [], ◌∷◌, ℕ, zero, suc, ◌+◌, ◌*◌, ◌≤◌, ◌<◌, eqb, length, get_or, set}
+use Rattle.std.specs.Prelude.{◌≡◌, List, [], ◌∷◌, Option, None, Some, ℕ, zero, suc, ◌≤◌, ◌<◌, eqb, length, get_or, drop}
 use Rattle.el.specs.Lists.{pick}
 use Rattle.el.specs.Concepts.{Concept, top, name, both, some}
 use Rattle.el.specs.Axioms.{Axiom}
 use Rattle.el.specs.Derivability.{Derives}
-use Rattle.release.specs.Files.{IsWidth}
-use Rattle.concept.specs.Bytes.{IsTextOf}
+use Rattle.concept.specs.Bytes.{number, IsTextOf}
+use Rattle.outline.specs.declared.Atom.{Atom}
 use Rattle.outline.specs.declared.Extent.{Extent}
 
-unfoldable pub value_at : List ℕ → ℕ → ℕ
-value_at o i = get_or o (3 * i) 0
+abbrev pub atom : ℕ → ℕ → ℕ → Atom
+atom value owner child = record { value = value; owner = owner; child = child }
 
-unfoldable pub owner_at : List ℕ → ℕ → ℕ
-owner_at o i = get_or o (3 * i + 1) 0
+abbrev pub blank : Atom
+blank = atom 0 0 0
 
-unfoldable pub child_at : List ℕ → ℕ → ℕ
-child_at o i = get_or o (3 * i + 2) 0
+abbrev pub atom_at : List Atom → ℕ → Atom
+atom_at o i = get_or o i blank
 
-pub record HasAtom (o : List ℕ) (i : ℕ) : Type 0 where
-  pub inside : 3 * i + 3 ≤ length o
+abbrev pub value_at : List Atom → ℕ → ℕ
+value_at o i = (atom_at o i).value
 
-unfoldable pub put_atom : List ℕ → ℕ → ℕ → ℕ → ℕ → List ℕ
-put_atom o i value owner child = set (set (set o (3 * i) value) (3 * i + 1) owner) (3 * i + 2) child
+abbrev pub owner_at : List Atom → ℕ → ℕ
+owner_at o i = (atom_at o i).owner
 
--- w bytes stand at a place of a text
-pub record HasNumber (w : ℕ) (s : List ℕ) (at : ℕ) : Type 0 where
-  pub width : IsWidth w
-  pub inside : at + w ≤ length s
+abbrev pub child_at : List Atom → ℕ → ℕ
+child_at o i = (atom_at o i).child
 
-pub record Atom : Type 0 where
-  pub value : ℕ
-  pub owner : ℕ
-  pub child : ℕ
+abbrev pub filler_of : ℕ → Option ℕ
+filler_of zero = None
+filler_of (suc k) = Some (suc k)
 
-abbrev pub atom_at : List ℕ → ℕ → Atom
-atom_at o i = record { value = value_at o i; owner = owner_at o i; child = child_at o i }
+abbrev pub child_of : Atom → Option ℕ
+child_of a = filler_of a.child
 
-unfoldable pub atoms_from : List ℕ → ℕ → ℕ → List Atom
+-- the first w bytes of a text are the number x, and t follows them
+pub record BeginsWith (w : ℕ) (s : List ℕ) (x : ℕ) (t : List ℕ) : Type 0 where
+  pub long : w ≤ length s
+  pub value : number w s ≡ x
+  pub rest : drop w s ≡ t
+
+unfoldable pub atoms_from : List Atom → ℕ → ℕ → List Atom
 atoms_from o i zero = []
 atoms_from o i (suc left) = atom_at o i ∷ atoms_from o (suc i) left
 
@@ -57,8 +61,9 @@ unfoldable pub root_of : List Atom → ℕ → Concept
 root_of [] k = top
 root_of (a ∷ rest) k = pick (eqb a.owner k) (both (atom_concept a.child a.value (root_of rest a.child)) (root_of rest k)) (root_of rest k)
 
-pub record Shape (n : ℕ) (o : List ℕ) (r : Extent) : Type 0 where
-  pub room : 3 * r.atoms ≤ length o
+pub record Shape (n : ℕ) (o : List Atom) (r : Extent) : Type 0 where
+  pub room : r.atoms ≤ length o
+  pub few_atoms : r.atoms ≤ 128
   pub few : r.roots ≤ 128
   pub whole : 0 < r.roots
   pub owner : (i : ℕ) → i < r.atoms → owner_at o i < r.roots
@@ -71,16 +76,13 @@ pub record Same (al : List Axiom) (c d : Concept) : Type 0 where
   pub to : Derives al c d
   pub from : Derives al d c
 
-pub record Outlined (n : ℕ) (c : Concept) (o : List ℕ) (r : Extent) : Type 0 where
+pub record Outlined (n : ℕ) (c : Concept) (o : List Atom) (r : Extent) : Type 0 where
   pub shape : Shape n o r
   pub means : (al : List Axiom) → Same al c (root_of (atoms_from o 0 r.atoms) 0)
 
--- what outlining asks: the text of a concept, room for the stack and for the atoms that 255 bytes can have
-pub record Outlinable (w : ℕ) (s owners atoms : List ℕ) : Type 0 where
-  pub width : IsWidth w
+-- what outlining asks: the text of a concept
+pub record Outlinable (w : ℕ) (s : List ℕ) : Type 0 where
   pub names : ℕ
   pub roles : ℕ
   pub concept : Concept
   pub text : IsTextOf w names roles concept s
-  pub stack : 256 ≤ length owners
-  pub room : 384 ≤ length atoms

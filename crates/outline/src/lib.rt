@@ -2,19 +2,75 @@
 // the filler of an ∃, numbered in the order of reading.
 #![tactic(auto)]
 
-ghost use Rattle.std.specs.Prelude.{◌≡◌, ℕ, drop};
+ghost use Rattle.std.specs.Prelude.{◌≡◌, ℕ, ◌≤◌, ◌<◌, length, take, MatchOption};
 ghost use Rattle.el.specs.Concepts.{Concept};
-ghost use Rattle.release.specs.Files.{IsWidth};
-ghost use Rattle.concept.specs.Bytes.{number, IsTextOf, concept_ok};
-ghost use Rattle.outline.specs.Atoms.{HasNumber, value_at, owner_at, child_at, HasAtom, put_atom, Outlinable, Outlined};
+ghost use Rattle.release.specs.Versions.{width};
+ghost use Rattle.concept.specs.Bytes.{IsTextOf, concept_ok};
+ghost use Rattle.outline.specs.Atoms.{atom, BeginsWith, child_of, Outlinable, Outlined};
 
 use concept::LONGEST;
+use release::number::Version;
 
-// The numbers of an atom: its value, its owner, its child.
-pub const ATOM: usize = 3;
+// A conjunct of a root: a name, or an ∃ with the root that is its filler.
+#[derive(Clone, Copy)]
+pub struct Atom {
+    // The name, or the role.
+    pub value: u16,
+    // The root that the atom is a conjunct of.
+    pub owner: u16,
+    // The root that is the filler of an ∃; for a name 0, the whole concept, which is no filler.
+    pub child: u16,
+}
 
-// The bytes of a role.
-const ROLE: usize = 1;
+impl Atom {
+    pub const BLANK: Atom = Atom {
+        value: 0,
+        owner: 0,
+        child: 0,
+    };
+
+    fn name(name: u16, owner: u16) -> Atom
+        ensures { result ≡ atom name owner 0 }
+    {
+        Atom {
+            value: name,
+            owner,
+            child: 0,
+        }
+    }
+
+    fn restriction(role: u16, owner: u16, filler: u16) -> Atom
+        ensures { result ≡ atom role owner filler }
+    {
+        Atom {
+            value: role,
+            owner,
+            child: filler,
+        }
+    }
+
+    pub fn value(self) -> usize
+        ensures { result ≡ self.value }
+    {
+        usize::from(self.value)
+    }
+
+    pub fn owner(self) -> usize
+        ensures { result ≡ self.owner }
+    {
+        usize::from(self.owner)
+    }
+
+    // The root that is the filler of an ∃.
+    pub fn child(self) -> Option<usize>
+        ensures { result ≡ child_of self }
+    {
+        match self.child {
+            0 => None,
+            root => Some(usize::from(root)),
+        }
+    }
+}
 
 // How many atoms and roots an outline has.
 #[derive(Clone, Copy)]
@@ -23,155 +79,140 @@ pub struct Extent {
     pub roots: usize,
 }
 
-fn wide(x: u16) -> usize
-    ensures { result ≡ x }
-{
-    x as usize
+// Room for the atoms: each takes two bytes at least, of 255.
+const ATOMS: usize = 128;
+
+// The atoms of a concept stand first in the array, as many as the extent says: there is no heap.
+#[derive(Clone, Copy)]
+pub struct Outline {
+    pub atoms: [Atom; ATOMS],
+    pub extent: Extent,
 }
 
-// The number of `width` bytes at a place, low byte first.
-fn number_at(bytes: &[u8], at: usize, width: usize) -> u16
-    requires { HasNumber width bytes.now at }
-    ensures { result ≡ number width (drop at bytes.now) }
+// The name that the bytes begin with, low byte first, and the bytes after it; none where there are too few.
+fn split_name(bytes: &[u8], version: Version) -> Option<(u16, &[u8])>
+    ensures { MatchOption result (length bytes.now < width version) (λ p. BeginsWith (width version) bytes.now p.0 p.1.now) }
 {
-    let low = bytes[at] as u16;
-    if width == 1 {
-        return low;
+    match (version, bytes) {
+        (Version::One, [low, rest @ ..]) => Some((u16::from(*low), rest)),
+        (Version::Two, [low, high, rest @ ..]) => {
+            Some((u16::from(*low) + 256 * u16::from(*high), rest))
+        }
+        _ => None,
     }
-    low + 256 * (bytes[at + 1] as u16)
 }
 
-// Whether the bytes are one concept and nothing else, at most 255 of them, its names of `width` bytes. One pass without recursion, so that
+// Whether the bytes are one concept and nothing else, at most 255 of them. One pass without recursion, so that
 // no bytes make the stack deep. `pending` counts the concepts still to be read.
-pub fn is_text(bytes: &[u8], width: usize, names: usize, roles: usize) -> bool
-    requires { IsWidth width }
-    ensures { result ≡ concept_ok width names roles bytes.now }
+pub fn is_text(bytes: &[u8], version: Version, names: usize, roles: usize) -> bool
+    ensures { result ≡ concept_ok (width version) names roles bytes.now }
 {
-    if LONGEST < bytes.len() {
+    let too_long = LONGEST < bytes.len();
+    if too_long {
         return false;
     }
-    let mut at: usize = 0;
+    let mut rest = bytes;
     let mut pending: usize = 1;
+    // a byte may add to what is pending: there is no range to go over
     while 0 < pending {
-        if bytes.len() <= at {
+        let [kind, after @ ..] = rest else {
             return false;
-        }
-        let kind = bytes[at];
-        let next = at + 1;
-        match kind {
+        };
+        match *kind {
             0 => {
-                at = next;
+                rest = after;
                 pending -= 1;
             }
             1 => {
-                if bytes.len() < next + width {
+                let Some((name, after)) = split_name(after, version) else {
+                    return false;
+                };
+                let is_name = usize::from(name) < names;
+                if !is_name {
                     return false;
                 }
-                if names <= wide(number_at(bytes, next, width)) {
-                    return false;
-                }
-                at = next + width;
+                rest = after;
                 pending -= 1;
             }
             2 => {
-                at = next;
+                rest = after;
                 pending += 1;
             }
             3 => {
-                if bytes.len() <= next {
+                let [role, after @ ..] = after else {
+                    return false;
+                };
+                let is_role = usize::from(*role) < roles;
+                if !is_role {
                     return false;
                 }
-                if roles <= wide(number_at(bytes, next, ROLE)) {
-                    return false;
+                rest = after;
+            }
+            _ => return false,
+        }
+    }
+    rest.is_empty()
+}
+
+impl Outline {
+    // The atoms that are written.
+    pub fn atoms(&self) -> &[Atom]
+        requires { self.now.extent.atoms ≤ length self.now.atoms }
+        ensures { result.now ≡ take self.now.extent.atoms self.now.atoms }
+    {
+        &self.atoms[..self.extent.atoms]
+    }
+
+    // The outline of an accepted concept, in one pass over its bytes. A byte 2 makes two concepts of one, so there is a stack of those
+    // still to be read, an array since there is no heap: `owners` has the root of each, the next one last.
+    pub fn of(bytes: &[u8], version: Version) -> Outline
+        requires { Outlinable (width version) bytes.now }
+        ensures { (n m : ℕ) (c : Concept) → IsTextOf (width version) n m c bytes.now → Outlined n c result.atoms result.extent }
+    {
+        let mut atoms = [Atom::BLANK; ATOMS];
+        let mut owners = [0u16; LONGEST + 1];
+        let mut rest = bytes;
+        let mut pending: usize = 1;
+        let mut roots: u16 = 1;
+        let mut count: usize = 0;
+        // as in `is_text`
+        while 0 < pending {
+            let top = pending - 1;
+            let owner = owners[top];
+            let (kind, after) = rest.split_first().unwrap();
+            match *kind {
+                0 => {
+                    rest = after;
+                    pending = top;
                 }
-                at = next + 1;
-            }
-            _ => {
-                return false;
-            }
-        }
-    }
-    at == bytes.len()
-}
-
-// The name or the role of an atom.
-pub fn value(atoms: &[u16], i: usize) -> usize
-    requires { HasAtom atoms.now i }
-    ensures { result ≡ value_at atoms.now i }
-{
-    wide(atoms[ATOM * i])
-}
-
-// The root that an atom is a conjunct of.
-pub fn owner(atoms: &[u16], i: usize) -> usize
-    requires { HasAtom atoms.now i }
-    ensures { result ≡ owner_at atoms.now i }
-{
-    wide(atoms[ATOM * i + 1])
-}
-
-// The root that is the filler of an ∃; 0 for a name.
-pub fn child(atoms: &[u16], i: usize) -> usize
-    requires { HasAtom atoms.now i }
-    ensures { result ≡ child_at atoms.now i }
-{
-    wide(atoms[ATOM * i + 2])
-}
-
-fn put(atoms: &mut [u16], i: usize, value: u16, owner: u16, child: u16)
-    requires { HasAtom atoms.old i }
-    ensures { atoms.new ≡ put_atom atoms.old i value owner child }
-{
-    let at = ATOM * i;
-    atoms[at] = value;
-    atoms[at + 1] = owner;
-    atoms[at + 2] = child;
-}
-
-// Writes the atoms of an accepted concept, in one pass over its bytes. A byte 2 makes two concepts of one, so there is a stack of those
-// still to be read: `owners` has the root of each, the next one last.
-pub fn outline(bytes: &[u8], width: usize, owners: &mut [u16], atoms: &mut [u16]) -> Extent
-    requires { Outlinable width bytes.now owners.old atoms.old }
-    ensures { (n m : ℕ) (c : Concept) → IsTextOf width n m c bytes.now → Outlined n c atoms.new result }
-{
-    let mut at: usize = 0;
-    let mut pending: usize = 1;
-    let mut roots: u16 = 1;
-    let mut count: usize = 0;
-    owners[0] = 0;
-    while 0 < pending {
-        let top = pending - 1;
-        let owner = owners[top];
-        let kind = bytes[at];
-        match kind {
-            0 => {
-                at += 1;
-                pending = top;
-            }
-            1 => {
-                let name = number_at(bytes, at + 1, width);
-                put(atoms, count, name, owner, 0);
-                at += 1 + width;
-                count += 1;
-                pending = top;
-            }
-            2 => {
-                owners[pending] = owner;
-                at += 1;
-                pending += 1;
-            }
-            _ => {
-                let role = number_at(bytes, at + 1, ROLE);
-                put(atoms, count, role, owner, roots);
-                owners[top] = roots;
-                at += 2;
-                count += 1;
-                roots += 1;
+                1 => {
+                    let (name, after) = split_name(after, version).unwrap();
+                    atoms[count] = Atom::name(name, owner);
+                    rest = after;
+                    count += 1;
+                    pending = top;
+                }
+                2 => {
+                    owners[pending] = owner;
+                    rest = after;
+                    pending += 1;
+                }
+                _ => {
+                    let (role, after) = after.split_first().unwrap();
+                    atoms[count] = Atom::restriction(u16::from(*role), owner, roots);
+                    owners[top] = roots;
+                    rest = after;
+                    count += 1;
+                    roots += 1;
+                }
             }
         }
-    }
-    Extent {
-        atoms: count,
-        roots: wide(roots),
+        Outline {
+            atoms,
+            extent: Extent {
+                atoms: count,
+                roots: usize::from(roots),
+            },
+        }
     }
 }

@@ -1,51 +1,54 @@
 -- What lies above the roots of an outline, by the names that are set in their rows: the names that are not defined by a conjunction.
 --   PartsSet s t a k y             all conjuncts of y are set in row k of the grid a
 --   RootBelow n s t a k y          root k lies below the node y: ⊤; all its conjuncts are set; or it is
---   AtomBelow s t q w o a i y      atom i of the outline o lies below the name y, which is not defined by a conjunction
---   Risen .. i a b                 the row of atom i's owner gained the names that lie above the atom
-use Rattle.std.specs.Prelude.{◌≡◌, List, ℕ, ◌*◌, ◌+◌, ◌≤◌, ◌<◌, length}
+--   AtomBelow s t q w b a y        the atom b lies below the name y, which is not defined by a conjunction
+--   Risen s t q w b a c            the row of b's owner gained the names that lie above b: the grid a became c
+use Rattle.std.specs.Prelude.{◌≡◌, List, ℕ, ◌<◌}
 use Rattle.release.specs.Tables.{kind_at, role_at, filler_at, count_at, part_at, Shaped}
+use Rattle.release.specs.declared.table.Row as table
 use Rattle.marks.specs.declared.Square.{Square}
 use Rattle.marks.specs.Squares.{Room, Marked}
-use Rattle.outline.specs.Atoms.{value_at, owner_at, child_at}
-use Rattle.points.specs.Grids.{most_roots, most_nodes, Grid, Set, Adds}
+use Rattle.outline.specs.declared.Atom.{Atom}
+use Rattle.points.specs.declared.Grid.{Grid}
+use Rattle.points.specs.Grids.{most_roots, most_nodes, Set, Adds}
 
-pub record Ranges (n : ℕ) (s t : List ℕ) : Type 0 where
+pub record Ranges (n : ℕ) (s : List ℕ) (t : List table.Row) : Type 0 where
   pub shaped : Shaped n s t
   pub few : n < most_nodes
 
-pub record PartsSet (s t a : List ℕ) (k y : ℕ) : Type 0 where
+pub record PartsSet (s : List ℕ) (t : List table.Row) (a : Grid) (k y : ℕ) : Type 0 where
   pub each : (i : ℕ) → i < count_at s t y → Set a k (part_at s t y i)
 
-pub data RootBelow (n : ℕ) (s t a : List ℕ) (k y : ℕ) : Type 0 where
+pub data RootBelow (n : ℕ) (s : List ℕ) (t : List table.Row) (a : Grid) (k y : ℕ) : Type 0 where
   top_above : y ≡ n → RootBelow n s t a k y
   parts_above : y < n → kind_at t y ≡ 2 → PartsSet s t a k y → RootBelow n s t a k y
   name_above : y < n → (kind_at t y ≡ 2 → ⊥) → Set a k y → RootBelow n s t a k y
 
-pub data AtomBelow (s t : List ℕ) (q : Square) (w o a : List ℕ) (i y : ℕ) : Type 0 where
-  name_below : (kind_at t y ≡ 2 → ⊥) → child_at o i ≡ 0 → Marked q w (value_at o i) y → AtomBelow s t q w o a i y
-  some_below : kind_at t y ≡ 4 → 0 < child_at o i → role_at t y ≡ value_at o i → RootBelow q.names s t a (child_at o i) (filler_at t y) → AtomBelow s t q w o a i y
+pub data AtomBelow (s : List ℕ) (t : List table.Row) (q : Square) (w : List ℕ) (b : Atom) (a : Grid) (y : ℕ) : Type 0 where
+  name_below : (kind_at t y ≡ 2 → ⊥) → b.child ≡ 0 → Marked q w b.value y → AtomBelow s t q w b a y
+  some_below : kind_at t y ≡ 4 → 0 < b.child → role_at t y ≡ b.value → RootBelow q.names s t a b.child (filler_at t y) → AtomBelow s t q w b a y
 
-pub record InRow (n : ℕ) (s t a : List ℕ) (k y : ℕ) : Type 0 where
+pub record InRow (n : ℕ) (s : List ℕ) (t : List table.Row) (k y : ℕ) : Type 0 where
   pub ranges : Ranges n s t
-  pub rows : Grid a
   pub row : k < most_roots
   pub name : y < n
   pub kind : kind_at t y ≡ 2
 
+-- the child of an atom is a root, and a name's value a name; and its owner is a root before the child
+pub record ValueInRange (n : ℕ) (b : Atom) : Type 0 where
+  pub child : b.child < most_roots
+  pub named : b.child ≡ 0 → b.value < n
+
+pub record InRange (n : ℕ) (b : Atom) : Type 0 where
+  pub value : ValueInRange n b
+  pub owner : b.owner < most_roots
+  pub later : 0 < b.child → b.owner < b.child
+
 -- what the functions of an atom ask
-pub record Setting (s t : List ℕ) (q : Square) (w : List ℕ) : Type 0 where
+pub record OfAtom (s : List ℕ) (t : List table.Row) (q : Square) (w : List ℕ) (b : Atom) : Type 0 where
   pub ranges : Ranges q.names s t
   pub room : Room q w
+  pub atom : InRange q.names b
 
-pub record OfAtom (s t : List ℕ) (q : Square) (w o a : List ℕ) (i : ℕ) : Type 0 where
-  pub setting : Setting s t q w
-  pub rows : Grid a
-  pub inside : 3 * i + 3 ≤ length o
-  pub owner : owner_at o i < most_roots
-  pub child : child_at o i < most_roots
-  pub named : child_at o i ≡ 0 → value_at o i < q.names
-  pub later : 0 < child_at o i → owner_at o i < child_at o i
-
-pub record Risen (s t : List ℕ) (q : Square) (w o : List ℕ) (i : ℕ) (a b : List ℕ) : Type 0 where
-  pub adds : Adds (owner_at o i) q.names (AtomBelow s t q w o a i) (λ y. AtomBelow s t q w o a i y → ⊥) a b
+pub record Risen (s : List ℕ) (t : List table.Row) (q : Square) (w : List ℕ) (b : Atom) (a c : Grid) : Type 0 where
+  pub adds : Adds b.owner q.names (AtomBelow s t q w b a) (λ y. AtomBelow s t q w b a y → ⊥) a c

@@ -2,35 +2,71 @@
 // of another concept C.
 #![tactic(auto)]
 
-ghost use Rattle.std.specs.Prelude.{◌+◌, ◌<◌};
+ghost use Rattle.std.specs.Prelude.{◌<◌};
 ghost use Rattle.el.proofs.Tests.{Tells};
 ghost use Rattle.marks.specs.Lines.{Added};
-ghost use Rattle.points.specs.Grids.{most_roots, most_nodes, cell, Grid, Set};
+ghost use Rattle.points.specs.Grids.{most_roots, most_nodes, cell, Set};
 
-use marks::line;
+use marks::{Square, line};
+use outline::Outline;
+use release::terminology::Terminology;
 
 pub mod above;
 pub mod nodes;
 pub mod roots;
 
-// The places of a row of a grid: as many as there can be nodes. It has 128 rows, as many as a concept can have roots.
+// The places of a row of a grid: as many as there can be nodes.
 const NODES: usize = 1024;
 
-// The bytes of a grid: a bit a place.
-pub const AREA: usize = 16384;
+// The bytes of a grid of 128 rows: a bit a place.
+const AREA: usize = 16384;
 
-pub fn is_set(rows: &[u8], k: usize, y: usize) -> bool
-    requires grid { Grid rows.now }
-    requires k_lt_most_roots { (k < most_roots) × (y < most_nodes) }
-    ensures { Tells result (Set rows.now k y) }
-{
-    line::has(rows, NODES * k + y)
+// A row of marks for each root that a concept can have: its places are the nodes, or the roots of another concept. An
+// array, since there is no heap.
+#[derive(Clone, Copy)]
+pub struct Grid {
+    rows: [u8; AREA],
 }
 
-fn set(rows: &mut [u8], k: usize, y: usize)
-    requires grid { Grid rows.old }
-    requires k_lt_most_roots { (k < most_roots) × (y < most_nodes) }
-    ensures { Added (cell k y) rows.old rows.new }
-{
-    line::add(rows, NODES * k + y);
+impl Grid {
+    pub const BLANK: Grid = Grid { rows: [0; AREA] };
+
+    pub fn has(&self, k: usize, y: usize) -> bool
+        requires { (k < most_roots) × (y < most_nodes) }
+        ensures { Tells result (Set self.now k y) }
+    {
+        line::has(&self.rows, NODES * k + y)
+    }
+
+    fn add(&mut self, k: usize, y: usize)
+        requires { (k < most_roots) × (y < most_nodes) }
+        ensures { Added (cell k y) self.old.rows self.new.rows }
+    {
+        line::add(&mut self.rows, NODES * k + y);
+    }
+}
+
+// An accepted release, and the square of the inclusions between its nodes.
+#[derive(Clone, Copy)]
+pub struct Classified<'a> {
+    pub terminology: Terminology<'a>,
+    pub work: &'a [u8],
+    pub square: Square,
+}
+
+// A concept C of which is asked whether it lies below another: its outline, and the rows of the names above its roots.
+#[derive(Clone, Copy)]
+pub struct Subsumee<'a> {
+    pub outline: &'a Outline,
+    pub above: &'a Grid,
+}
+
+// An ∃ of D, a role over a root: the grid of which the root's row has lost the nodes that do not lie below it, and a line of names by which no
+// node lies below the ∃.
+#[derive(Clone, Copy)]
+pub struct Restriction<'a> {
+    pub role: usize,
+    pub root: usize,
+    pub lost: &'a Grid,
+    pub idle: &'a [u8],
 }

@@ -16,14 +16,16 @@ use Rattle.el.proofs.Derivations.{◌▹◌, Fills, to_part, from_parts, from_fi
 use Rattle.el.proofs.PlainNodes.{FilledBy, top_below_plain, both_below_plain, some_below_plain}
 use Rattle.release.specs.Files.{axioms_of}
 use Rattle.release.specs.Tables.{kind_at, role_at, filler_at, part_at}
+use Rattle.release.specs.declared.table.Row as table
 use Rattle.marks.specs.declared.Square.{Square}
-use Rattle.marks.specs.Lines.{Empty}
 use Rattle.classification.proofs.Nodes.{at_top, at_name}
 use Rattle.classification.proofs.AxiomRows as rows
+use Rattle.outline.specs.declared.Atom.{Atom}
 use Rattle.outline.specs.declared.Extent.{Extent}
-use Rattle.outline.specs.Atoms.{value_at, owner_at, child_at, Atom, atoms_from, atom_concept, root_of, Shape}
+use Rattle.outline.specs.Atoms.{value_at, owner_at, child_at, atom_at, atoms_from, atom_concept, root_of, Shape}
 use Rattle.outline.proofs.Atoms.{root_own, root_other, root_none}
-use Rattle.points.specs.Grids.{most_roots}
+use Rattle.points.specs.declared.Grid.{Grid}
+use Rattle.points.specs.Grids.{most_roots, Blank}
 use Rattle.points.specs.Above.{RootBelow, top_above, parts_above, name_above, AtomBelow, name_below, some_below, Risen}
 use Rattle.points.proofs.Grids.{adds_row}
 use Rattle.points.proofs.Raising.{kind_2_joins, kind_4_restricts}
@@ -34,14 +36,14 @@ pub some_atom : {r : ℕ} {d : Concept} (k : ℕ) → 0 < k → atom_concept k r
 some_atom zero h = absurd (omega arith)
 some_atom (suc k) h = refl
 
-module _ {s t : List ℕ} {q : Square} {w : List ℕ} (world : World s t q w) where
+module _ {s : List ℕ} {t : List table.Row} {q : Square} {w : List ℕ} (world : World s t q w) where
   abbrev al : List Axiom
   al = axioms_of s
 
   abbrev n : ℕ
   n = q.names
 
-  module _ {a : List ℕ} {k : ℕ} {c : Concept} (row : RowAbove s t a n k c) where
+  module _ {a : Grid} {k : ℕ} {c : Concept} (row : RowAbove s t a n k c) where
     pub root_below_sound : {y : ℕ} → RootBelow n s t a k y → Derives (axioms_of s) c (node_point n y)
     root_below_sound {y} (top_above e) = rw (at_top n y e) to_top
     root_below_sound {y} (parts_above h e parts) =
@@ -72,40 +74,40 @@ module _ {s t : List ℕ} {q : Square} {w : List ℕ} (world : World s t q w) wh
             name_above h d (row.complete y h d (rw (at_name n y h) at p))
 
   -- an atom, its child's row known
-  module _ {a o : List ℕ} {i : ℕ} {c : Concept} (row : RowAbove s t a n (child_at o i) c) (named_in : child_at o i ≡ 0 → value_at o i < n) {y : ℕ} (h : y < n) where
-    pub atom_below_sound : AtomBelow s t q w o a i y → Derives (axioms_of s) (atom_concept (child_at o i) (value_at o i) c) (name y)
+  module _ {a : Grid} {b : Atom} {c : Concept} (row : RowAbove s t a n b.child c) (named_in : b.child ≡ 0 → b.value < n) {y : ℕ} (h : y < n) where
+    pub atom_below_sound : AtomBelow s t q w b a y → Derives (axioms_of s) (atom_concept b.child b.value c) (name y)
     atom_below_sound (name_below z k m) =
         let small = named_in k in
-        rw k (rw (at_name n (value_at o i) small) at (marked_below world (value_at o i) y (omega arith) h m))
+        rw k (rw (at_name n b.value small) at (marked_below world b.value y (omega arith) h m))
     atom_below_sound (some_below e k r m) =
         let f = axiom_at_lem world y h (λ z. omega arith) in
         let d = rows.defined_restriction f e in
-        let fills : Fills (value_at o i) f.it = record { is_defined = d.1; is_restriction = d.0; role = sym r ∙ rows.role_is f d.0 } in
-        rw (some_atom {r = value_at o i} {d = c} (child_at o i) k, ← f.left) (from_filler f.member fills (rw (filler_node_lem world f d.0) at (root_below_sound row m)))
+        let fills : Fills b.value f.it = record { is_defined = d.1; is_restriction = d.0; role = sym r ∙ rows.role_is f d.0 } in
+        rw (some_atom {r = b.value} {d = c} b.child k, ← f.left) (from_filler f.member fills (rw (filler_node_lem world f d.0) at (root_below_sound row m)))
 
-    filled_atom : (kind_at t y ≡ 2 → ⊥) → 0 < child_at o i → {b : Axiom} → In (axioms_of s) b → FilledBy (axioms_of s) (value_at o i) c (named y) b → AtomBelow s t q w o a i y
-    filled_atom z k {b} b_in (e, (fills, p)) =
-        let left : b.left ≡ y = cc in
-        let f : rows.Found s t n b.left = row_of world b_in in
-        let kind : kind_at t b.left ≡ 4 = rows.is_4 f fills.is_restriction fills.is_defined in
-        let role : role_at t b.left ≡ value_at o i = rows.role_is f fills.is_restriction ∙ sym fills.role in
-        let filler : RootBelow n s t a (child_at o i) (filler_at t b.left) = root_below_complete row (filler_at t b.left)
-        (filler_small world b.left (rw left h) (kind_4_restricts kind)) (rw (filler_node_lem world f fills.is_restriction) p) in
+    filled_atom : (kind_at t y ≡ 2 → ⊥) → 0 < b.child → {x : Axiom} → In (axioms_of s) x → FilledBy (axioms_of s) b.value c (named y) x → AtomBelow s t q w b a y
+    filled_atom z k {x} x_in (e, (fills, p)) =
+        let left : x.left ≡ y = cc in
+        let f : rows.Found s t n x.left = row_of world x_in in
+        let kind : kind_at t x.left ≡ 4 = rows.is_4 f fills.is_restriction fills.is_defined in
+        let role : role_at t x.left ≡ b.value = rows.role_is f fills.is_restriction ∙ sym fills.role in
+        let filler : RootBelow n s t a b.child (filler_at t x.left) = root_below_complete row (filler_at t x.left)
+        (filler_small world x.left (rw left h) (kind_4_restricts kind)) (rw (filler_node_lem world f fills.is_restriction) p) in
         some_below (rw left at kind) k (rw left at role) (rw left at filler)
 
-    pub atom_below_complete : (kind_at t y ≡ 2 → ⊥) → Derives (axioms_of s) (atom_concept (child_at o i) (value_at o i) c) (name y) → AtomBelow s t q w o a i y
-    atom_below_complete z p = by_child (ℕ_discrete (child_at o i) 0)
+    pub atom_below_complete : (kind_at t y ≡ 2 → ⊥) → Derives (axioms_of s) (atom_concept b.child b.value c) (name y) → AtomBelow s t q w b a y
+    atom_below_complete z p = by_child (ℕ_discrete b.child 0)
       where
-        by_child : Dec (child_at o i ≡ 0) → AtomBelow s t q w o a i y
+        by_child : Dec (b.child ≡ 0) → AtomBelow s t q w b a y
         by_child (yes k) =
             let small = named_in k in
-            name_below z k (below_marked world (value_at o i) y (omega arith) h (rw (at_name n (value_at o i) small) (rw k at p)))
+            name_below z k (below_marked world b.value y (omega arith) h (rw (at_name n b.value small) (rw k at p)))
         by_child (no k) =
-            let found = (some_below_plain (terminology world) (not_defined world y z)).0 (rw (some_atom {r = value_at o i} {d = c} (child_at o i) (omega arith)) at p) in
+            let found = (some_below_plain (terminology world) (not_defined world y z)).0 (rw (some_atom {r = b.value} {d = c} b.child (omega arith)) at p) in
             filled_atom z (omega arith) found.member found.holds
 
   -- before any atom; after one more
-  pub above_none : (a o : List ℕ) (i : ℕ) → Empty a → Above s t a n (atoms_from o i 0)
+  pub above_none : (a : Grid) (o : List Atom) (i : ℕ) → Blank a → Above s t a n (atoms_from o i 0)
   above_none a o i empty = record {
     row = λ k h. rw (root_none o i k) record {
       sound = λ y l z m. absurd (empty.none _ m);
@@ -113,7 +115,8 @@ module _ {s t : List ℕ} {q : Square} {w : List ℕ} (world : World s t q w) wh
     };
   }
 
-  module _ {a b o : List ℕ} {r : Extent} (shape : Shape n o r) (i left : ℕ) (h : i < r.atoms) (above : Above s t a n (atoms_from o (suc i) left)) (risen : Risen s t q w o i a b) where
+  module _ {a b : Grid} {o : List Atom} {r : Extent} (shape : Shape n o r) (i left : ℕ) (h : i < r.atoms) (above : Above s t a n (atoms_from o (suc i) left))
+      (risen : Risen s t q w (atom_at o i) a b) where
     abbrev rest : List Atom
     rest = atoms_from o (suc i) left
 

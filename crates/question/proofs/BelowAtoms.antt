@@ -15,14 +15,16 @@ use Rattle.el.proofs.Derivations.{◌▹◌, Restricts, to_filler}
 use Rattle.el.proofs.CanonicalModel.{Within, Edge, written, implied, inversion}
 use Rattle.release.specs.Files.{axioms_of, restricts}
 use Rattle.release.specs.Tables.{filler_at}
+use Rattle.release.specs.declared.table.Row as table
 use Rattle.marks.specs.declared.Square.{Square}
-use Rattle.marks.specs.Lines.{Empty}
 use Rattle.classification.specs.Inclusions.{node_at}
 use Rattle.classification.proofs.AxiomRows as rows
+use Rattle.outline.specs.declared.Atom.{Atom}
 use Rattle.outline.specs.declared.Extent.{Extent}
-use Rattle.outline.specs.Atoms.{value_at, owner_at, child_at, Atom, atoms_from, atom_concept, root_of, Shape}
+use Rattle.outline.specs.Atoms.{value_at, owner_at, child_at, atoms_from, atom_concept, root_of, Shape}
 use Rattle.outline.proofs.Atoms.{root_own, root_other, root_none}
-use Rattle.points.specs.Grids.{most_roots, most_nodes, Adds}
+use Rattle.points.specs.declared.Grid.{Grid}
+use Rattle.points.specs.Grids.{most_roots, most_nodes, Adds, Blank}
 use Rattle.points.specs.Nodes.{NodeReaches, NodeBelow, below_name, below_some}
 use Rattle.points.proofs.Grids.{adds_row}
 use Rattle.question.specs.Evaluation.{World, KeptRow, Kept, node_point}
@@ -30,11 +32,11 @@ use Rattle.question.proofs.Worlds.{row_of, marked_below, below_marked, filler_no
 use Rattle.question.proofs.AboveRoots.{some_atom}
 
 -- for any points
-pub kept_none : {al : List Axiom} {point : ℕ → Concept} {e : ℕ} (l o : List ℕ) (i : ℕ) → Empty l → Kept al point e l (atoms_from o i 0)
+pub kept_none : {al : List Axiom} {point : ℕ → Concept} {e : ℕ} (l : Grid) (o : List Atom) (i : ℕ) → Blank l → Kept al point e l (atoms_from o i 0)
 kept_none l o i empty = record { row = λ j h. rw (root_none o i j) record { lost = λ x m k p. empty.none _ k; kept = λ x m k. to_top } }
 
 module _ {al : List Axiom} {point : ℕ → Concept} {e : ℕ} (few : e ≤ most_nodes) where
-  module _ {l v o : List ℕ} {n : ℕ} {r : Extent} (shape : Shape n o r) (i left : ℕ) (h : i < r.atoms) {Below : ℕ → Type 0}
+  module _ {l v : Grid} {o : List Atom} {n : ℕ} {r : Extent} (shape : Shape n o r) (i left : ℕ) (h : i < r.atoms) {Below : ℕ → Type 0}
       (sound : (x : ℕ) → x < e → Below x → Derives al (point x) (atom_concept (child_at o i) (value_at o i) (root_of (atoms_from o (suc i) left) (child_at o i))))
       (complete : (x : ℕ) → x < e → Derives al (point x) (atom_concept (child_at o i) (value_at o i) (root_of (atoms_from o (suc i) left) (child_at o i))) → Below x)
       (kept : Kept al point e l (atoms_from o (suc i) left)) (adds : Adds (owner_at o i) e (λ x. Below x → ⊥) Below l v) where
@@ -75,14 +77,14 @@ no_some_within everything w = elim w [ ]
 no_some_within (named y) w = elim w [ ]
 
 -- nodes
-module _ {s t : List ℕ} {q : Square} {w : List ℕ} (world : World s t q w) where
+module _ {s : List ℕ} {t : List table.Row} {q : Square} {w : List ℕ} (world : World s t q w) where
   abbrev al : List Axiom
   al = axioms_of s
 
   abbrev n : ℕ
   n = q.names
 
-  module _ {l : List ℕ} {j : ℕ} {d : Concept} (row : KeptRow (axioms_of s) (node_point n) (suc n) l j d) where
+  module _ {l : Grid} {j : ℕ} {d : Concept} (row : KeptRow (axioms_of s) (node_point n) (suc n) l j d) where
     pub reach_sound : (x r : ℕ) → x ≤ n → NodeReaches t q w l x r j → Derives (axioms_of s) (node_point n x) (some r d)
     reach_sound x r h reaches =
         let leads = reaches.leads in
@@ -115,16 +117,16 @@ module _ {s t : List ℕ} {q : Square} {w : List ℕ} (world : World s t q w) wh
               };
             }
 
-    module _ {o : List ℕ} {i : ℕ} (is_child : j ≡ child_at o i) (named_in : child_at o i ≡ 0 → value_at o i < n) (x : ℕ) (h : x ≤ n) where
-      pub node_below_sound : NodeBelow t q w o l i x → Derives (axioms_of s) (node_point n x) (atom_concept (child_at o i) (value_at o i) d)
-      node_below_sound (below_name k m) = rw k (marked_below world x (value_at o i) h (named_in k) m)
-      node_below_sound (below_some k m) = rw (some_atom {r = value_at o i} {d = d} (child_at o i) k) (reach_sound x (value_at o i) h (rw is_child m))
+    module _ {b : Atom} (is_child : j ≡ b.child) (named_in : b.child ≡ 0 → b.value < n) (x : ℕ) (h : x ≤ n) where
+      pub node_below_sound : NodeBelow t q w b l x → Derives (axioms_of s) (node_point n x) (atom_concept b.child b.value d)
+      node_below_sound (below_name k m) = rw k (marked_below world x b.value h (named_in k) m)
+      node_below_sound (below_some k m) = rw (some_atom {r = b.value} {d = d} b.child k) (reach_sound x b.value h (rw is_child m))
 
-      pub node_below_complete : Derives (axioms_of s) (node_point n x) (atom_concept (child_at o i) (value_at o i) d) → NodeBelow t q w o l i x
-      node_below_complete p = by_child (ℕ_discrete (child_at o i) 0)
+      pub node_below_complete : Derives (axioms_of s) (node_point n x) (atom_concept b.child b.value d) → NodeBelow t q w b l x
+      node_below_complete p = by_child (ℕ_discrete b.child 0)
         where
-          by_child : Dec (child_at o i ≡ 0) → NodeBelow t q w o l i x
-          by_child (yes k) = below_name k (below_marked world x (value_at o i) h (named_in k) (rw k at p))
+          by_child : Dec (b.child ≡ 0) → NodeBelow t q w b l x
+          by_child (yes k) = below_name k (below_marked world x b.value h (named_in k) (rw k at p))
           by_child (no k) =
-              let z : 0 < child_at o i = omega arith in
-              below_some z (rw is_child at (reach_complete x (value_at o i) h (rw (some_atom {r = value_at o i} {d = d} (child_at o i) z) at p)))
+              let z : 0 < b.child = omega arith in
+              below_some z (rw is_child at (reach_complete x b.value h (rw (some_atom {r = b.value} {d = d} b.child z) at p)))

@@ -15,11 +15,14 @@ use Rattle.el.specs.Terminologies.{Terminology}
 use Rattle.el.proofs.Derivations.{◌▹◌}
 use Rattle.el.proofs.Terminologies.{top_below_some, both_below_some, some_below_some}
 use Rattle.release.specs.Files.{axioms_of}
+use Rattle.release.specs.declared.table.Row as table
 use Rattle.marks.specs.declared.Square.{Square}
 use Rattle.classification.proofs.Nodes.{at_name}
+use Rattle.outline.specs.declared.Atom.{Atom}
 use Rattle.outline.specs.declared.Extent.{Extent}
-use Rattle.outline.specs.Atoms.{value_at, owner_at, child_at, atoms_from, atom_concept, root_of, Shape}
+use Rattle.outline.specs.Atoms.{atom_at, value_at, owner_at, child_at, atoms_from, atom_concept, root_of, Shape}
 use Rattle.outline.proofs.Atoms.{root_own, root_other, root_none}
+use Rattle.points.specs.declared.Grid.{Grid}
 use Rattle.points.specs.Grids.{most_roots}
 use Rattle.points.specs.Roots.{AtomReaches, name_reaches, some_reaches, RootReaches, RootBelowAtom, root_below_name, root_below_some}
 use Rattle.question.specs.Evaluation.{World, Above, KeptRow, node_point, root_point}
@@ -28,11 +31,11 @@ use Rattle.question.proofs.AboveRoots.{some_atom, root_below_sound, root_below_c
 use Rattle.question.proofs.BelowAtoms.{reach_sound, reach_complete}
 
 -- the concept of atom i, of the atoms before `end`
-abbrev atom_of : List ℕ → ℕ → ℕ → Concept
+abbrev atom_of : List Atom → ℕ → ℕ → Concept
 atom_of o end i = atom_concept (child_at o i) (value_at o i) (root_of (atoms_from o (suc i) (end - suc i)) (child_at o i))
 
 -- atoms of other roots before do not matter
-root_skips : (o : List ℕ) (k j m left : ℕ) → ((i : ℕ) → i < j + m → owner_at o i ≡ k → ⊥) → root_of (atoms_from o j (m + left)) k ≡ root_of (atoms_from o (j + m) left) k
+root_skips : (o : List Atom) (k j m left : ℕ) → ((i : ℕ) → i < j + m → owner_at o i ≡ k → ⊥) → root_of (atoms_from o j (m + left)) k ≡ root_of (atoms_from o (j + m) left) k
 root_skips o k j zero left apart =
     let z : j + 0 ≡ j = omega arith in
     let y : 0 + left ≡ left = omega arith in
@@ -43,14 +46,14 @@ root_skips o k j (suc m) left apart =
     rw y (root_other o j (m + left) k (apart j (omega arith)) ∙ (root_skips o k (suc j) m left (λ i h. apart i (omega arith)) ∙ rw z))
 
 -- an atom of root k below ∃r.d, among those from j on
-record SomeAtom (al : List Axiom) (o : List ℕ) (j left k r : ℕ) (d : Concept) : Type 0 where
+record SomeAtom (al : List Axiom) (o : List Atom) (j left k r : ℕ) (d : Concept) : Type 0 where
   at : ℕ
   from : j ≤ at
   inside : at < j + left
   owner : owner_at o at ≡ k
   below : Derives al (atom_of o (j + left) at) (some r d)
 
-module _ {al : List Axiom} (o : List ℕ) where
+module _ {al : List Axiom} (o : List Atom) where
   root_longer : (j left k : ℕ) → Derives al (root_of (atoms_from o j (suc left)) k) (root_of (atoms_from o (suc j) left) k)
   root_longer j left k = by_owner (ℕ_discrete (owner_at o j) k)
     where
@@ -89,7 +92,7 @@ module _ {al : List Axiom} (o : List ℕ) where
       ]
       by_owner (no e) f = f (rw (root_other o j left k e) at p)
 
-module _ {n : ℕ} {o : List ℕ} {r : Extent} (shape : Shape n o r) where
+module _ {n : ℕ} {o : List Atom} {r : Extent} (shape : Shape n o r) where
   -- the filler of an ∃ is the whole root
   child_whole : (i : ℕ) → i < r.atoms → 0 < child_at o i → root_of (atoms_from o (suc i) (r.atoms - suc i)) (child_at o i) ≡ root_point o r (child_at o i)
   child_whole i h c =
@@ -110,7 +113,7 @@ module _ {n : ℕ} {o : List ℕ} {r : Extent} (shape : Shape n o r) where
       rw (z, atom_whole i h) at (own_atom {al = al} o 0 r.atoms i (omega arith) (omega arith))
 
 -- the rows of root j of D, which is d
-module _ {s t : List ℕ} {q : Square} {w : List ℕ} (world : World s t q w) {o : List ℕ} {r : Extent} (shape : Shape q.names o r) {ln l : List ℕ} {j : ℕ} {d : Concept}
+module _ {s : List ℕ} {t : List table.Row} {q : Square} {w : List ℕ} (world : World s t q w) {o : List Atom} {r : Extent} (shape : Shape q.names o r) {ln l : Grid} {j : ℕ} {d : Concept}
     (nodes : KeptRow (axioms_of s) (node_point q.names) (suc q.names) ln j d) (roots : KeptRow (axioms_of s) (root_point o r) r.roots l j d) where
   abbrev al : List Axiom
   al = axioms_of s
@@ -121,16 +124,16 @@ module _ {s t : List ℕ} {q : Square} {w : List ℕ} (world : World s t q w) {o
   abbrev whole : ℕ → Concept
   whole i = atom_concept (child_at o i) (value_at o i) (root_point o r (child_at o i))
 
-  atom_reaches_sound : {i role : ℕ} → i < r.atoms → AtomReaches t q w o ln l i role j → Derives (axioms_of s) (whole i) (some role d)
+  atom_reaches_sound : {i role : ℕ} → i < r.atoms → AtomReaches t q w (atom_at o i) ln l role j → Derives (axioms_of s) (whole i) (some role d)
   atom_reaches_sound {i} {role} h (name_reaches k m) =
       let small = shape.named i h k in
       rw k (rw (at_name n (value_at o i) small) at (reach_sound world nodes (value_at o i) role (omega arith) m))
   atom_reaches_sound {i} h (some_reaches k e m) = rw (some_atom {r = value_at o i} {d = root_point o r (child_at o i)} (child_at o i) k, e) (under (roots.kept (child_at o i) (shape.child i h) m))
 
-  atom_reaches_complete : (i role : ℕ) → i < r.atoms → Derives (axioms_of s) (whole i) (some role d) → AtomReaches t q w o ln l i role j
+  atom_reaches_complete : (i role : ℕ) → i < r.atoms → Derives (axioms_of s) (whole i) (some role d) → AtomReaches t q w (atom_at o i) ln l role j
   atom_reaches_complete i role h p = by_child (ℕ_discrete (child_at o i) 0)
     where
-      by_child : Dec (child_at o i ≡ 0) → AtomReaches t q w o ln l i role j
+      by_child : Dec (child_at o i ≡ 0) → AtomReaches t q w (atom_at o i) ln l role j
       by_child (yes k) =
           let small = shape.named i h k in
           name_reaches k (reach_complete world nodes (value_at o i) role (omega arith) (rw (at_name n (value_at o i) small) (rw k at p)))
@@ -149,21 +152,21 @@ module _ {s t : List ℕ} {q : Square} {w : List ℕ} (world : World s t q w) {o
       let inside : found.at < r.atoms = omega (arith, found.inside) in
       record { by = found.at; is_atom = inside; owner = found.owner; reaches = atom_reaches_complete found.at role inside (rw (z, atom_whole shape found.at inside) at found.below) }
 
-  module _ {a p : List ℕ} {i : ℕ} (above : Above s t a q.names (atoms_from o 0 r.atoms)) (is_child : j ≡ child_at p i) (named_in : child_at p i ≡ 0 → value_at p i < q.names)
+  module _ {a : Grid} {b : Atom} (above : Above s t a q.names (atoms_from o 0 r.atoms)) (is_child : j ≡ b.child) (named_in : b.child ≡ 0 → b.value < q.names)
       (k : ℕ) (few : k < most_roots) where
-    pub root_under_sound : RootBelowAtom s t q w o r.atoms a p ln l i k → Derives (axioms_of s) (root_point o r k) (atom_concept (child_at p i) (value_at p i) d)
+    pub root_under_sound : RootBelowAtom s t q w o r.atoms a b ln l k → Derives (axioms_of s) (root_point o r k) (atom_concept b.child b.value d)
     root_under_sound (root_below_name c m) =
         let small = named_in c in
-        rw c (rw (at_name n (value_at p i) small) at (root_below_sound world (above.row k few) m))
-    root_under_sound (root_below_some c m) = rw (some_atom {r = value_at p i} {d = d} (child_at p i) c) (root_reaches_sound (rw is_child m))
+        rw c (rw (at_name n b.value small) at (root_below_sound world (above.row k few) m))
+    root_under_sound (root_below_some c m) = rw (some_atom {r = b.value} {d = d} b.child c) (root_reaches_sound (rw is_child m))
 
-    pub root_under_complete : Derives (axioms_of s) (root_point o r k) (atom_concept (child_at p i) (value_at p i) d) → RootBelowAtom s t q w o r.atoms a p ln l i k
-    root_under_complete below = by_child (ℕ_discrete (child_at p i) 0)
+    pub root_under_complete : Derives (axioms_of s) (root_point o r k) (atom_concept b.child b.value d) → RootBelowAtom s t q w o r.atoms a b ln l k
+    root_under_complete below = by_child (ℕ_discrete b.child 0)
       where
-        by_child : Dec (child_at p i ≡ 0) → RootBelowAtom s t q w o r.atoms a p ln l i k
+        by_child : Dec (b.child ≡ 0) → RootBelowAtom s t q w o r.atoms a b ln l k
         by_child (yes c) =
             let small = named_in c in
-            root_below_name c (root_below_complete world (above.row k few) (value_at p i) (omega arith) (rw (at_name n (value_at p i) small) (rw c at below)))
+            root_below_name c (root_below_complete world (above.row k few) b.value (omega arith) (rw (at_name n b.value small) (rw c at below)))
         by_child (no c) =
-            let z : 0 < child_at p i = omega arith in
-            root_below_some z (rw is_child at (root_reaches_complete k (value_at p i) (rw (some_atom {r = value_at p i} {d = d} (child_at p i) z) at below)))
+            let z : 0 < b.child = omega arith in
+            root_below_some z (rw is_child at (root_reaches_complete k b.value (rw (some_atom {r = b.value} {d = d} b.child z) at below)))

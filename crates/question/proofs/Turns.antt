@@ -5,14 +5,16 @@ use mathlib.Core.Path.{◌≡◌, refl}
 use mathlib.Core.List.{List}
 use Prim.Native.Nat.{ℕ, suc, ◌-◌, ◌≤◌, ◌<◌}
 use native.Mathlib.Omega.{arith}
-use lib.ListN.{length}
 use Rattle.release.specs.Files.{axioms_of}
+use Rattle.release.specs.declared.table.Row as table
 use Rattle.marks.specs.declared.Square.{Square}
 use Rattle.classification.proofs.AxiomRows as rows
+use Rattle.outline.specs.declared.Atom.{Atom}
 use Rattle.outline.specs.declared.Extent.{Extent}
-use Rattle.outline.specs.Atoms.{child_at, atoms_from, Shape}
-use Rattle.points.specs.Grids.{most_roots, Grid}
-use Rattle.points.specs.Above.{Ranges, Risen}
+use Rattle.outline.specs.Atoms.{atom_at, child_at, atoms_from, Shape}
+use Rattle.points.specs.declared.Grid.{Grid}
+use Rattle.points.specs.Grids.{most_roots}
+use Rattle.points.specs.Above.{Ranges, InRange, Risen}
 use Rattle.points.specs.Above as above
 use Rattle.points.specs.Nodes.{Inclusive, NodesLost}
 use Rattle.points.specs.Nodes as nodes
@@ -23,91 +25,70 @@ use Rattle.question.proofs.AboveRoots.{above_none, above_more}
 use Rattle.question.proofs.BelowAtoms.{kept_none, kept_more, node_below_sound, node_below_complete}
 use Rattle.question.proofs.BelowRoots.{root_under_sound, root_under_complete}
 
-module _ {s t : List ℕ} {q : Square} {w : List ℕ} (world : World s t q w) where
+module _ {s : List ℕ} {t : List table.Row} {q : Square} {w : List ℕ} (world : World s t q w) where
   ranges : Ranges q.names s t
   ranges = record { shaped = rows.ranges world.release world.names; few = world.few }
 
   inclusive : Inclusive t q w
   inclusive = record { rows = ranges.shaped.rows; fillers = ranges.shaped.filler; few = world.few; room = world.room }
 
-  module _ {o : List ℕ} {r : Extent} (shape : Shape q.names o r) {i : ℕ} (h : i < r.atoms) where
-    pub fill_atom : {a : List ℕ} → Grid a → above.OfAtom s t q w o a i
-    fill_atom g = record {
-      setting = record { ranges = ranges; room = world.room };
-      rows = g;
-      inside = omega (arith, shape.room);
+  module _ {o : List Atom} {r : Extent} (shape : Shape q.names o r) {i : ℕ} (h : i < r.atoms) where
+    in_range : InRange q.names (atom_at o i)
+    in_range = record {
+      value = record { child = omega (arith, shape.child i h, shape.few); named = shape.named i h };
       owner = omega (arith, shape.owner i h, shape.few);
-      child = omega (arith, shape.child i h, shape.few);
-      named = shape.named i h;
       later = λ c. shape.later i i h (omega arith) c;
     }
 
-    pub node_atom : {l : List ℕ} → Grid l → nodes.OfAtom t q w o l i
-    node_atom g = record {
-      inclusive = inclusive;
-      grid = g;
-      inside = omega (arith, shape.room);
-      owner = omega (arith, shape.owner i h, shape.few);
-      child = omega (arith, shape.child i h, shape.few);
-      named = shape.named i h;
-      later = λ c. shape.later i i h (omega arith) c;
-    }
+    pub fill_atom : above.OfAtom s t q w (atom_at o i)
+    fill_atom = record { ranges = ranges; room = world.room; atom = in_range }
 
-    pub root_atom : {c : List ℕ} {e : Extent} {a ln l : List ℕ} → Shape q.names c e → Grid a → Grid ln → Grid l → roots.OfAtom s t q w c e a o ln l i
-    root_atom from ga gn gl = record {
+    pub node_atom : nodes.OfAtom t q w (atom_at o i)
+    node_atom = record { inclusive = inclusive; atom = in_range }
+
+    pub root_atom : {c : List Atom} {e : Extent} → Shape q.names c e → roots.OfAtom s t q w c e (atom_at o i)
+    root_atom from = record {
       ranges = ranges;
       inclusive = inclusive;
-      above = ga;
-      nodes = gn;
-      roots = gl;
-      few = from.few;
-      from_inside = from.room;
-      from_child = λ j m. omega (arith, from.child j m, from.few);
-      from_named = from.named;
-      inside = omega (arith, shape.room);
-      owner = omega (arith, shape.owner i h, shape.few);
-      child = omega (arith, shape.child i h, shape.few);
-      named = shape.named i h;
-      later = λ c. shape.later i i h (omega arith) c;
+      from = record { inside = from.room; few = from.few; each = λ j m. record { child = omega (arith, from.child j m, from.few); named = from.named j m } };
+      atom = in_range;
     }
 
-pub same_grid : {a b : List ℕ} → length b ≡ length a → Grid a → Grid b
-same_grid e g = record { room = omega (arith, g.room) }
-
 -- the rows above
-pub fill_start : {s t : List ℕ} {q : Square} {w o : List ℕ} {r : Extent} {a : List ℕ} → ToFill s t q w o r a → Above s t a q.names (atoms_from o r.atoms (r.atoms - r.atoms))
-fill_start {o = o} {r = r} {a = a} given = let z : r.atoms - r.atoms ≡ 0 = omega arith in rw z (above_none given.world a o r.atoms given.empty)
+pub fill_start : {s : List ℕ} {t : List table.Row} {q : Square} {w : List ℕ} {o : List Atom} {r : Extent} {a : Grid} → ToFill s t q w o r a
+    → Above s t a q.names (atoms_from o r.atoms (r.atoms - r.atoms))
+fill_start {o = o} {r = r} {a = a} given = let z : r.atoms - r.atoms ≡ 0 = omega arith in rw z (above_none given.world a o r.atoms given.blank)
 
-pub fill_turn : {s t : List ℕ} {q : Square} {w o : List ℕ} {r : Extent} {a : List ℕ} {u v : List ℕ} {left : ℕ} → ToFill s t q w o r a → 0 < left → left ≤ r.atoms
-    → Above s t u q.names (atoms_from o left (r.atoms - left)) → Risen s t q w o (left - 1) u v → Above s t v q.names (atoms_from o (left - 1) (r.atoms - (left - 1)))
+pub fill_turn : {s : List ℕ} {t : List table.Row} {q : Square} {w : List ℕ} {o : List Atom} {r : Extent} {a : Grid} {u v : Grid} {left : ℕ} → ToFill s t q w o r a → 0 < left → left ≤ r.atoms
+    → Above s t u q.names (atoms_from o left (r.atoms - left)) → Risen s t q w (atom_at o (left - 1)) u v → Above s t v q.names (atoms_from o (left - 1) (r.atoms - (left - 1)))
 fill_turn {r = r} {left = left} given some_left h above risen =
     let z : suc (left - 1) ≡ left = omega arith in
     let y : r.atoms - (left - 1) ≡ suc (r.atoms - left) = omega arith in
     rw y (above_more given.world given.shape (left - 1) (r.atoms - left) (omega arith) (rw z above) risen)
 
-pub fill_end : {s t : List ℕ} {q : Square} {w o : List ℕ} {r : Extent} {a : List ℕ} {u : List ℕ} {left : ℕ} → ToFill s t q w o r a → left ≤ 0 → length u ≡ length a
+pub fill_end : {s : List ℕ} {t : List table.Row} {q : Square} {w : List ℕ} {o : List Atom} {r : Extent} {a : Grid} {u : Grid} {left : ℕ} → ToFill s t q w o r a → left ≤ 0
     → Above s t u q.names (atoms_from o left (r.atoms - left)) → Filled s t q o r u
-fill_end {r = r} {left = left} given none long above =
+fill_end {r = r} {left = left} given none above =
     let z : left ≡ 0 = omega arith in
     let y : r.atoms - 0 ≡ r.atoms = omega arith in
-    record { rows = same_grid long given.rows; above = rw (z, y) at above }
+    record { above = rw (z, y) at above }
 
 -- the rows of lost points
-pub record Losing (s o : List ℕ) (r : Extent) (n : ℕ) (p : List ℕ) (left count : ℕ) (ln l : List ℕ) : Type 0 where
+pub record Losing (s : List ℕ) (o : List Atom) (r : Extent) (n : ℕ) (p : List Atom) (left count : ℕ) (ln l : Grid) : Type 0 where
   pub nodes : Kept (axioms_of s) (node_point n) (suc n) ln (atoms_from p left (count - left))
   pub roots : Kept (axioms_of s) (root_point o r) r.roots l (atoms_from p left (count - left))
 
-module _ {s t : List ℕ} {q : Square} {w o : List ℕ} {r : Extent} {a p : List ℕ} {u : Extent} {ln l : List ℕ} (given : ToLose s t q w o r a p u ln l) where
+module _ {s : List ℕ} {t : List table.Row} {q : Square} {w : List ℕ} {o : List Atom} {r : Extent} {a : Grid} {p : List Atom} {u : Extent} {ln l : Grid} (given : ToLose s t q w o r a p u ln l) where
   pub lose_start : Losing s o r q.names p u.atoms u.atoms ln l
   lose_start =
       let z : u.atoms - u.atoms ≡ 0 = omega arith in
       record {
-        nodes = rw z (kept_none ln p u.atoms given.nodes_empty);
-        roots = rw z (kept_none l p u.atoms given.roots_empty);
+        nodes = rw z (kept_none ln p u.atoms given.nodes_blank);
+        roots = rw z (kept_none l p u.atoms given.roots_blank);
       }
 
-  module _ {left : ℕ} {xn x yn y : List ℕ} (some_left : 0 < left) (h : left ≤ u.atoms) (losing : Losing s o r q.names p left u.atoms xn x)
-      (roots_lost : RootsLost s t q w o r a p xn (left - 1) x y) (nodes_lost : NodesLost t q w p (left - 1) xn yn) where
+  module _ {left : ℕ} {xn x yn y : Grid} (some_left : 0 < left) (h : left ≤ u.atoms) (losing : Losing s o r q.names p left u.atoms xn x)
+      (roots_lost : RootsLost s t q w o r a (atom_at p (left - 1)) xn x y) (nodes_lost : NodesLost t q w (atom_at p (left - 1)) xn yn) where
     abbrev i : ℕ
     i = left - 1
 
@@ -144,8 +125,8 @@ module _ {s t : List ℕ} {q : Square} {w o : List ℕ} {r : Extent} {a p : List
               roots_before roots_lost.adds);
         }
 
-  pub lose_end : {left : ℕ} {xn x : List ℕ} → left ≤ 0 → length x ≡ length l → Losing s o r q.names p left u.atoms xn x → Lost s o r p u x
-  lose_end {left} none long losing =
+  pub lose_end : {left : ℕ} {xn x : Grid} → left ≤ 0 → Losing s o r q.names p left u.atoms xn x → Lost s o r p u x
+  lose_end {left} none losing =
       let z : left ≡ 0 = omega arith in
       let y : u.atoms - 0 ≡ u.atoms = omega arith in
-      record { rows = same_grid long given.roots; kept = rw (z, y) at losing.roots }
+      record { kept = rw (z, y) at losing.roots }

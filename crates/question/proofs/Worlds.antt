@@ -16,6 +16,7 @@ use Rattle.el.specs.Terminologies.{Terminology}
 use Rattle.el.proofs.PlainNodes.{Plain, plain_name}
 use Rattle.release.specs.Files.{axioms_of, joins, restricts}
 use Rattle.release.specs.Tables.{kind_at, filler_at, count_at, part_at}
+use Rattle.release.specs.declared.table.Row as table
 use Rattle.release.proofs.Linked as linked
 use Rattle.marks.specs.declared.Square.{Square}
 use Rattle.marks.specs.Squares.{Marked}
@@ -24,7 +25,7 @@ use Rattle.classification.proofs.Nodes.{at_name, at_number}
 use Rattle.classification.proofs.AxiomRows as rows
 use Rattle.question.specs.Evaluation.{World, node_point}
 
-module _ {s t : List ℕ} {q : Square} {w : List ℕ} (world : World s t q w) where
+module _ {s : List ℕ} {t : List table.Row} {q : Square} {w : List ℕ} (world : World s t q w) where
   abbrev n : ℕ
   n = q.names
 

@@ -1,4 +1,5 @@
 -- Questions. To be read in this order.
+pub mod Refusals
 pub mod Asking
 pub mod Answering
 pub mod Evaluation
