@@ -18,6 +18,7 @@ use Rattle.el.proofs.Nodes.{IsColumn}
 use Rattle.el.proofs.PlainNodes.{plain_name}
 use Rattle.el.proofs.BackwardMarks.{Backward, of_part, of_everything, of_parts, of_name, of_role, Partner, filler, none, partner_is}
 use Rattle.el.proofs.BackwardMarks as el
+use Rattle.release.specs.declared.table.Row as table
 use Rattle.release.specs.Files.{axioms_of}
 use Rattle.release.specs.Tables.{kind_at, role_at, filler_at, count_at, part_at}
 use Rattle.release.specs.Entries.{node_number}
@@ -25,6 +26,7 @@ use Rattle.marks.specs.Squares.{Marked}
 use Rattle.classification.specs.Inclusions.{node_at, says}
 use Rattle.classification.proofs.Nodes.{at_top, number_at, number_small, said, marked}
 use Rattle.classification.proofs.AxiomRows.{Found, defined_conjunction, defined_restriction, restriction_restricts, role_is, name_is, filler_is, part_in, part_at_lem, formed, own}
+use Rattle.layout.specs.declared.Given.{Given}
 use Rattle.layout.specs.declared.Layout.{Layout}
 use Rattle.layout.specs.Layouts.{first_square, second_square, mark_square, chosen}
 use Rattle.layout.specs.Searches.{SomeBelow, EachBelow}
@@ -41,7 +43,22 @@ use Rattle.backward.proofs.Defined.{joins_2, found_2, found_4, not_joined, not_2
 no_plain_top : {al : List Axiom} → el.PlainColumn al (node everything) → ⊥
 no_plain_top (el.plain_node p) = elim p [ ]
 
-module _ {names edges g s t a b : List ℕ} {l : Layout} {w : List ℕ} (handed : Handed g a l.names l.roles names edges) (c : Comparing s t a b l w) (v : List ℕ) where
+module _ {given : Given} {g w : List ℕ} (handed : Handed g given) (c : Comparing given.first.file.now given.second.file.now given w) (v : List ℕ) where
+  abbrev s : List ℕ
+  s = given.first.file.now
+
+  abbrev t : List ℕ
+  t = given.second.file.now
+
+  abbrev a : List table.Row
+  a = given.first.table.now
+
+  abbrev b : List table.Row
+  b = given.second.table.now
+
+  abbrev l : Layout
+  l = given.layout
+
   abbrev n : ℕ
   n = l.names
 
@@ -49,13 +66,13 @@ module _ {names edges g s t a b : List ℕ} {l : Layout} {w : List ℕ} (handed 
   Rule x y = Backward (chosen l g) (axioms_of s) (axioms_of t) (says (first_square l) v) (says (second_square l) v) (says_column (mark_square l) v) x y
 
   -- plain columns
-  plain_there : {y : ℕ} → y ≤ n → PlainColumn b n y → el.PlainColumn (axioms_of t) (column_at n y)
+  plain_there : {y : ℕ} → y ≤ n → PlainColumn given y → el.PlainColumn (axioms_of t) (column_at n y)
   plain_there {y} y_in p = elim (last_or_name n y y_in) [
     | inl e ↦ rw (column_last n y e) el.plain_nothing
     | inr h ↦ rw (column_name n y h) (el.plain_node (plain_name (not_joined c.second_release c.second_names (p.not_joined h))))
   ]
 
-  plain_back : {y : ℕ} → el.PlainColumn (axioms_of t) (column_at n y) → PlainColumn b n y
+  plain_back : {y : ℕ} → el.PlainColumn (axioms_of t) (column_at n y) → PlainColumn given y
   plain_back {y} p = record { not_joined = λ h e. by_form h e (rw (column_name n y h) at p) }
     where
       by_form : y < n → kind_at b y ≡ 2 → el.PlainColumn (axioms_of t) (node (named y)) → ⊥
@@ -73,7 +90,7 @@ module _ {names edges g s t a b : List ℕ} {l : Layout} {w : List ℕ} (handed 
   filler_said p everything e f h m = absurd (omega arith)
   filler_said p (named z) e f h m = said p (named z) e f m
 
-  partner_there : {x y : ℕ} (f : Found s a n x) → is_conjunction f.it ≡ false → y ≤ n → PartnerLost b l v y (role_at a x) (filler_at a x)
+  partner_there : {x y : ℕ} (f : Found s a n x) → is_conjunction f.it ≡ false → y ≤ n → PartnerLost given v y (role_at given.first.table.now x) (filler_at given.first.table.now x)
       → Partner (axioms_of t) (role_of f.it) (column_at n y) (partner (axioms_of t) (role_of f.it) (column_at n y))
       → says_column (mark_square l) v (filler_of f.it) (partner (axioms_of t) (role_of f.it) (column_at n y)) ≡ true
   partner_there {x} {y} f k y_in (of_filler filled small m) (filler {b = d} d_in e fills q) =
@@ -94,7 +111,7 @@ module _ {names edges g s t a b : List ℕ} {l : Layout} {w : List ℕ} (handed 
 
   -- definitions are the rule
   module _ {x y : ℕ} (x_in : x ≤ n) (y_in : y ≤ n) where
-    row_backward : PlainColumn b n y → RowLost edges s a b l v x y → Rule (node_at n x) (column_at n y)
+    row_backward : PlainColumn given y → RowLost given v x y → Rule (node_at n x) (column_at n y)
     row_backward plain (by_top e) = of_everything (plain_there y_in plain) (at_top n x e)
     row_backward plain (by_parts h e p) =
         let f = found_2 c.first_release c.first_names x h e in
@@ -105,10 +122,10 @@ module _ {names edges g s t a b : List ℕ} {l : Layout} {w : List ℕ} (handed 
         let f = found_4 c.first_release c.first_names x h e in
         let d = defined_restriction f e in
         of_role (plain_there y_in plain) (plain_node_at c.first_release c.first_names h (λ z. omega arith)) f.member (name_is f h)
-        (record { is_defined = d.1; is_restriction = d.0; role = refl }) (rw (← role_is f d.0) ((handed.found.flag x h).tells.sound p.with_edge).chosen_role)
+        (record { is_defined = d.1; is_restriction = d.0; role = refl }) (rw (← role_is f d.0) ((handed.found.tells x h).sound p.with_edge).chosen_role)
         (partner_there f d.0 y_in p.partner (partner_is (axioms_of t) (role_of f.it) (column_at n y)))
 
-    pub step_backward : Defined edges s t a b l v x y → Rule (node_at n x) (column_at n y)
+    pub step_backward : Defined given v x y → Rule (node_at n x) (column_at n y)
     step_backward (by_row p) = row_backward p.plain p.row
     step_backward (by_part o) =
         let p = o.part in
@@ -126,7 +143,7 @@ module _ {names edges g s t a b : List ℕ} {l : Layout} {w : List ℕ} (handed 
       by_node (name_node h) e = omega arith
 
   partner_back : {y r : ℕ} {o : Axiom} → In (axioms_of s) o → is_conjunction o ≡ false → y ≤ n → Partner (axioms_of t) r (column_at n y) (partner (axioms_of t) r (column_at n y))
-      → says_column (mark_square l) v (filler_of o) (partner (axioms_of t) r (column_at n y)) ≡ true → PartnerLost b l v y r (node_number n (filler_of o))
+      → says_column (mark_square given.layout) v (filler_of o) (partner (axioms_of t) r (column_at n y)) ≡ true → PartnerLost given v y r (node_number n (filler_of o))
   partner_back {y} {r} {o} o_in k y_in (filler {b = d} d_in e fills q) m =
       let p = named_column n y d.left y_in e in
       let f = own c.second_release c.second_names d_in in
@@ -140,18 +157,18 @@ module _ {names edges g s t a b : List ℕ} {l : Layout} {w : List ℕ} (handed 
           let f = found_4 c.second_release c.second_names y h.is_name h.kind in
           d f.it f.member (ap (λ z. node (named z)) f.left ∙ sym (column_name n y h.is_name)) (filled_by c.second_release c.second_names h f)
 
-  module _ (quiet : Quiet names edges s t a b l v) (x : Node) (x_in : IsNode n x) where
+  module _ (quiet : Quiet given v) (x : Node) (x_in : IsNode n x) where
     module _ {y : ℕ} (y_in : y ≤ n) where
-      at_cell : {z : ℕ} → z ≤ n → Own names edges s t a b l v z y → Marked (mark_square l) v z y
+      at_cell : {z : ℕ} → z ≤ n → Own given v z y → Marked (mark_square given.layout) v z y
       at_cell {z} z_in own_step = ((quiet.rows.at z (omega arith)).cells.at y (omega arith)).marked own_step
 
-      marked_by : Defined edges s t a b l v (node_number n x) y → says_column (mark_square l) v x (column_at n y) ≡ true
+      marked_by : Defined given v (node_number n x) y → says_column (mark_square given.layout) v x (column_at n y) ≡ true
       marked_by step = said_column x refl y_in (at_cell (number_small n x x_in) (by_definition step))
 
-      marked_row : el.PlainColumn (axioms_of t) (column_at n y) → RowLost edges s a b l v (node_number n x) y → says_column (mark_square l) v x (column_at n y) ≡ true
+      marked_row : el.PlainColumn (axioms_of t) (column_at n y) → RowLost given v (node_number n x) y → says_column (mark_square given.layout) v x (column_at n y) ≡ true
       marked_row plain lost = marked_by (by_row (record { plain = plain_back plain; row = lost }))
 
-      marked_above : {d : ℕ} → d < n → Own names edges s t a b l v d y → Marked (first_square l) v d (node_number n x) → says_column (mark_square l) v x (column_at n y) ≡ true
+      marked_above : {d : ℕ} → d < n → Own given v d y → Marked (first_square given.layout) v d (node_number n x) → says_column (mark_square given.layout) v x (column_at n y) ≡ true
       marked_above {d} d_in own_step below_x = said_column x refl y_in
           (((quiet.handed.at d (omega arith)).each (node_number n x) (number_small n x x_in) below_x).marked y y_in (at_cell (omega arith) own_step))
 
@@ -160,13 +177,13 @@ module _ {names edges g s t a b : List ℕ} {l : Layout} {w : List ℕ} (handed 
           let p = named_column n y d.left y_in e in
           let f = own c.second_release c.second_names d_in in
           let q = part_at_lem f joins.is_conjunctive z_in in
-          let some : SomeBelow (ColumnPart t b l v (node_number n x) d.left) (count_at t b d.left) = record
+          let some : SomeBelow (ColumnPart given v (node_number n x) d.left) (count_at t b d.left) = record
           { it = q.at; below = q.inside; holds = record { marked = rw q.is (marked x (named z) refl refl m) } } in
           marked_by (by_part (record { is_name = p.0; kind = rw (← p.1) (joins_2 c.second_release c.second_names d_in joins); part = rw p.1 at some }))
       cell_closed (of_everything plain e) = marked_row plain (by_top (ap (node_number n) e))
       cell_closed (of_parts {a = o} plain o_in e joins every) =
           let f = own c.first_release c.first_names o_in in
-          let each : EachBelow (RowPart s a l v o.left y) (count_at s a o.left) = record {
+          let each : EachBelow (RowPart given v o.left y) (count_at s a o.left) = record {
             at = λ i h. record {
               marked = column_marked (named (part_at s a o.left i)) refl y_in (every.at (part_at s a o.left i) (part_in f joins.is_conjunctive i h));
             };
@@ -178,8 +195,8 @@ module _ {names edges g s t a b : List ℕ} {l : Layout} {w : List ℕ} (handed 
           let f = own c.first_release c.first_names o_in in
           let h = fills_filled c.first_release c.first_names o_in fills in
           let p = partner_back o_in fills.is_restriction y_in (partner_is (axioms_of t) r (column_at n y)) m in
-          let lost : RoleLost edges a b l v o.left y = record {
-            with_edge = (handed.found.flag o.left h.is_name).tells.complete
+          let lost : RoleLost given v o.left y = record {
+            with_edge = (handed.found.tells o.left h.is_name).complete
                 (record { is_restriction = restriction_restricts f fills.is_restriction; chosen_role = rw h.role over });
             partner = rw (h.role, ← filler_is f fills.is_restriction) p;
           } in

@@ -11,6 +11,7 @@ use Rattle.el.specs.Terminologies.{Joins}
 use Rattle.el.proofs.Derivations.{Fills}
 use Rattle.el.proofs.Terminologies.{NotJoined}
 use Rattle.el.proofs.PlainNodes.{Plain, plain_name}
+use Rattle.release.specs.declared.table.Row as table
 use Rattle.release.specs.Files.{names_of, axioms_of}
 use Rattle.release.specs.Tables.{kind_at, Release}
 use Rattle.classification.specs.Inclusions.{node_at}
@@ -18,7 +19,7 @@ use Rattle.classification.proofs.Nodes.{at_name}
 use Rattle.classification.proofs.AxiomRows.{Found, defined_conjunction, defined_restriction, is_2, is_4, role_is, formed, own, find}
 use Rattle.backward.specs.Rules.{Filled}
 
-module _ {s t : List ℕ} {n : ℕ} (r : Release s t) (names : n ≡ names_of s) where
+module _ {s : List ℕ} {t : List table.Row} {n : ℕ} (r : Release s t) (names : n ≡ names_of s) where
   pub joins_2 : {a : Axiom} → In (axioms_of s) a → Joins a → kind_at t a.left ≡ 2
   joins_2 a_in joins = is_2 (own r names a_in) joins.is_conjunctive joins.is_defined
 

@@ -23,6 +23,7 @@ use Rattle.marks.specs.Passes.{Grows, Closed, AllGood}
 use Rattle.marks.proofs.Passes.{grows_frame, grows_good, unmarked_good}
 use Rattle.classification.specs.Inclusions.{node_at}
 use Rattle.classification.proofs.Nodes.{at_name, at_node, number_at, at_number, number_small}
+use Rattle.layout.specs.declared.Given.{Given}
 use Rattle.layout.specs.declared.Layout.{Layout}
 use Rattle.classification.proofs.Meaning.{inclusions_stay}
 use Rattle.layout.specs.Layouts.{second_square, mark_square, chosen}
@@ -35,8 +36,17 @@ use Rattle.backward.specs.Backward.{column_at, Backwarded}
 use Rattle.backward.proofs.Columns.{column_last, column_name, last_or_name, column_in, by_column, says_column, column_marked}
 use Rattle.backward.proofs.Bridge.{step_backward, rows_closed}
 
-module _ {names edges g s t a b : List ℕ} {l : Layout} {w v : List ℕ} (handed : Handed g a l.names l.roles names edges) (c : Comparing s t a b l w)
-    (closed : Closed (Step names edges s t a b l) (mark_square l) (Quiet names edges s t a b l) w v) where
+module _ {given : Given} {g w v : List ℕ} (handed : Handed g given) (c : Comparing given.first.file.now given.second.file.now given w)
+    (closed : Closed (Step given) (mark_square given.layout) (Quiet given) w v) where
+  abbrev s : List ℕ
+  s = given.first.file.now
+
+  abbrev t : List ℕ
+  t = given.second.file.now
+
+  abbrev l : Layout
+  l = given.layout
+
   abbrev n : ℕ
   n = l.names
 
@@ -44,7 +54,7 @@ module _ {names edges g s t a b : List ℕ} {l : Layout} {w v : List ℕ} (hande
   Means x y = LostBelow (chosen l g) (axioms_of s) (axioms_of t) (node_at n x) (column_at n y)
 
   module _ {u : List ℕ} {x y : ℕ} (frame : Frame (mark_square l) w u) (x_in : x ≤ n) (y_in : y ≤ n) where
-    defined_sound : AllGood (mark_square l) Means u → Defined edges s t a b l u x y → Means x y
+    defined_sound : AllGood (mark_square given.layout) Means u → Defined given u x y → Means x y
     defined_sound good step = backward_sound (comparable c g) (first_table_by c frame) (second_table_by c frame) (says_column (mark_square l) u) good_said (node_at n x)
         (column_at n y) (at_node n x x_in) (column_in n y y_in) (step_backward handed c u x_in y_in step)
       where
@@ -55,7 +65,7 @@ module _ {names edges g s t a b : List ℕ} {l : Layout} {w v : List ℕ} (hande
         ]
 
     -- a name is below itself
-    name_sound : NameLost names l u x y → Means x y
+    name_sound : NameLost given u x y → Means x y
     name_sound p = rw (at_name n x x_name) (record { it = name x; over = over; by_first = same; not_second = not_below (last_or_name n y y_in) p.not_second })
       where
         over : (chosen l g).has_name x ≡ true
@@ -79,7 +89,7 @@ module _ {names edges g s t a b : List ℕ} {l : Layout} {w v : List ℕ} (hande
         let above = (inclusions_stay frame (inl c.first_apart) c.first_inclusions).sound p.lower x p.small x_in p.first in
         record { it = lost.it; over = lost.over; by_first = lost.by_first ▹ above; not_second = lost.not_second }
 
-  step_sound : (u : List ℕ) (x y : ℕ) → Grows (Step names edges s t a b l) (mark_square l) w u → AllGood (mark_square l) Means u → x ≤ n → y ≤ n → Step names edges s t a b l u x y → Means x y
+  step_sound : (u : List ℕ) (x y : ℕ) → Grows (Step given) (mark_square given.layout) w u → AllGood (mark_square given.layout) Means u → x ≤ n → y ≤ n → Step given u x y → Means x y
   step_sound u x y grows good x_in y_in (by_own (by_definition p)) = defined_sound (grows_frame grows) x_in y_in good p
   step_sound u x y grows good x_in y_in (by_own (by_name p)) = name_sound (grows_frame grows) x_in y_in p
   step_sound u x y grows good x_in y_in (by_below p) = below_sound (grows_frame grows) x_in y_in good p

@@ -3,7 +3,7 @@
 --   BackwardMarked g s t l v     a cell is marked exactly when some signature concept lies below its row by the first release s and
 --                                not below its column by the second release t; where it is not, all that lies below is kept
 --   Backwarded g s t l w v       the memory w became v: its square of marks holds that, and all else is as before
---   BackwardFrom names edges s t a l w v     so it is for all signatures of which this is handed on
+--   BackwardFrom given w v       so it is for all signatures of which this is handed on
 use Rattle.std.specs.Prelude.{◌≡◌, true, List, ℕ, ◌≤◌, eqb}
 use Rattle.el.specs.Lists.{pick}
 use Rattle.el.specs.Concepts.{Concept, named, concept_of}
@@ -14,6 +14,7 @@ use Rattle.el.proofs.BackwardMarks.{Below, LostBelow}
 use Rattle.release.specs.Files.{axioms_of}
 use Rattle.marks.specs.Squares.{Marked, Frame}
 use Rattle.classification.specs.Inclusions.{node_at}
+use Rattle.layout.specs.declared.Given.{Given}
 use Rattle.layout.specs.declared.Layout.{Layout}
 use Rattle.layout.specs.Layouts.{mark_square, chosen}
 use Rattle.layout.specs.Findings.{Handed}
@@ -30,5 +31,5 @@ pub record Backwarded (g s t : List ℕ) (l : Layout) (w v : List ℕ) : Type 0 
   pub frame : Frame (mark_square l) w v
   pub marked : BackwardMarked g s t l v
 
-pub record BackwardFrom (names edges s t a : List ℕ) (l : Layout) (w v : List ℕ) : Type 0 where
-  pub of_signature : (g : List ℕ) → Handed g a l.names l.roles names edges → Backwarded g s t l w v
+pub record BackwardFrom (given : Given) (w v : List ℕ) : Type 0 where
+  pub of_signature : (g : List ℕ) → Handed g given → Backwarded g given.first.file.now given.second.file.now given.layout w v

@@ -7,57 +7,37 @@ ghost use Rattle.layout.specs.Searches.{SomeBelow, EachBelow};
 ghost use Rattle.layout.specs.Layouts.{mark_square, Rowed};
 ghost use Rattle.backward.specs.Rules.{Setting, Rows, PlainColumn, ColumnPart, RowPart, Filled, RoleLost, Filling, NoRule, RowLost, Defined};
 
-use layout::edges::has_edge;
-use layout::{Layout, is_marked};
-use release::table;
+use layout::Given;
+use release::Kind;
 
 // Whether x is marked with a conjunct of the conjunction y of the second release.
-pub fn some_part_lost(
-    second: &[u8],
-    table: &[u16],
-    work: &[u8],
-    layout: Layout,
-    x: usize,
-    y: usize,
-) -> bool
-    requires shaped { Shaped layout.names second.now table.now }
-    requires room { Room (mark_square layout) work.now }
-    requires x_le_names { (x ≤ layout.names) × (y < layout.names) × (kind_at table.now y ≡ 2) }
-    ensures { Tells result (SomeBelow (ColumnPart second.now table.now layout work.now x y) (count_at second.now table.now y)) }
+pub fn some_part_lost(given: &Given, work: &[u8], x: usize, y: usize) -> bool
+    requires shaped { Shaped given.now.layout.names given.now.second.file.now given.now.second.table.now }
+    requires room { Room (mark_square given.now.layout) work.now }
+    requires x_le_names { (x ≤ given.now.layout.names) × (y < given.now.layout.names) × (kind_at given.now.second.table.now y ≡ 2) }
+    ensures { Tells result (SomeBelow (ColumnPart given.now work.now x y) (count_at given.now.second.file.now given.now.second.table.now y)) }
 {
-    let count = table::count(second, table, y);
-    let mut i = 0;
-    while i < count {
-        let part = table::part(second, table, y, i);
-        if is_marked(work, layout, x, part) {
+    let marks = given.layout.mark_square();
+    for i in 0..given.second.count(y) {
+        let part = given.second.part(y, i);
+        if marks.is_marked(work, x, part) {
             return true;
         }
-        i += 1;
     }
     false
 }
 
 // Whether all conjuncts of the conjunction x of the first release are marked with y.
-fn all_parts_lost(
-    first: &[u8],
-    table: &[u16],
-    work: &[u8],
-    layout: Layout,
-    x: usize,
-    y: usize,
-) -> bool
-    requires shaped { Shaped layout.names first.now table.now }
-    requires room { Room (mark_square layout) work.now }
-    requires x_lt_names { (x < layout.names) × (y ≤ layout.names) × (kind_at table.now x ≡ 2) }
-    ensures { Tells result (EachBelow (RowPart first.now table.now layout work.now x y) (count_at first.now table.now x)) }
+fn all_parts_lost(given: &Given, work: &[u8], x: usize, y: usize) -> bool
+    requires shaped { Shaped given.now.layout.names given.now.first.file.now given.now.first.table.now }
+    requires room { Room (mark_square given.now.layout) work.now }
+    requires x_lt_names { (x < given.now.layout.names) × (y ≤ given.now.layout.names) × (kind_at given.now.first.table.now x ≡ 2) }
+    ensures { Tells result (EachBelow (RowPart given.now work.now x y) (count_at given.now.first.file.now given.now.first.table.now x)) }
 {
-    let count = table::count(first, table, x);
-    let mut i = 0;
-    while i < count {
-        let part = table::part(first, table, x, i);
-        if is_marked(work, layout, part, y) {
-            i += 1;
-        } else {
+    let marks = given.layout.mark_square();
+    for i in 0..given.first.count(x) {
+        let part = given.first.part(x, i);
+        if !marks.is_marked(work, part, y) {
             return false;
         }
     }
@@ -65,158 +45,100 @@ fn all_parts_lost(
 }
 
 // Whether y is defined by a restriction with the role.
-fn is_filled(table: &[u16], layout: Layout, y: usize, role: usize) -> bool
-    requires { Rowed layout.names table.now }
-    ensures { Tells result (Filled table.now layout.names y role) }
+pub fn is_filled(given: &Given, y: usize, role: usize) -> bool
+    requires { Rowed given.now.layout.names given.now.second.table.now }
+    ensures { Tells result (Filled given.now.second.table.now given.now.layout.names y role) }
 {
-    if layout.names <= y {
-        return false;
-    }
-    let kind = table::kind(table, y);
-    if kind != 4 {
-        return false;
-    }
-    let own = table::role(table, y);
-    if own != role {
-        return false;
-    }
-    true
+    y < given.layout.names
+        && given.second.has_kind(y, Kind::DefinedRestriction)
+        && given.second.role(y) == role
 }
 
 // Whether the filler of x, which is defined by a restriction, is marked with what has to lie above it for y: the filler of y, if y
 // is defined by a restriction with the same role, else nothing. A filler ⊤ of y is above all.
-fn role_lost(
-    edges: &[u8],
-    first: &[u16],
-    second: &[u16],
-    work: &[u8],
-    layout: Layout,
-    x: usize,
-    y: usize,
-) -> bool
-    requires names_in_bounds { layout.names ≤ length edges.now }
-    requires rowed { Rowed layout.names first.now × Rowed layout.names second.now }
-    requires room { Room (mark_square layout) work.now }
-    requires x_lt_names { (x < layout.names) × (kind_at first.now x ≡ 4) }
-    ensures { Tells result (RoleLost edges.now first.now second.now layout work.now x y) }
+fn role_lost(given: &Given, work: &[u8], x: usize, y: usize) -> bool
+    requires names_in_bounds { given.now.layout.names ≤ length given.now.edges.now }
+    requires rowed { Rowed given.now.layout.names given.now.first.table.now × Rowed given.now.layout.names given.now.second.table.now }
+    requires room { Room (mark_square given.now.layout) work.now }
+    requires x_lt_names { (x < given.now.layout.names) × (kind_at given.now.first.table.now x ≡ 4) }
+    ensures { Tells result (RoleLost given.now work.now x y) }
 {
-    let role = table::role(first, x);
-    let end = table::filler(first, x);
-    if has_edge(edges, x) {
-        if is_filled(second, layout, y, role) {
-            let over = table::filler(second, y);
-            if layout.names <= over {
-                return false;
-            }
-            return is_marked(work, layout, end, over);
-        }
-        return is_marked(work, layout, end, layout.names);
+    if !given.edges[x] {
+        return false;
     }
-    false
+    let marks = given.layout.mark_square();
+    let role = given.first.role(x);
+    let filler = given.first.filler(x);
+    if !is_filled(given, y, role) {
+        return marks.is_marked(work, filler, given.layout.names);
+    }
+    let over = given.second.filler(y);
+    if given.layout.names <= over {
+        return false;
+    }
+    marks.is_marked(work, filler, over)
 }
 
 // Whether the definition of x allows the mark x, y, where y is not defined by a conjunction.
-pub fn column_lost(
-    edges: &[u8],
-    first: &[u8],
-    first_table: &[u16],
-    second_table: &[u16],
-    work: &[u8],
-    layout: Layout,
-    x: usize,
-    y: usize,
-) -> bool
-    requires rows { Rows edges.now first.now first_table.now second_table.now layout work.now }
-    requires x_le_names { (x ≤ layout.names) × (y ≤ layout.names) }
-    ensures { Tells result (RowLost edges.now first.now first_table.now second_table.now layout work.now x y) }
+pub fn column_lost(given: &Given, work: &[u8], x: usize, y: usize) -> bool
+    requires rows { Rows given.now work.now }
+    requires x_le_names { (x ≤ given.now.layout.names) × (y ≤ given.now.layout.names) }
+    ensures { Tells result (RowLost given.now work.now x y) }
 {
-    if layout.names <= x {
+    if given.layout.names <= x {
         return true;
     }
-    let kind = table::kind(first_table, x);
-    if kind == 2 {
-        return all_parts_lost(first, first_table, work, layout, x, y);
+    match given.first.kind(x) {
+        Some(Kind::DefinedConjunction) => all_parts_lost(given, work, x, y),
+        Some(Kind::DefinedRestriction) => role_lost(given, work, x, y),
+        _ => false,
     }
-    if kind == 4 {
-        return role_lost(edges, first_table, second_table, work, layout, x, y);
-    }
-    false
 }
 
 // Whether the definitions of x and y allow the mark x, y.
-pub fn defined_lost(
-    edges: &[u8],
-    first: &[u8],
-    second: &[u8],
-    first_table: &[u16],
-    second_table: &[u16],
-    work: &[u8],
-    layout: Layout,
-    x: usize,
-    y: usize,
-) -> bool
-    requires setting { Setting edges.now first.now second.now first_table.now second_table.now layout work.now }
-    requires x_le_names { (x ≤ layout.names) × (y ≤ layout.names) }
-    ensures { Tells result (Defined edges.now first.now second.now first_table.now second_table.now layout work.now x y) }
+pub fn defined_lost(given: &Given, work: &[u8], x: usize, y: usize) -> bool
+    requires setting { Setting given.now work.now }
+    requires x_le_names { (x ≤ given.now.layout.names) × (y ≤ given.now.layout.names) }
+    ensures { Tells result (Defined given.now work.now x y) }
 {
-    if layout.names <= y {
-        return column_lost(edges, first, first_table, second_table, work, layout, x, y);
+    if y < given.layout.names && given.second.has_kind(y, Kind::DefinedConjunction) {
+        return some_part_lost(given, work, x, y);
     }
-    let kind = table::kind(second_table, y);
-    if kind == 2 {
-        return some_part_lost(second, second_table, work, layout, x, y);
-    }
-    column_lost(edges, first, first_table, second_table, work, layout, x, y)
+    column_lost(given, work, x, y)
 }
 
 // Whether x is defined by a restriction with this filler and a role of the signature. Where it says no, nothing is said.
-pub fn is_filling(edges: &[u8], table: &[u16], layout: Layout, x: usize, filler: usize) -> bool
-    requires names_in_bounds { layout.names ≤ length edges.now }
-    requires rowed { Rowed layout.names table.now }
-    requires x_lt_names { x < layout.names }
-    ensures { result ≡ true → Filling edges.now table.now layout x filler }
+pub fn is_filling(given: &Given, x: usize, filler: usize) -> bool
+    requires names_in_bounds { given.now.layout.names ≤ length given.now.edges.now }
+    requires rowed { Rowed given.now.layout.names given.now.first.table.now }
+    ensures { result ≡ true → Filling given.now x filler }
 {
-    let kind = table::kind(table, x);
-    let own = table::filler(table, x);
-    if kind != 4 {
-        return false;
-    }
-    if own != filler {
-        return false;
-    }
-    has_edge(edges, x)
+    x < given.layout.names
+        && given.first.has_kind(x, Kind::DefinedRestriction)
+        && given.first.filler(x) == filler
+        && given.edges[x]
 }
 
 // Whether the definition of x may allow a mark. Where it says yes, nothing is said.
-pub fn may_be_lost(edges: &[u8], table: &[u16], layout: Layout, x: usize) -> bool
-    requires names_in_bounds { layout.names ≤ length edges.now }
-    requires rowed { Rowed layout.names table.now }
-    ensures { result ≡ false → NoRule edges.now table.now layout x }
+pub fn may_be_lost(given: &Given, x: usize) -> bool
+    requires names_in_bounds { given.now.layout.names ≤ length given.now.edges.now }
+    requires rowed { Rowed given.now.layout.names given.now.first.table.now }
+    ensures { result ≡ false → NoRule given.now x }
 {
-    if layout.names <= x {
+    if given.layout.names <= x {
         return true;
     }
-    let kind = table::kind(table, x);
-    if kind == 2 {
-        return true;
+    match given.first.kind(x) {
+        Some(Kind::DefinedConjunction) => true,
+        Some(Kind::DefinedRestriction) => given.edges[x],
+        _ => false,
     }
-    if kind == 4 {
-        return has_edge(edges, x);
-    }
-    false
 }
 
 // Whether y is not defined by a conjunction.
-pub fn is_plain(table: &[u16], layout: Layout, y: usize) -> bool
-    requires { Rowed layout.names table.now }
-    ensures { Tells result (PlainColumn table.now layout.names y) }
+pub fn is_plain(given: &Given, y: usize) -> bool
+    requires { Rowed given.now.layout.names given.now.second.table.now }
+    ensures { Tells result (PlainColumn given.now y) }
 {
-    if layout.names <= y {
-        return true;
-    }
-    let kind = table::kind(table, y);
-    if kind == 2 {
-        return false;
-    }
-    true
+    given.layout.names <= y || !given.second.has_kind(y, Kind::DefinedConjunction)
 }

@@ -24,6 +24,7 @@ use Rattle.classification.specs.Inclusions.{node_at, says}
 use Rattle.classification.proofs.Nodes.{number_at, number_small, said, marked}
 use Rattle.classification.proofs.AxiomRows.{Found, is_restriction, restriction_restricts, role_is, filler_is, formed, own, restricted}
 use Rattle.layout.specs.declared.Layout.{Layout}
+use Rattle.layout.specs.declared.Given.{Given}
 use Rattle.layout.specs.Layouts.{first_square, second_square, mark_square, chosen}
 use Rattle.layout.specs.Searches.{SomeBelow}
 use Rattle.layout.specs.Findings.{Handed}
@@ -32,7 +33,10 @@ use Rattle.layout.proofs.Findings.{name_handed}
 use Rattle.layout.proofs.Comparing.{chosen_below}
 use Rattle.forward.specs.Rules.{Partner, Own, by_name, by_edge, Row}
 
-module _ {names edges g s t a b : List ℕ} {l : Layout} {w : List ℕ} (handed : Handed g a l.names l.roles names edges) (c : Comparing s t a b l w) (v : List ℕ) where
+module _ {g s t : List ℕ} {given : Given} {w : List ℕ} (handed : Handed g given) (c : Comparing s t given w) (v : List ℕ) where
+  abbrev l : Layout
+  l = given.layout
+
   abbrev n : ℕ
   n = l.names
 
@@ -44,7 +48,8 @@ module _ {names edges g s t a b : List ℕ} {l : Layout} {w : List ℕ} (handed 
 
   -- what is lost by itself is lost by the rule
   module _ {x y : ℕ} (x_in : x ≤ n) (y_in : y ≤ n) where
-    all_marked : {e : ℕ} (f : Found s a n e) → is_conjunction f.it ≡ false → (SomeBelow (Partner b l v (filler_at a e) y (role_at a e)) n → ⊥) → (o : Axiom) → In (axioms_of t) o
+    all_marked : {e : ℕ} (f : Found s given.first.table.now n e) → is_conjunction f.it ≡ false
+        → (SomeBelow (Partner given v (filler_at given.first.table.now e) y (role_at given.first.table.now e)) n → ⊥) → (o : Axiom) → In (axioms_of t) o
         → Link (says (second_square l) v) (node_at n y) (role_of f.it) o → says (mark_square l) v (filler_of f.it) (filler_of o) ≡ true
     all_marked {e} f i none o o_in link =
         let p = own c.second_release c.second_names o_in in
@@ -65,11 +70,11 @@ module _ {names edges g s t a b : List ℕ} {l : Layout} {w : List ℕ} (handed 
         ]
 
     -- x lies above itself
-    pub own_forward : Marked (first_square l) v x x → Own names edges a b l v x y → Rule (node_at n x) (node_at n y)
+    pub own_forward : Marked (first_square l) v x x → Own given v x y → Rule (node_at n x) (node_at n y)
     own_forward itself (by_name p) = el.by_name (sym (name_handed handed x) ∙ p.chosen_name) (said (node_at n x) (named x) (number_at n x x_in) refl itself)
         (not_said (node_at n y) (named x) (number_at n y y_in) refl p.not_second)
     own_forward itself (by_edge e) =
-        let chosen_edge = (handed.found.flag x e.edge.is_name).tells.sound e.edge.with_edge in
+        let chosen_edge = (handed.found.tells x e.edge.is_name).sound e.edge.with_edge in
         let f = restricted c.first_release c.first_names x e.edge.is_name chosen_edge.is_restriction in
         let i = is_restriction f chosen_edge.is_restriction in
         let link : Link (says (first_square l) v) (node_at n x) (role_of f.it) f.it = record
@@ -77,16 +82,16 @@ module _ {names edges g s t a b : List ℕ} {l : Layout} {w : List ℕ} (handed 
         el.by_role f.member link (rw (← role_is f i) chosen_edge.chosen_role) (record { at = all_marked f i e.no_partner })
 
   -- and rows with nothing left to mark are closed
-  module _ (rows : Below (Row names edges a b l) (suc n) v) (x y : Node) (x_in : IsNode n x) (y_in : IsNode n y) where
-    marked_by : {d : ℕ} → d < n → says (first_square l) v x (named d) ≡ true → Own names edges a b l v d (node_number n y) → says (mark_square l) v x y ≡ true
+  module _ (rows : Below (Row given) (suc n) v) (x y : Node) (x_in : IsNode n x) (y_in : IsNode n y) where
+    marked_by : {d : ℕ} → d < n → says (first_square l) v x (named d) ≡ true → Own given v d (node_number n y) → says (mark_square l) v x y ≡ true
     marked_by {d} d_in above own =
         let lost = ((rows.at d (omega arith)).cells.at (node_number n y) (omega (arith, number_small n y y_in))).marked own in
         said x y refl refl ((((rows.at (node_number n x) (omega (arith, number_small n x x_in))).above.at d (omega arith)).within (marked x (named d) refl refl above)).marked
         (node_number n y) (number_small n y y_in) lost)
 
-    no_partner : {e r : ℕ} (f : Found s a n e) → is_conjunction f.it ≡ false → role_of f.it ≡ r
+    no_partner : {e r : ℕ} (f : Found s given.first.table.now n e) → is_conjunction f.it ≡ false → role_of f.it ≡ r
         → ((d : Axiom) → In (axioms_of t) d → Link (says (second_square l) v) y r d → says (mark_square l) v (filler_of f.it) (filler_of d) ≡ true)
-        → SomeBelow (Partner b l v (filler_at a e) (node_number n y) (role_at a e)) n → ⊥
+        → SomeBelow (Partner given v (filler_at given.first.table.now e) (node_number n y) (role_at given.first.table.now e)) n → ⊥
     no_partner {e} {r} f k role every p =
         let q = p.holds in
         let d = restricted c.second_release c.second_names p.it p.below q.serves.is_restriction in
@@ -105,7 +110,7 @@ module _ {names edges g s t a b : List ℕ} {l : Layout} {w : List ℕ} (handed 
         marked_by o_name link.above (by_edge (record {
           edge = record {
             is_name = o_name;
-            with_edge = (handed.found.flag o.left o_name).tells.complete
+            with_edge = (handed.found.tells o.left o_name).complete
                 (record { is_restriction = restriction_restricts f k; chosen_role = rw (role_is f k ∙ link.role) over });
           };
           no_partner = no_partner f k link.role every.at;

@@ -20,6 +20,7 @@ use Rattle.classification.specs.Inclusions.{node_at, says, Inclusions}
 use Rattle.classification.proofs.Meaning.{inclusions_stay}
 use Rattle.classification.proofs.Nodes.{at_node, number_at, at_number, number_small, marked}
 use Rattle.layout.specs.declared.Layout.{Layout}
+use Rattle.layout.specs.declared.Given.{Given}
 use Rattle.layout.specs.Layouts.{first_square, mark_square, chosen}
 use Rattle.layout.specs.Findings.{Handed}
 use Rattle.layout.specs.Comparing.{Comparing}
@@ -28,15 +29,18 @@ use Rattle.forward.specs.Rules.{Step, by_itself, by_above, Row}
 use Rattle.forward.specs.Forward.{Forwarded}
 use Rattle.forward.proofs.Bridge.{own_forward, rows_closed}
 
-module _ {names edges g s t a b : List ℕ} {l : Layout} {w v : List ℕ} (handed : Handed g a l.names l.roles names edges) (c : Comparing s t a b l w)
-    (closed : Closed (Step names edges a b l) (mark_square l) (Below (Row names edges a b l) (suc l.names)) w v) where
+module _ {g s t : List ℕ} {given : Given} {w v : List ℕ} (handed : Handed g given) (c : Comparing s t given w)
+    (closed : Closed (Step given) (mark_square given.layout) (Below (Row given) (suc given.layout.names)) w v) where
+  abbrev l : Layout
+  l = given.layout
+
   abbrev n : ℕ
   n = l.names
 
   abbrev Means : ℕ → ℕ → Type 0
   Means x y = LostAbove (chosen l g) (axioms_of s) (axioms_of t) (node_at n x) (node_at n y)
 
-  module _ (u : List ℕ) (x y : ℕ) (grows : Grows (Step names edges a b l) (mark_square l) w u) (good : AllGood (mark_square l) Means u) (x_in : x ≤ n) (y_in : y ≤ n) where
+  module _ (u : List ℕ) (x y : ℕ) (grows : Grows (Step given) (mark_square l) w u) (good : AllGood (mark_square l) Means u) (x_in : x ≤ n) (y_in : y ≤ n) where
     abbrev frame : Frame (mark_square l) w u
     frame = grows_frame grows
 
@@ -46,7 +50,7 @@ module _ {names edges g s t a b : List ℕ} {l : Layout} {w v : List ℕ} (hande
     good_said : (p q : Node) → IsNode n p → IsNode n q → says (mark_square l) u p q ≡ true → LostAbove (chosen l g) (axioms_of s) (axioms_of t) p q
     good_said p q i j h = rw (at_number n p i, at_number n q j) at (good.good (node_number n p) (node_number n q) (number_small n p i) (number_small n q j) (marked p q refl refl h))
 
-    step_sound : Step names edges a b l u x y → Means x y
+    step_sound : Step given u x y → Means x y
     step_sound (by_itself o) = forward_sound (comparable c g) (first_table_by c frame) (second_table_by c frame) (says (mark_square l) u) good_said (node_at n x) (node_at n y)
         (at_node n x x_in) (at_node n y y_in) (own_forward handed c u x_in y_in (inclusions.complete x x x_in x_in same) o)
     step_sound (by_above f) =

@@ -2,8 +2,8 @@
 --   ForwardMarked g s t l v     a cell is marked exactly when some signature concept lies above its row by the first release s and
 --                               not above its column by the second release t; where it is not, all that lies above is kept
 --   Forwarded g s t l w v       the memory w became v: its square of marks holds that, and all else is as before
---   ForwardFrom names edges a b l w v     so it is for all releases with the tables a and b whose inclusions w holds, and all signatures
---                                         of which this is handed on
+--   ForwardFrom given w v       so it is for all releases with the tables given whose inclusions w holds, and all signatures of which
+--                               the given names and edges are handed on
 use Rattle.std.specs.Prelude.{◌≡◌, true, List, ℕ, ◌≤◌}
 use Rattle.el.specs.Concepts.{Concept, concept_of}
 use Rattle.el.specs.Derivability.{Derives}
@@ -13,6 +13,7 @@ use Rattle.release.specs.Files.{axioms_of}
 use Rattle.marks.specs.Squares.{Marked, Frame}
 use Rattle.classification.specs.Inclusions.{node_at}
 use Rattle.layout.specs.declared.Layout.{Layout}
+use Rattle.layout.specs.declared.Given.{Given}
 use Rattle.layout.specs.Layouts.{mark_square, chosen}
 use Rattle.layout.specs.Findings.{Handed}
 use Rattle.layout.specs.Comparing.{Comparing}
@@ -26,5 +27,5 @@ pub record Forwarded (g s t : List ℕ) (l : Layout) (w v : List ℕ) : Type 0 w
   pub frame : Frame (mark_square l) w v
   pub marked : ForwardMarked g s t l v
 
-pub record ForwardFrom (names edges a b : List ℕ) (l : Layout) (w v : List ℕ) : Type 0 where
-  pub of_releases : (g s t : List ℕ) → Handed g a l.names l.roles names edges → Comparing s t a b l w → Forwarded g s t l w v
+pub record ForwardFrom (given : Given) (w v : List ℕ) : Type 0 where
+  pub of_releases : (g s t : List ℕ) → Handed g given → Comparing s t given w → Forwarded g s t given.layout w v

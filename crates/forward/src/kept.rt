@@ -1,135 +1,113 @@
 // The nodes that keep a partner of an edge, as a line, and the next node that it leaves open.
-ghost use Rattle.std.specs.Prelude.{◌≡◌, true, suc, ◌≤◌, ◌<◌};
+ghost use Rattle.std.specs.Prelude.{◌≡◌, true, ◌≤◌, ◌<◌};
 ghost use Rattle.el.proofs.Tests.{Tells};
 ghost use Rattle.release.specs.Files.{most_names};
 ghost use Rattle.release.specs.Tables.{role_at, filler_at};
-ghost use Rattle.marks.specs.Squares.{Room};
+ghost use Rattle.marks.specs.Squares.{Small, Room};
 ghost use Rattle.marks.specs.Lines.{Spans, Empty, Full};
-ghost use Rattle.layout.specs.Layouts.{Rowed, mark_square};
-ghost use Rattle.forward.specs.Rules.{Beneath, JoinedBelow, Serves, KeptBy, Kept, NextMissing};
+ghost use Rattle.layout.specs.Layouts.{Rowed, second_square, below_square, mark_square};
+ghost use Rattle.forward.specs.Rules.{Beneath, JoinedBelow, Serves, Kept, NextMissing};
 
-use layout::{Layout, is_marked};
+use layout::{Given, Layout};
 use marks::hints::Hint;
-use marks::rows::next_unmarked;
-use marks::{Square, behind, line};
-use release::table;
+use marks::{Square, line};
+use release::terminology::Terminology;
 
 // Whether the name is a restriction of the second release with the role, to a node that `end` is not marked with. The role is
 // looked at first, since most names have another.
-fn serves(second: &[u16], work: &[u8], layout: Layout, end: usize, role: usize, name: usize) -> bool
-    requires rowed { Rowed layout.names second.now }
-    requires room { Room (mark_square layout) work.now }
-    requires end_le_names { (end ≤ layout.names) × (name < layout.names) }
-    ensures { Tells result (Serves second.now layout work.now end role name) }
+fn serves(
+    second: &Terminology,
+    marks: Square,
+    work: &[u8],
+    end: usize,
+    role: usize,
+    name: usize,
+) -> bool
+    requires rowed { Rowed marks.names second.now.table.now }
+    requires room { Room marks work.now }
+    requires end_le_names { (end ≤ marks.names) × (name < marks.names) }
+    ensures { Tells result (Serves second.now.table.now marks work.now end role name) }
 {
-    let own = table::role(second, name);
-    if own != role {
+    if second.role(name) != role {
         return false;
     }
-    if table::is_restriction(second, name) {
-        let filler = table::filler(second, name);
-        if is_marked(work, layout, end, filler) {
-            return false;
-        }
-        return true;
+    if second.is_restriction(name) {
+        return !marks.is_marked(work, end, second.filler(name));
     }
     false
 }
 
-// Adds to the line what lies below the name by the second release: a row of the turned inclusions. They lie behind the others, where it
-// was noted what was seen of these, which is asked for no more.
-pub fn join_below(line: &mut [u8], work: &[u8], layout: Layout, name: usize)
-    requires beneath { Beneath layout work.now }
-    requires spans { Spans layout.names line.old }
-    requires name_lt_names { name < layout.names }
-    ensures { JoinedBelow layout work.now name line.old line.new }
+// The inclusions of the second release, turned: row c has what lies below the name c. They lie behind the others, where it was noted what
+// was seen of these, which is asked for no more.
+fn below(layout: Layout) -> Square
+    requires { Small (second_square layout) }
+    ensures { result ≡ below_square layout }
 {
-    let second = Square {
-        base: layout.second,
-        names: layout.names,
-    };
-    let below = behind(second, Hint::SEEN);
-    line::join(line, work, below, name);
+    layout.second_square().behind(Hint::SEEN)
 }
 
-// Adds what lies below the name, if it serves.
-fn keep_by(
-    second: &[u16],
-    work: &[u8],
-    kept: &mut [u8],
-    layout: Layout,
-    end: usize,
-    role: usize,
-    name: usize,
-)
-    requires rowed { Rowed layout.names second.now }
-    requires room { Room (mark_square layout) work.now × Beneath layout work.now }
-    requires spans { Spans layout.names kept.old }
-    requires end_le_names { (end ≤ layout.names) × (name < layout.names) }
-    ensures { KeptBy second.now layout work.now end role name kept.old kept.new }
+// Adds to the line what lies below the name by the second release.
+pub fn join_below(given: &Given, work: &[u8], line: &mut [u8], name: usize)
+    requires beneath { Beneath given.now.layout work.now }
+    requires spans { Spans given.now.layout.names line.old }
+    requires name_lt_names { name < given.now.layout.names }
+    ensures { JoinedBelow given.now.layout work.now name line.old line.new }
 {
-    if serves(second, work, layout, end, role, name) {
-        join_below(kept, work, layout, name);
-    }
+    below(given.layout).join(work, name, line);
 }
 
 // Adds all nodes that have an edge with the role by the second release, to a node that `end` is not marked with.
-fn keep(second: &[u16], work: &[u8], kept: &mut [u8], layout: Layout, end: usize, role: usize)
-    requires rowed { Rowed layout.names second.now }
-    requires room { Room (mark_square layout) work.now × Beneath layout work.now }
-    requires spans { Spans layout.names kept.old × Empty kept.old }
-    requires end_le_names { (end ≤ layout.names) × (layout.names ≤ most_names) }
-    ensures { Kept second.now layout work.now end role kept.new }
+fn keep(given: &Given, work: &[u8], kept: &mut [u8], end: usize, role: usize)
+    requires rowed { Rowed given.now.layout.names given.now.second.table.now }
+    requires room { Room (mark_square given.now.layout) work.now × Beneath given.now.layout work.now }
+    requires spans { Spans given.now.layout.names kept.old × Empty kept.old }
+    requires end_le_names { (end ≤ given.now.layout.names) × (given.now.layout.names ≤ most_names) }
+    ensures { Kept given.now work.now end role kept.new }
 {
-    let mut next = 0;
-    while next < layout.names {
-        let name = next;
-        next += 1;
-        keep_by(second, work, kept, layout, end, role, name);
+    // in variables of its own, so that a turn reads them from registers
+    let second = given.second;
+    let marks = given.layout.mark_square();
+    let below = below(given.layout);
+    for name in 0..marks.names {
+        if !serves(&second, marks, work, end, role, name) {
+            continue;
+        }
+        below.join(work, name, kept);
     }
 }
 
 // The line of the edge of x: all nodes that have a partner of it. Where it answers yes, row x is marked with all others; a no says nothing.
-pub fn keep_partners(
-    first: &[u16],
-    second: &[u16],
-    work: &[u8],
-    kept: &mut [u8],
-    layout: Layout,
-    x: usize,
-) -> bool
-    requires rowed { Rowed layout.names first.now × Rowed layout.names second.now }
-    requires room { Room (mark_square layout) work.now × Beneath layout work.now }
-    requires spans { Spans layout.names kept.old × Empty kept.old }
-    requires x_lt_names { (x < layout.names) × (filler_at first.now x ≤ layout.names) × (layout.names ≤ most_names) }
+// It stands in its callers' code, where the line is known to be apart from the work memory.
+#[inline(always)]
+pub fn keep_partners(given: &Given, work: &[u8], kept: &mut [u8], x: usize) -> bool
+    requires rowed { Rowed given.now.layout.names given.now.first.table.now × Rowed given.now.layout.names given.now.second.table.now }
+    requires room { Room (mark_square given.now.layout) work.now × Beneath given.now.layout work.now }
+    requires spans { Spans given.now.layout.names kept.old × Empty kept.old }
+    requires x_lt_names { (x < given.now.layout.names) × (filler_at given.now.first.table.now x ≤ given.now.layout.names) × (given.now.layout.names ≤ most_names) }
     ensures { Kept
-        second.now layout work.now (filler_at first.now x) (role_at first.now x) kept.new
-        × (result ≡ true → Full (mark_square layout) kept.new x work.now) }
+        given.now work.now (filler_at given.now.first.table.now x) (role_at given.now.first.table.now x) kept.new
+        × (result ≡ true → Full (mark_square given.now.layout) kept.new x work.now) }
 {
-    let role = table::role(first, x);
-    let end = table::filler(first, x);
-    keep(second, work, kept, layout, end, role);
-    let marks = Square {
-        base: layout.marks,
-        names: layout.names,
-    };
-    line::seems_full(work, marks, x, kept)
+    let role = given.first.role(x);
+    let end = given.first.filler(x);
+    keep(given, work, kept, end, role);
+    let marks = given.layout.mark_square();
+    marks.seems_full(work, x, kept)
 }
 
-// The first node from `from` on that x is not marked with and that is not in the line, or the number after the last node.
-pub fn next_missing(work: &[u8], marks: Square, x: usize, kept: &[u8], from: usize) -> usize
+// The first node from `from` on that x is not marked with and that is not in the line.
+pub fn next_missing(marks: Square, work: &[u8], x: usize, kept: &[u8], from: usize) -> Option<usize>
     requires room { Room marks work.now }
-    requires x_le_names { (x ≤ marks.names) × (from ≤ suc marks.names) }
+    requires x_le_names { x ≤ marks.names }
     requires spans { Spans marks.names kept.now }
     ensures { NextMissing marks work.now x kept.now from result }
 {
-    let mut y = next_unmarked(work, marks, x, from);
-    while y <= marks.names {
-        if line::has(kept, y) {
-            y = next_unmarked(work, marks, x, y + 1);
-        } else {
-            return y;
+    let mut next = from;
+    while let Some(y) = marks.next_unmarked(work, x, next) {
+        if !line::has(kept, y) {
+            return Some(y);
         }
+        next = y + 1;
     }
-    y
+    None
 }

@@ -7,8 +7,10 @@ ghost use Rattle.layout.specs.Layouts.{Setting};
 ghost use Rattle.forward.specs.Rules.{Beneath};
 ghost use Rattle.forward.specs.Forward.{ForwardFrom};
 
-use layout::Layout;
+use crate::sweep::LostAbove;
+use layout::Given;
 use marks::order::Order;
+use marks::rules;
 use marks::waiting::Waiting;
 
 mod consequences;
@@ -17,42 +19,18 @@ mod partner;
 mod propagation;
 mod sweep;
 
-// Marks those pairs, given the names of the signature, the edges with a role of it, the tables of the two releases and the squares of their
-// inclusions, those of the second release also with rows and columns exchanged. The locals are hints.
-pub fn mark_lost_above(
-    chosen_names: &[u8],
-    edges: &[u8],
-    first: &[u16],
-    second: &[u16],
-    work: &mut [u8],
-    layout: Layout,
-)
-    requires names_in_bounds { layout.names ≤ length chosen_names.now }
-    requires setting { Setting edges.now first.now second.now layout work.old }
-    requires names_le_most_names { layout.names ≤ most_names }
-    requires beneath { 1 ≤ layout.names → Beneath layout work.old }
-    ensures { ForwardFrom chosen_names.now edges.now first.now second.now layout work.old work.new }
+// Marks those pairs. The inclusions of the second release are there also with rows and columns exchanged. The locals are hints.
+pub fn mark_lost_above(given: &Given, work: &mut [u8])
+    requires names_in_bounds { given.now.layout.names ≤ length given.now.chosen_names.now }
+    requires setting { Setting given.now work.old }
+    requires names_le_most_names { given.now.layout.names ≤ most_names }
+    requires beneath { 1 ≤ given.now.layout.names → Beneath given.now.layout work.old }
+    ensures { ForwardFrom given.now work.old work.new }
 {
-    let mut order = [Order::NONE; Order::NODES];
-    let mut waiting = [0u16; Waiting::LENGTH];
-    propagation::begin(
-        chosen_names,
-        edges,
-        first,
-        second,
-        work,
-        &mut waiting,
-        &mut order,
-        layout,
-    );
-    sweep::close(
-        chosen_names,
-        edges,
-        first,
-        second,
-        work,
-        &mut waiting,
-        &order,
-        layout,
-    );
+    let mut order = Order::new();
+    let mut waiting = Waiting::new();
+    let lost = LostAbove { given };
+    propagation::begin(given, work, &mut waiting, &mut order);
+    rules::deal_with_all(&lost, work, &mut waiting);
+    rules::close(&lost, work, &mut waiting, &order);
 }

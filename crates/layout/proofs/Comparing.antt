@@ -12,6 +12,7 @@ use lib.Dec.{ltb}
 use Rattle.el.proofs.Tests.{and_left}
 use Rattle.el.specs.Terminologies.{Comparable, NamesBelow}
 use Rattle.el.proofs.Classification.{Table}
+use Rattle.release.specs.declared.table.Row as table
 use Rattle.release.specs.Files.{axioms_of}
 use Rattle.release.specs.Tables.{Shaped}
 use Rattle.release.proofs.Linked as linked
@@ -19,16 +20,20 @@ use Rattle.marks.specs.Squares.{Frame}
 use Rattle.classification.proofs.AxiomRows.{formed, ranges}
 use Rattle.classification.proofs.Meaning.{inclusions_stay, table_by}
 use Rattle.layout.specs.declared.Layout.{Layout}
+use Rattle.layout.specs.declared.Given.{Given}
 use Rattle.layout.specs.Layouts.{mark_square, chosen, Rowed, Edges, Setting}
 use Rattle.layout.specs.Comparing.{Comparing}
 
 pub chosen_below : (l : Layout) (g : List ℕ) → NamesBelow l.names (chosen l g)
 chosen_below l g x h = ltb-true x l.names (and_left (ltb x l.names) _ h)
 
-pub rowed : {n : ℕ} {s t : List ℕ} → Shaped n s t → Rowed n t
+pub rowed : {n : ℕ} {s : List ℕ} {t : List table.Row} → Shaped n s t → Rowed n t
 rowed h = record { rows = h.rows; filler = h.filler }
 
-module _ {s t a b : List ℕ} {l : Layout} {w : List ℕ} (c : Comparing s t a b l w) where
+module _ {s t : List ℕ} {given : Given} {w : List ℕ} (c : Comparing s t given w) where
+  abbrev pub l : Layout
+  l = given.layout
+
   pub comparable : (g : List ℕ) → Comparable l.names (chosen l g) (axioms_of s) (axioms_of t)
   comparable g = record {
     names_in = chosen_below l g;
@@ -38,14 +43,14 @@ module _ {s t a b : List ℕ} {l : Layout} {w : List ℕ} (c : Comparing s t a b
     second_terms = linked.terminology t c.second_release.accepted;
   }
 
-  pub first_shaped : Shaped l.names s a
+  pub first_shaped : Shaped l.names s given.first.table.now
   first_shaped = ranges c.first_release c.first_names
 
-  pub second_shaped : Shaped l.names t b
+  pub second_shaped : Shaped l.names t given.second.table.now
   second_shaped = ranges c.second_release c.second_names
 
-  pub setting : {edges : List ℕ} → Edges l.names a edges → Setting edges a b l w
-  setting e = record { edge_bytes = e; first_table = rowed first_shaped; second_table = rowed second_shaped; first = c.first_room; second = c.second_room; marks = c.room; areas = c.areas }
+  pub setting : Edges l.names given.first.table.now given.edges.now → Setting given w
+  setting e = record { edges = e; first_table = rowed first_shaped; second_table = rowed second_shaped; first = c.first_room; second = c.second_room; marks = c.room; areas = c.areas }
 
   -- while the marks change
   module _ {v : List ℕ} (f : Frame (mark_square l) w v) where

@@ -1,20 +1,23 @@
--- What a comparison of two releases reads: signature bytes g, or what was found of them (Findings), the tables a and b of the two, and
--- three squares in the memory w.
+-- What a comparison of two releases reads: signature bytes g, or what was found of them (Findings), the tables of the two, and three
+-- squares in the memory w. Where all of these travel together they are a Given.
 --   first_square l, second_square l     the squares of the inclusions of the first and the second release
 --   mark_square l                      the square of the marks of the comparison
 --   below_square l                     the square of the second release's inclusions, turned
 --   chosen l g                        the signature that the bytes g give
---   has_edge edges x                   the bytes have a 1 for the name x: it has an edge
---   Edges n a edges                   there is a byte for each of n names, and only restrictions have an edge
---   Setting edges a b l w             all of these are where the functions of a comparison read and write
-use Rattle.std.specs.Prelude.{ℕ, ◌*◌, ◌≤◌, ◌<◌, ◌≡◌, Bool, true, List, eqb, length, get_or}
+--   has_edge edges x                   it was found that the name x has an edge
+--   Rowed n t                         the table t has a row for each of n names, and its fillers are nodes
+--   Edges n a edges                   something was found of each of n names, and only restrictions of the table a have an edge
+--   Setting given w                   all of these are where the functions of a comparison read and write
+use Rattle.std.specs.Prelude.{ℕ, ◌≤◌, ◌<◌, ◌≡◌, Bool, true, false, List, length, get_or}
 use Rattle.el.specs.Signatures.{Signature}
+use Rattle.release.specs.declared.table.Row as table
 use Rattle.release.specs.Files.{restricts}
 use Rattle.release.specs.Tables.{kind_at, filler_at}
 use Rattle.signature.specs.Bytes.{signature_of}
 use Rattle.marks.specs.declared.Square.{Square}
 use Rattle.marks.specs.Squares.{Room, Area, behind}
 use Rattle.layout.specs.declared.Layout.{Layout}
+use Rattle.layout.specs.declared.Given.{Given}
 
 abbrev pub first_square : Layout → Square
 first_square l = record { base = l.first; names = l.names }
@@ -32,16 +35,15 @@ below_square l = behind (second_square l) 1
 abbrev pub chosen : Layout → List ℕ → Signature
 chosen l g = signature_of l.names l.roles g
 
-abbrev pub has_edge : List ℕ → ℕ → Bool
-has_edge edges x = eqb (get_or edges x 0) 1
+abbrev pub has_edge : List Bool → ℕ → Bool
+has_edge edges x = get_or edges x false
 
--- the table has a row for each of n names, and its fillers are nodes
-pub record Rowed (n : ℕ) (t : List ℕ) : Type 0 where
-  pub rows : 4 * n ≤ length t
+pub record Rowed (n : ℕ) (t : List table.Row) : Type 0 where
+  pub rows : n ≤ length t
   pub filler : (x : ℕ) → x < n → restricts (kind_at t x) ≡ true → filler_at t x ≤ n
 
-pub record Edges (n : ℕ) (a edges : List ℕ) : Type 0 where
-  pub bytes : n ≤ length edges
+pub record Edges (n : ℕ) (a : List table.Row) (edges : List Bool) : Type 0 where
+  pub long : n ≤ length edges
   pub restriction : (x : ℕ) → x < n → has_edge edges x ≡ true → restricts (kind_at a x) ≡ true
 
 -- the memory lent for the three squares is there
@@ -50,11 +52,11 @@ pub record Areas (l : Layout) (w : List ℕ) : Type 0 where
   pub second : Area (second_square l) w
   pub marks : Area (mark_square l) w
 
-pub record Setting (edges a b : List ℕ) (l : Layout) (w : List ℕ) : Type 0 where
-  pub edge_bytes : Edges l.names a edges
-  pub first_table : Rowed l.names a
-  pub second_table : Rowed l.names b
-  pub first : Room (first_square l) w
-  pub second : Room (second_square l) w
-  pub marks : Room (mark_square l) w
-  pub areas : Areas l w
+pub record Setting (given : Given) (w : List ℕ) : Type 0 where
+  pub edges : Edges given.layout.names given.first.table.now given.edges.now
+  pub first_table : Rowed given.layout.names given.first.table.now
+  pub second_table : Rowed given.layout.names given.second.table.now
+  pub first : Room (first_square given.layout) w
+  pub second : Room (second_square given.layout) w
+  pub marks : Room (mark_square given.layout) w
+  pub areas : Areas given.layout w

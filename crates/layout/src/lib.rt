@@ -1,12 +1,12 @@
-// What a comparison of two releases reads: the inclusions of both, the marks so far, and the signature.
+// What a comparison of two releases reads: the two terminologies, the inclusions of both, the marks so far, and what is handed on of the
+// signature.
 #![tactic(auto)]
 
 ghost use Rattle.std.specs.Prelude.{◌≡◌, ◌≤◌, length};
-ghost use Rattle.el.proofs.Tests.{Tells};
-ghost use Rattle.marks.specs.Squares.{Room, Marked, Put};
-ghost use Rattle.layout.specs.Layouts.{first_square, mark_square, chosen};
+ghost use Rattle.layout.specs.Layouts.{first_square, second_square, mark_square, chosen};
 
 use marks::Square;
+use release::terminology::Terminology;
 
 pub mod edges;
 
@@ -21,64 +21,53 @@ pub struct Layout {
     pub marks: usize,
 }
 
-// Whether x ⊑ y is derivable from the first release.
-pub fn first_includes(work: &[u8], layout: Layout, x: usize, y: usize) -> bool
-    requires room { Room (first_square layout) work.now }
-    requires x_le_names { (x ≤ layout.names) × (y ≤ layout.names) }
-    ensures { Tells result (Marked (first_square layout) work.now x y) }
-{
-    marks::is_marked(
-        work,
+impl Layout {
+    // The square of the first release's inclusions.
+    pub fn first_square(self) -> Square
+        ensures { result ≡ first_square self }
+    {
         Square {
-            base: layout.first,
-            names: layout.names,
-        },
-        x,
-        y,
-    )
-}
-
-// Whether the comparison has marked the pair x, y.
-pub fn is_marked(work: &[u8], layout: Layout, x: usize, y: usize) -> bool
-    requires room { Room (mark_square layout) work.now }
-    requires x_le_names { (x ≤ layout.names) × (y ≤ layout.names) }
-    ensures { Tells result (Marked (mark_square layout) work.now x y) }
-{
-    marks::is_marked(
-        work,
-        Square {
-            base: layout.marks,
-            names: layout.names,
-        },
-        x,
-        y,
-    )
-}
-
-// Marks the pair x, y. Whether it was not marked yet.
-pub fn mark(work: &mut [u8], layout: Layout, x: usize, y: usize) -> bool
-    requires room { Room (mark_square layout) work.old }
-    requires x_le_names { (x ≤ layout.names) × (y ≤ layout.names) }
-    ensures { Put (mark_square layout) x y work.old work.new result }
-{
-    marks::mark(
-        work,
-        Square {
-            base: layout.marks,
-            names: layout.names,
-        },
-        x,
-        y,
-    )
-}
-
-// Whether a name is in the signature, of which the bytes of the names are read.
-pub fn has_name(chosen_names: &[u8], layout: Layout, name: usize) -> bool
-    requires { layout.names ≤ length chosen_names.now }
-    ensures { result ≡ (chosen layout chosen_names.now).has_name name }
-{
-    if name < layout.names {
-        return chosen_names[name] == 1;
+            base: self.first,
+            names: self.names,
+        }
     }
-    false
+
+    // The square of the second release's inclusions.
+    pub fn second_square(self) -> Square
+        ensures { result ≡ second_square self }
+    {
+        Square {
+            base: self.second,
+            names: self.names,
+        }
+    }
+
+    // The square of the marks of the comparison.
+    pub fn mark_square(self) -> Square
+        ensures { result ≡ mark_square self }
+    {
+        Square {
+            base: self.marks,
+            names: self.names,
+        }
+    }
+
+    // Whether a name is in the signature, of which the bytes of the names are read.
+    pub fn has_name(self, chosen_names: &[u8], name: usize) -> bool
+        requires { self.names ≤ length chosen_names.now }
+        ensures { result ≡ (chosen self chosen_names.now).has_name name }
+    {
+        name < self.names && chosen_names[name] == 1
+    }
+}
+
+// What marks are put by: the bytes of the signature's names, whether each name has an edge with a role of it (edges), the two
+// terminologies, and the squares.
+#[derive(Clone, Copy)]
+pub struct Given<'a> {
+    pub chosen_names: &'a [u8],
+    pub edges: &'a [bool],
+    pub first: Terminology<'a>,
+    pub second: Terminology<'a>,
+    pub layout: Layout,
 }

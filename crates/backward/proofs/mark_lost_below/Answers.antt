@@ -1,22 +1,21 @@
+-- All growth is by the rules, and the last pass finds nothing left to mark.
 use Rattle.marks.proofs.Passes.{closed_further}
-use Rattle.backward.proofs.Tested.{setting, setting_stays, named, squares, name_grows, below_grows, follows_grows}
+use Rattle.backward.specs.Rules.{setting_stays}
+use Rattle.backward.proofs.Tested.{setting, named, squares, name_grows, below_grows, follows_grows}
 use Rattle.backward.proofs.Meaning.{backwarded}
 use Rattle.backward.proofs.mark_lost_below.Goals as goal
 
-pub sort-requires : goal.sort-requires
-sort-requires c = let h = setting c.requires.edges c.requires.comparing in record { room = h.places.first; names_bound = h.few }
+pub sort-requires-clause-names_bound : goal.sort-requires-clause-names_bound
+sort-requires-clause-names_bound c = rw c.first_square.ensures (setting c.requires.names_in_bounds c.requires.edges c.requires.comparing).few
 
 pub mark_names-requires : goal.mark_names-requires
-mark_names-requires c = named (setting c.requires.edges c.requires.comparing) c.requires.names_in_bounds
+mark_names-requires c = named (setting c.requires.names_in_bounds c.requires.edges c.requires.comparing)
 
 pub hand_all_up-requires : goal.hand_all_up-requires
-hand_all_up-requires c = squares (setting_stays c.mark_names.ensures (setting c.requires.edges c.requires.comparing))
+hand_all_up-requires c = squares (setting_stays c.mark_names.ensures (setting c.requires.names_in_bounds c.requires.edges c.requires.comparing))
 
 pub close-requires : goal.close-requires
-close-requires c = record {
-  names_in_bounds = c.requires.names_in_bounds;
-  setting = setting_stays c.hand_all_up.ensures (setting_stays c.mark_names.ensures (setting c.requires.edges c.requires.comparing));
-}
+close-requires c = setting_stays c.hand_all_up.ensures (setting_stays c.mark_names.ensures (setting c.requires.names_in_bounds c.requires.edges c.requires.comparing))
 
 pub returns : goal.returns
 returns c = record {

@@ -1,14 +1,8 @@
-use Prim.Native.Nat.{◌-◌}
-use mathlib.Core.Path.{◌≡◌}
-use lib.ListN.{length}
-use Rattle.layout.specs.Layouts.{mark_square}
+-- The loop's invariant: the marks grow by the rule.
 use Rattle.marks.specs.Passes.{Grows}
+use Rattle.layout.specs.Layouts.{mark_square}
 use Rattle.backward.specs.Rules.{NameLost}
 use Rattle.backward.proofs.propagation.mark_names.Given as goal
 
--- marks put by names
-abbrev pub invariant-loop-next : goal.invariant-loop-next
-invariant-loop-next l = (length l.work ≡ length l.initial.work) × Grows (NameLost l.chosen_names l.layout) (mark_square l.layout) l.initial.work l.work
-
-abbrev pub decreases-loop-next : goal.decreases-loop-next
-decreases-loop-next l = l.layout.names - l.next
+abbrev pub invariant-loop-x : goal.invariant-loop-x
+invariant-loop-x l = Grows (NameLost l.given) (mark_square l.given.layout) l.initial.work l.work

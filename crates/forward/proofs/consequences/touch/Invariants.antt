@@ -1,11 +1,6 @@
--- The line is a hint, so only its length is at stake. Invariant: the line keeps its length.
-use Prim.Native.Nat.{suc, ◌-◌}
-use mathlib.Core.Path.{◌≡◌}
-use lib.ListN.{length}
+-- The line is a hint, so only its length is at stake.
+use Rattle.marks.specs.Columns.{Walkable}
 use Rattle.forward.proofs.consequences.touch.Given as goal
 
-abbrev pub invariant-loop-next : goal.invariant-loop-next
-invariant-loop-next l = length l.touched ≡ length l.initial.touched
-
-abbrev pub decreases-loop-next : goal.decreases-loop-next
-decreases-loop-next l = suc l.layout.names - l.next
+abbrev pub invariant-loop-filler : goal.invariant-loop-filler
+invariant-loop-filler l = Walkable l.given.layout.names l.filler-iterator

@@ -1,32 +1,23 @@
 -- One row: marks taken from above, then those of its edge; both are steps of the rules.
-use mathlib.Core.Path.{refl}
-use Rattle.marks.proofs.Squares.{frame_room}
-use Rattle.marks.proofs.Passes.{grows_frame, grows_further}
-use Rattle.forward.proofs.Tested.{setting_stays, taking_grows}
+use Rattle.marks.proofs.Passes.{grows_further}
+use Rattle.forward.specs.Rules.{setting_stays}
+use Rattle.forward.proofs.Tested.{taking_grows}
 use Rattle.forward.proofs.propagation.first_row.Goals as goal
 
-pub take-requires : goal.take-requires
-take-requires c = record {
-  room = (c.requires.setting.places.first, c.requires.setting.places.marks);
-  alike = record { same = refl; few = c.requires.setting.few };
-  spans = c.requires.spans;
-  x_le_names = c.requires.x_le_names;
-}
+pub first_edge-requires-clause-setting : goal.first_edge-requires-clause-setting
+first_edge-requires-clause-setting c =
+    let squares = c.taking.ensures.squares in
+    let grows = rw (c.taking.ensures.direction, squares.0, squares.1) at c.hand.ensures.grows in
+    setting_stays grows c.requires.setting
 
-pub wait_for_above-requires : goal.wait_for_above-requires
-wait_for_above-requires c = record {
-  room = frame_room (grows_frame c.take.ensures.grows) c.requires.setting.places.first;
-  spans = c.requires.spans;
-  x_le_names = (c.requires.x_le_names, c.requires.setting.few);
-}
+pub returns-then-x-given : goal.returns-then-x-given
+returns-then-x-given c =
+    let squares = c.taking.ensures.squares in
+    let grows = rw (c.taking.ensures.direction, squares.0, squares.1) at c.hand.ensures.grows in
+    grows_further (taking_grows grows) c.first_edge.ensures
 
-pub first_edge-requires : goal.first_edge-requires
-first_edge-requires c = record { setting = setting_stays c.take.ensures.grows c.requires.setting; spans = c.requires.spans; x_lt_names = c.if-x-layout.true }
-
-pub returns-then-x-layout : goal.returns-then-x-layout
-returns-then-x-layout c =
-    grows_further (taking_grows c.take.ensures.grows) c.first_edge.ensures
-
-pub returns-else-x-layout : goal.returns-else-x-layout
-returns-else-x-layout c =
-    taking_grows c.take.ensures.grows
+pub returns-else-x-given : goal.returns-else-x-given
+returns-else-x-given c =
+    let squares = c.taking.ensures.squares in
+    let grows = rw (c.taking.ensures.direction, squares.0, squares.1) at c.hand.ensures.grows in
+    taking_grows grows

@@ -1,11 +1,6 @@
-use Prim.Native.Nat.{◌≤◌, ◌-◌}
-use mathlib.Core.Path.{◌≡◌}
-use lib.ListN.{length}
+-- All names, one after the other. Invariant: it is told of the names before this one whether their role is chosen.
 use Rattle.layout.proofs.Findings.{FoundTo}
 use Rattle.layout.proofs.edges.find_edges.Given as goal
 
 abbrev pub invariant-loop-x : goal.invariant-loop-x
-invariant-loop-x l = (l.x ≤ l.names) × (length l.edges ≡ length l.initial.edges) × FoundTo l.signature l.table l.names l.roles l.x l.edges
-
-abbrev pub decreases-loop-x : goal.decreases-loop-x
-decreases-loop-x l = l.names - l.x
+invariant-loop-x l = FoundTo l.signature l.first.table.now l.names l.roles l.x l.edges

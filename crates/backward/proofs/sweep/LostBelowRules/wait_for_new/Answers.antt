@@ -1,0 +1,6 @@
+-- No mark is put.
+use Rattle.marks.specs.Passes.{none}
+use Rattle.backward.proofs.sweep.LostBelowRules.wait_for_new.Goals as goal
+
+pub returns : goal.returns
+returns c = none
