@@ -13,7 +13,7 @@ use lib.Seq.{get_or-set_same, get_or-set_other}
 use Rattle.el.specs.Concepts.{named}
 use Rattle.el.specs.Signatures.{LeftWitness, RightWitness}
 use Rattle.el.specs.Comparison.{IsByte}
-use Rattle.el.specs.Answers.{byte_of, node}
+use Rattle.el.specs.Answers.{node}
 use Rattle.el.proofs.Tests.{Tells, which, not_both}
 use Rattle.el.proofs.ForwardMarks.{LostAbove}
 use Rattle.el.proofs.BackwardMarks.{LostBelow}
@@ -29,12 +29,6 @@ use Rattle.backward.proofs.Columns.{column_name}
 use Rattle.comparison.specs.Bytes.{ByMarks, ByteAt, Written}
 
 module _ {g : List ℕ} {f h : Layout} {w : List ℕ} where
-  pub byte_inside : {a b : ℕ} {l r : Bool} → (chosen f g).has_name a ≡ true → Tells l (Marked (mark_square f) w a a) → Tells r (Marked (mark_square h) w a a) → b ≡ byte_of l r → ByteAt g f h w a b
-  byte_inside {l = l} {r = r} i left right e = record { inside = λ z. record { is_left = l; is_right = r; left = left; right = right; is = e }; outside = λ z. absurd (not_both i z) }
-
-  pub byte_outside : {a : ℕ} → (chosen f g).has_name a ≡ false → ByteAt g f h w a 0
-  byte_outside o = record { inside = λ z. absurd (not_both z o); outside = λ z. refl }
-
   pub written_none : {r : List ℕ} → Written g f h w 0 r r
   written_none = record { long = refl; byte = λ a l. absurd (omega arith); past = λ i l. refl }
 

@@ -1,5 +1,4 @@
 -- Laws of the comparison.
 pub mod Rows
 pub mod Bytes
-pub mod Cleared
 pub mod Pipeline

@@ -1,8 +1,7 @@
--- What a comparison asks and gives: signature bytes g, the files s and t of two releases with n names and their tables a and b, m
--- roles, the memory w.
---   BothGiven s t a b n w           accepted releases, and memory for four squares of k cells each
---   Given g s t a b n m w           and an accepted signature
---   BothIncluded s t n k w v        the memory w became v: the first two squares hold the inclusions of the releases, the others are
+-- What a comparison asks and gives: signature bytes g, two releases r with the files s and t, n names and m roles, the memory w.
+--   BothGiven r w                   accepted releases with their tables, and memory for four squares
+--   Given g r w                     and an accepted signature
+--   BothIncluded s t n k w v        the memory w became v: the first two squares, of k cells each, hold the inclusions of the releases, the others are
 --                                   0, and later bytes are as before
 --   Ready s t n k v                 so it is in v, and the second square is turned behind its rows: all that signatures share
 --   Prepared s t n k w v            the memory w became v, which is ready; later bytes are as before
@@ -19,18 +18,14 @@ use Rattle.release.specs.Files.{names_of, axioms_of}
 use Rattle.release.specs.Tables.{Release}
 use Rattle.signature.specs.Bytes.{signature_fault, signature_of}
 use Rattle.marks.specs.declared.Square.{Square}
-use Rattle.marks.specs.Squares.{span, most_cells, behind}
+use Rattle.marks.specs.Squares.{span, behind}
 use Rattle.marks.specs.Inclusions.{Turned}
 use Rattle.marks.specs.Memory.{size}
 use Rattle.classification.specs.Inclusions.{Inclusions}
 use Rattle.layout.specs.declared.Layout.{Layout}
+use Rattle.comparison.specs.declared.Releases.{Releases}
 use Rattle.forward.specs.Forward.{ForwardMarked}
 use Rattle.backward.specs.Backward.{BackwardMarked}
-
--- the number of cells of one square
-pub record IsSize (n k : ℕ) : Type 0 where
-  pub is : k ≡ size n
-  pub small : k ≤ most_cells
 
 -- the four squares one after the other
 abbrev pub forward_layout : ℕ → ℕ → ℕ → Layout
@@ -42,16 +37,16 @@ backward_layout n m k = record { names = n; roles = m; first = 0; second = k; ma
 abbrev pub square_at : ℕ → ℕ → Square
 square_at n base = record { base = base; names = n }
 
-pub record BothGiven (s t a b : List ℕ) (n : ℕ) (w : List ℕ) : Type 0 where
-  pub first : Release s a
-  pub second : Release t b
-  pub first_names : n ≡ names_of s
-  pub second_names : n ≡ names_of t
-  pub room : 4 * size n ≤ length w
+pub record BothGiven (r : Releases) (w : List ℕ) : Type 0 where
+  pub first : Release r.first.file.now r.first.table.now
+  pub second : Release r.second.file.now r.second.table.now
+  pub first_names : r.names ≡ names_of r.first.file.now
+  pub second_names : r.names ≡ names_of r.second.file.now
+  pub room : 4 * size r.names ≤ length w
 
-pub record Given (g s t a b : List ℕ) (n m : ℕ) (w : List ℕ) : Type 0 where
-  pub both : BothGiven s t a b n w
-  pub signature : signature_fault n m g ≡ 0
+pub record Given (g : List ℕ) (r : Releases) (w : List ℕ) : Type 0 where
+  pub both : BothGiven r w
+  pub signature : signature_fault r.names r.roles g ≡ 0
 
 pub record BothIncluded (s t : List ℕ) (n k : ℕ) (w v : List ℕ) : Type 0 where
   pub long : length v ≡ length w

@@ -1,87 +1,49 @@
 // The inclusions of two releases, which a comparison over any signature begins with.
 ghost use Rattle.std.specs.Prelude.{◌*◌, ◌≤◌, length};
 ghost use Rattle.release.specs.Files.{most_names};
-ghost use Rattle.comparison.specs.Compared.{IsSize, SecondTurned, BothGiven, BothIncluded, Prepared};
+ghost use Rattle.marks.specs.Memory.{size};
+ghost use Rattle.comparison.specs.Compared.{SecondTurned, BothGiven, BothIncluded, Prepared};
 
+use crate::Releases;
 use classification::classify;
 use classification::hints::list_below;
-use marks::Square;
-use marks::turned::turn;
+use marks::hints::Hint;
 
-// Fills the first two of four squares of `size` cells, one after the other: the inclusions of the first release, and those of the
-// second. What lies below each node by the first is noted as a hint for the forward marks.
-fn fill_inclusions(
-    first: &[u8],
-    second: &[u8],
-    first_table: &[u16],
-    second_table: &[u16],
-    work: &mut [u8],
-    names: usize,
-    size: usize,
-)
-    requires both_given { BothGiven first.now second.now first_table.now second_table.now names work.old }
-    requires size { IsSize names size }
-    ensures { BothIncluded first.now second.now names size work.old work.new }
+// Fills the first two of four squares, one after the other: the inclusions of the first release, and those of the second. What lies
+// below each node by the first is noted as a hint for the forward marks.
+fn fill_inclusions(releases: &Releases, work: &mut [u8])
+    requires { BothGiven releases.now work.old }
+    ensures { BothIncluded releases.now.first.file.now releases.now.second.file.now releases.now.names (size releases.now.names) work.old work.new }
 {
-    marks::clear(work, 4 * size);
-    classify(
-        first,
-        first_table,
-        work,
-        Square {
-            base: 0,
-            names: names,
-        },
-    );
-    classify(
-        second,
-        second_table,
-        work,
-        Square {
-            base: size,
-            names: names,
-        },
-    );
-    list_below(
-        work,
-        Square {
-            base: 0,
-            names: names,
-        },
-    );
+    let layout = releases.forward_layout();
+    let first = layout.first_square();
+    let second = layout.second_square();
+    marks::clear(work, 4 * marks::size(releases.names));
+    classify(&releases.first, work, first);
+    classify(&releases.second, work, second);
+    list_below(first, work);
 }
 
 // Puts the inclusions of the second release behind its square, rows and columns exchanged, for the forward marks. Without names there is
 // no room for that, and no need.
-fn turn_second(work: &mut [u8], names: usize, size: usize)
-    requires { (names ≤ most_names) × IsSize names size × (4 * size ≤ length work.old) }
-    ensures { SecondTurned names size work.old work.new }
+fn turn_second(releases: &Releases, work: &mut [u8])
+    requires { (releases.now.names ≤ most_names) × (4 * size releases.now.names ≤ length work.old) }
+    ensures { SecondTurned releases.now.names (size releases.now.names) work.old work.new }
 {
-    if 0 < names {
-        let second = Square {
-            base: size,
-            names: names,
-        };
-        let below = marks::behind(second, 1);
-        marks::clear_rows(work, below);
-        turn(work, second, below);
+    if 0 < releases.names {
+        let layout = releases.forward_layout();
+        let second = layout.second_square();
+        let below = second.behind(Hint::SEEN);
+        below.clear_rows(work);
+        second.turn(work, below);
     }
 }
 
 // Both: the first two squares are filled, and nothing stands in the other two.
-pub fn prepare(
-    first: &[u8],
-    second: &[u8],
-    first_table: &[u16],
-    second_table: &[u16],
-    work: &mut [u8],
-    names: usize,
-    size: usize,
-)
-    requires both_given { BothGiven first.now second.now first_table.now second_table.now names work.old }
-    requires size { IsSize names size }
-    ensures { Prepared first.now second.now names size work.old work.new }
+pub fn prepare(releases: &Releases, work: &mut [u8])
+    requires { BothGiven releases.now work.old }
+    ensures { Prepared releases.now.first.file.now releases.now.second.file.now releases.now.names (size releases.now.names) work.old work.new }
 {
-    fill_inclusions(first, second, first_table, second_table, work, names, size);
-    turn_second(work, names, size);
+    fill_inclusions(releases, work);
+    turn_second(releases, work);
 }

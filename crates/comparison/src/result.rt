@@ -3,22 +3,18 @@ ghost use Rattle.std.specs.Prelude.{◌≡◌, ◌≤◌, ◌<◌, length};
 ghost use Rattle.el.specs.Answers.{byte_of};
 ghost use Rattle.comparison.specs.Bytes.{Readable, ByteAt, Written};
 
-use layout::{Layout, has_name, is_marked};
+use layout::Layout;
 
 // The byte of a name of the signature: 1 for a left witness, 2 for a right one, 3 for both.
 fn byte(left: bool, right: bool) -> u8
     ensures { result ≡ byte_of left right }
 {
-    if left {
-        if right {
-            return 3;
-        }
-        return 1;
+    match (left, right) {
+        (false, false) => 0,
+        (true, false) => 1,
+        (false, true) => 2,
+        (true, true) => 3,
     }
-    if right {
-        return 2;
-    }
-    0
 }
 
 // The byte of a name: 0 outside the signature.
@@ -27,9 +23,9 @@ fn byte_of(signature: &[u8], work: &[u8], forward: Layout, backward: Layout, nam
     requires name_lt_names { name < forward.names }
     ensures { ByteAt signature.now forward backward work.now name result }
 {
-    if has_name(signature, forward, name) {
-        let left = is_marked(work, forward, name, name);
-        let right = is_marked(work, backward, name, name);
+    if forward.has_name(signature, name) {
+        let left = forward.mark_square().is_marked(work, name, name);
+        let right = backward.mark_square().is_marked(work, name, name);
         return byte(left, right);
     }
     0
@@ -47,10 +43,8 @@ pub fn write_bytes(
     requires names_in_bounds { forward.names ≤ length result_bytes.old }
     ensures { Written signature.now forward backward work.now forward.names result_bytes.old result_bytes.new }
 {
-    let mut name = 0;
-    while name < forward.names {
+    for name in 0..forward.names {
         let byte = byte_of(signature, work, forward, backward, name);
         result_bytes[name] = byte;
-        name += 1;
     }
 }

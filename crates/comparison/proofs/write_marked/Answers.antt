@@ -1,8 +1,15 @@
-use Rattle.comparison.proofs.Pipeline.{readable, marking}
+-- What marking gives is what writing the bytes asks.
+use Rattle.comparison.proofs.Pipeline.{few, readable, marking}
 use Rattle.comparison.proofs.write_marked.Goals as goal
 
-pub write_bytes-requires : goal.write_bytes-requires
-write_bytes-requires c = record { readable = readable c.requires.given c.requires.size.0 c.mark.ensures; names_in_bounds = c.requires.names_in_bounds }
+pub forward_layout-forward-requires : goal.forward_layout-forward-requires
+forward_layout-forward-requires c = few c.requires.given.both
+
+pub backward_layout-backward-requires : goal.backward_layout-backward-requires
+backward_layout-backward-requires c = few c.requires.given.both
+
+pub write_bytes-requires-clause-readable : goal.write_bytes-requires-clause-readable
+write_bytes-requires-clause-readable c = rw (c.forward_layout-forward.ensures, c.backward_layout-backward.ensures) (readable c.requires.given.both c.mark.ensures c.requires.given.signature)
 
 pub returns : goal.returns
-returns c = marking c.requires.given c.requires.size.0 c.mark.ensures c.write_bytes.ensures
+returns c = marking c.requires.given.both c.mark.ensures (rw (c.forward_layout-forward.ensures, c.backward_layout-backward.ensures) at c.write_bytes.ensures)

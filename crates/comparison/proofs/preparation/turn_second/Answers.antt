@@ -1,23 +1,36 @@
+-- Behind the second square there is room for it turned, where there is a name.
 use native.Mathlib.Omega.{arith}
 use Rattle.marks.proofs.Squares.{touches_room}
 use Rattle.comparison.proofs.Pipeline.{unchanged, second_area, below_room, below_after, below_names, turned_second}
 use Rattle.comparison.proofs.preparation.turn_second.Goals as goal
 
 pub behind-below-requires : goal.behind-below-requires
-behind-below-requires c = let p = c.requires in (record { few = omega (arith, p.0); near = omega (arith, p.1.small) }, omega arith)
+behind-below-requires c = rw (c.second_square-second.ensures, c.forward_layout-layout.ensures) ((second_area c.requires.0 c.requires.1 c.if-releases-gt0.true).room.small, omega arith)
 
 pub clear_rows-requires : goal.clear_rows-requires
-clear_rows-requires c = let p = c.requires in below_room p.0 p.1 p.2 c.if-names-gt0.true c.behind-below.ensures
+clear_rows-requires c =
+    let is = rw (c.second_square-second.ensures, c.forward_layout-layout.ensures) at c.behind-below.ensures in
+    below_room c.requires.0 c.requires.1 c.if-releases-gt0.true is
 
-pub turn-requires : goal.turn-requires
-turn-requires c = let p = c.requires in let t = c.clear_rows.ensures.0 in record {
-  room = (touches_room t (second_area p.0 p.1 p.2 c.if-names-gt0.true).room, touches_room t (below_room p.0 p.1 p.2 c.if-names-gt0.true c.behind-below.ensures));
-  names_value = (below_names _ _ c.behind-below.ensures, below_after _ _ c.behind-below.ensures);
-  unmarked = c.clear_rows.ensures.1;
-}
+pub turn-requires-clause-room : goal.turn-requires-clause-room
+turn-requires-clause-room c =
+    let is = rw (c.second_square-second.ensures, c.forward_layout-layout.ensures) at c.behind-below.ensures in
+    let touches = c.clear_rows.ensures.0 in
+    let some = c.if-releases-gt0.true in (
+      rw (c.second_square-second.ensures, c.forward_layout-layout.ensures) (touches_room touches (second_area c.requires.0 c.requires.1 some).room),
+      touches_room touches (below_room c.requires.0 c.requires.1 some is),
+    )
 
-pub returns-then-names-gt0 : goal.returns-then-names-gt0
-returns-then-names-gt0 c = let p = c.requires in turned_second p.0 p.1 p.2 c.if-names-gt0.true c.behind-below.ensures c.clear_rows.ensures.0 c.turn.ensures.1 c.turn.ensures.0
+pub turn-requires-clause-names_value : goal.turn-requires-clause-names_value
+turn-requires-clause-names_value c =
+    let is = rw (c.second_square-second.ensures, c.forward_layout-layout.ensures) at c.behind-below.ensures in
+    rw (c.second_square-second.ensures, c.forward_layout-layout.ensures) (below_names _ _ is, below_after _ _ is)
 
-pub returns-else-names-gt0 : goal.returns-else-names-gt0
-returns-else-names-gt0 c = unchanged (omega (arith, c.if-names-gt0.false))
+pub returns-then-releases-gt0 : goal.returns-then-releases-gt0
+returns-then-releases-gt0 c =
+    let is = rw (c.second_square-second.ensures, c.forward_layout-layout.ensures) at c.behind-below.ensures in
+    turned_second c.requires.0 c.requires.1 c.if-releases-gt0.true is c.clear_rows.ensures.0 c.turn.ensures.hints.touches
+    (rw (c.second_square-second.ensures, c.forward_layout-layout.ensures) at c.turn.ensures.turned c.clear_rows.ensures.1)
+
+pub returns-else-releases-gt0 : goal.returns-else-releases-gt0
+returns-else-releases-gt0 c = unchanged (omega (arith, c.if-releases-gt0.false))
