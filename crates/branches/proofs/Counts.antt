@@ -1,30 +1,38 @@
 -- Laws of counting.
---   count_more, count_next, count_all     one element more, the same in a loop, all of them
+--   count_filter, count_few      how many pass a filter, and that they are no more than there are
 --   count_left, count_right, count_reported     the tests of a row by the values of bytes
---   share_none, share_some       the share, by its test
+--   share_divided                the share, by whether a name is chosen
 --   told                         a row by its counts
 use mathlib.Core.Path.{◌≡◌, refl, sym, ap, ap₂, ◌∙◌}
-use mathlib.Core.Bool.{Bool, true, false, ◌||◌}
-use mathlib.Core.List.{List, [], ◌∷◌, ◌++◌}
+use mathlib.Core.Bool.{Bool, true, false, ◌||◌, cond}
+use mathlib.Core.List.{List, [], ◌∷◌}
 use mathlib.Core.Logic.{inl, inr}
-use Prim.Native.Nat.{ℕ, suc, ◌+◌, ◌*◌, ◌/◌, ◌≤◌, ◌<◌}
+use Prim.Native.Nat.{ℕ, ◌+◌, ◌*◌, ◌/◌, ◌≤◌, ◌<◌}
 use native.Mathlib.Omega.{arith}
 use borrow.Author.Tests.{eqb-true, eq-eqb, ne_eqb}
 use lib.Dec.{eqb}
-use lib.ListN.{length, get_or, take}
-use lib.Seq.{take-suc, take_all}
+use lib.ListN.{length}
+use Rattle.std.specs.List.{filter}
+use Rattle.std.specs.Option.{SomeIff, unwrap_or}
+use Rattle.std.specs.Prelude.{Option, Some, None}
+use Rattle.std.proofs.lemmas.List.Recursion.{is_count_by}
+use Rattle.std.proofs.lemmas.List.Sums.{length-filter, count_by-le-length}
 use Rattle.el.specs.Lists.{pick, count}
 use Rattle.el.specs.Comparison.{on_left, on_right, is_reported}
 use Rattle.el.proofs.Tests.{which}
 use Rattle.branches.specs.Rows.{is_chosen, share, row_of}
 
-count_append : (p : ℕ → Bool) (xs : List ℕ) (x : ℕ) → count p (xs ++ (x ∷ [])) ≡ count p xs + pick (p x) 1 0
+-- how many pass a filter
+pub count_filter : (p : ℕ → Bool) (bs : List ℕ) → length (filter p bs) ≡ count p bs
 unfolding count
-count_append p [] x = omega arith
-count_append p (y ∷ ys) x = let h : count p (ys ++ (x ∷ [])) ≡ count p ys + pick (p x) 1 0 = count_append p ys x in omega arith
+count_filter p bs = length-filter p bs ∙ sym (is_count_by (count p) p refl (λ b l. one (p b) (count p l)) bs)
+  where
+    one : (t : Bool) (k : ℕ) → pick t 1 0 + k ≡ cond t (1 + k) k
+    one true k = refl
+    one false k = omega arith
 
-pub count_more : (p : ℕ → Bool) (bs : List ℕ) (i : ℕ) → i < length bs → count p (take (suc i) bs) ≡ count p (take i bs) + pick (p (get_or bs i 0)) 1 0
-count_more p bs i l = ap (count p) (take-suc bs i 0 l) ∙ count_append p (take i bs) (get_or bs i 0)
+pub count_few : (p : ℕ → Bool) (bs : List ℕ) → count p bs ≤ length bs
+count_few p bs = rw (← count_filter p bs, length-filter) (count_by-le-length p bs)
 
 -- two tests that never hold together
 module _ (p q r : ℕ → Bool) (either : (b : ℕ) → pick (p b) 1 0 + pick (q b) 1 0 ≡ pick (r b) 1 0) where
@@ -72,29 +80,20 @@ count_reported bs =
     let all : count on_left bs + count (is 2) bs ≡ count is_reported bs = count_either on_left (is 2) is_reported reported_once bs in
     omega arith
 
--- shares
-pub share_none : (r c : ℕ) → c ≡ 0 → 0 ≡ share r c
+-- the share, by whether a name is chosen
+pub share_divided : (r c : ℕ) (d : Option ℕ) → SomeIff d (0 < c) (r * 1000 / c) → unwrap_or d 0 ≡ share r c
 unfolding share
-share_none r c e = simp (share, eq-eqb _ _ e)
-
-pub share_some : (r c : ℕ) → (c ≡ 0 → ⊥) → r * 1000 / c ≡ share r c
-unfolding share
-share_some r c d = simp (share, ne_eqb _ _ d)
-
--- a count in a loop
-pub count_next : (v : ℕ) (bs : List ℕ) {i k j : ℕ} → i < length bs → k ≡ count (is v) (take i bs) → j ≡ pick (eqb (get_or bs i 0) v) 1 0 → k + j ≡ count (is v) (take (i + 1) bs)
-count_next v bs {i} l e f = let s : suc i ≡ i + 1 = omega arith in ap₂ ◌+◌ e f ∙ (sym (count_more (is v) bs i l) ∙ ap (λ (z : ℕ). count (is v) (take z bs)) s)
-
-pub count_all : (v : ℕ) (bs : List ℕ) {i k : ℕ} → length bs ≤ i → k ≡ count (is v) (take i bs) → k ≡ count (is v) bs
-count_all v bs {i} h e = e ∙ ap (count (is v)) (take_all i bs h)
+share_divided r c None h = let none : c ≡ 0 = omega arith in simp (share, eq-eqb c 0 none)
+share_divided r c (Some q) (some, e) = simp (share, ne_eqb c 0 (λ z. omega arith)) e
 
 -- a row by its counts
-pub told : (g bs : List ℕ) {c l r b h : ℕ} → c ≡ count (is 1) g → l ≡ count (is 1) bs → r ≡ count (is 2) bs → b ≡ count (is 3) bs → h ≡ share (l + b + r) c
+pub told : (g bs : List ℕ) {c l r b h : ℕ} → c ≡ count (is 1) g → l ≡ count (is 1) bs → r ≡ count (is 2) bs → b ≡ count (is 3) bs → h ≡ share (l + r + b) c
     → record { chosen = c; left = l + b; right = r + b; share = h } ≡ row_of g bs
 unfolding row_of
 told g bs {c} {l} {r} {b} {h} chosen left right both of =
     let is_left : l + b ≡ count on_left bs = rw (left, both) (count_left bs) in
     let is_right : r + b ≡ count on_right bs = rw (right, both) (count_right bs) in
-    let reported : l + b + r ≡ count is_reported bs = rw (left, right, both) (count_reported bs) in
+    let once : count (is 1) bs + count (is 3) bs + count (is 2) bs ≡ count is_reported bs = count_reported bs in
+    let reported : l + r + b ≡ count is_reported bs = omega arith in
     let shared : h ≡ share (count is_reported bs) (count is_chosen g) = of ∙ ap₂ share reported chosen in
     rw (chosen, is_left, is_right, shared) refl

@@ -1,7 +1,6 @@
 -- Laws of a sheet.
 pub mod Counts
-pub mod Refusals
+pub mod Judged
+pub mod Rows
 pub mod Sheets
 pub mod Single
-pub mod Beginning
-pub mod Rows

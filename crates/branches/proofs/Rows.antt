@@ -1,124 +1,127 @@
 -- One row: from what a comparison in prepared memory gives to the row of a sheet.
 --   few_names, names_lent, bytes_told     what finding a row asks; its bytes are those that are computed
---   never_refused, given_part, row_is     a turn: the releases agree, its signature is a part of all of them, and its row is the sheet's
-use mathlib.Core.Path.{◌≡◌, sym, ap, ◌∙◌}
+--   part_inside, given_part, row_is       the signature of a row is a part of all of them, and its row is the sheet's
+use mathlib.Core.Path.{◌≡◌, refl, sym, ap, ◌∙◌}
+use mathlib.Core.Bool.{Bool, true, false}
 use mathlib.Core.List.{List}
 use Prim.Native.Nat.{ℕ, ◌+◌, ◌-◌, ◌*◌, ◌≤◌, ◌<◌}
-use native.Mathlib.Nat.{min-le_left, mul-le-mul}
+use native.Mathlib.Nat.{min-le_left, mul-le-mul, mul-le-mul_right, suc-mul}
 use native.Mathlib.Omega.{arith}
-use borrow.Author.Tests.{eq-eqb, ltb-true}
-use lib.Dec.{ltb}
-use lib.ListN.{length, take, drop, length-take}
+use borrow.Author.Tests.{eqb-true, eq-eqb, ltb-true}
+use lib.Dec.{eqb, ltb}
+use lib.ListN.{length, take, drop, get_or, set, length-take, length-drop}
+use native.Mathlib.Decide.{ℕ_discrete}
 use lib.Seq.{ext_get_or, get_or-take, length-take-le}
+use Rattle.std.proofs.lemmas.List.{get_or-set_same, get_or-set_other}
 use Rattle.el.specs.Answers.{comparison_bytes}
+use Rattle.el.specs.Lists.{pick, all}
 use Rattle.el.specs.Terminologies.{Comparable}
+use Rattle.el.proofs.Lists.{all_drop, all_take}
 use Rattle.el.proofs.Tests.{and_left}
 use Rattle.el.proofs.Answers.{comparison_bytes_lem}
 use Rattle.el.proofs.Demand3.{one_byte}
-use Rattle.release.specs.Files.{names_of, roles_of, axioms_of, most_names, most_roles}
-use Rattle.release.specs.Readings.{checked}
-use Rattle.release.specs.Tables.{ReleaseRead}
-use Rattle.release.specs.declared.Checked.{Checked}
-use Rattle.release.specs.declared.Refusal.{Refusal}
+use Rattle.release.specs.Files.{names_of, axioms_of, most_names, most_roles}
 use Rattle.release.proofs.Linked.{formed, terminology}
-use Rattle.signature.specs.Bytes.{signature_fault, signature_of}
-use Rattle.marks.specs.Memory.{size}
-use Rattle.comparison.specs.Compared.{Given, Ready, Reported}
+use Rattle.release.proofs.Limits.{few_counts}
+use Rattle.signature.specs.Bytes.{is_bit, wrong_byte, wrong_length, signature_fault, signature_of}
+use Rattle.comparison.specs.declared.Releases.{Releases}
+use Rattle.comparison.specs.Compared.{Given, Reported}
 use Rattle.comparison.proofs.Pipeline.{few, signature_long}
-use Rattle.meanings.specs.declared.Compared.{Compared}
-use Rattle.meanings.specs.declared.Comparison.{Comparison}
-use Rattle.meanings.specs.declared.Comparison.TheVariants.{Accepted, Refused}
-use Rattle.meanings.specs.Comparing.{same_counts, agreed}
-use Rattle.meanings.proofs.Judging.{not_refused}
-use Rattle.meanings.proofs.Promise.{Agree, agree, few_counts, release_read}
 use Rattle.branches.specs.declared.row.Row.{Row}
+use Rattle.branches.specs.Filling.{row_at, Fits}
 use Rattle.branches.specs.Rows.{row_of}
-use Rattle.branches.specs.Sheets.{most_branches, signature_at}
-use Rattle.branches.specs.Steps.{Turn, row_at}
-use Rattle.branches.proofs.Refusals.{sum_small}
-use Rattle.branches.proofs.Sheets.{part_room, one_signature}
+use Rattle.branches.specs.Sheets.{most_branches, signature_at, no_row}
 
-module _ {g s t a b : List ℕ} {n m : ℕ} {w : List ℕ} (given : Given g s t a b n m w) where
-  pub few_names : n ≤ most_names
+module _ {g : List ℕ} {r : Releases} {w : List ℕ} (given : Given g r w) where
+  pub few_names : r.names ≤ most_names
   few_names = few given.both
 
-  pub names_lent : n ≤ length g
-  names_lent = omega (arith, signature_long n m g given.signature)
+  pub names_lent : r.names ≤ length g
+  names_lent = omega (arith, signature_long r.names r.roles g given.signature)
 
-  comparable : Comparable n (signature_of n m g) (axioms_of s) (axioms_of t)
+  comparable : Comparable r.names (signature_of r.names r.roles g) (axioms_of r.first.file.now) (axioms_of r.second.file.now)
   comparable = record {
-    names_in = λ x h. ltb-true x n (and_left (ltb x n) _ h);
-    first_formed = rw given.both.first_names (formed s given.both.first.accepted);
-    second_formed = rw given.both.second_names (formed t given.both.second.accepted);
-    first_terms = terminology s given.both.first.accepted;
-    second_terms = terminology t given.both.second.accepted;
+    names_in = λ x h. ltb-true x r.names (and_left (ltb x r.names) _ h);
+    first_formed = rw given.both.first_names (formed r.first.file.now given.both.first.accepted);
+    second_formed = rw given.both.second_names (formed r.second.file.now given.both.second.accepted);
+    first_terms = terminology r.first.file.now given.both.first.accepted;
+    second_terms = terminology r.second.file.now given.both.second.accepted;
   }
 
-  pub bytes_told : {r p : List ℕ} → n ≤ length p → Reported g s t n m r p → take n p ≡ comparison_bytes n (signature_of n m g) (axioms_of s) (axioms_of t)
+  pub bytes_told : {o p : List ℕ} → r.names ≤ length p → Reported g r.first.file.now r.second.file.now r.names r.roles o p
+      → take r.names p ≡ comparison_bytes r.names (signature_of r.names r.roles g) (axioms_of r.first.file.now) (axioms_of r.second.file.now)
   bytes_told {p = p} l told =
       let are = comparison_bytes_lem comparable in
-      let long : length (take n p) ≡ n = length-take-le n p l in
-      ext_get_or 0 (take n p) _ (long ∙ sym are.long) (λ i h. let k : i < n = omega arith in get_or-take n p i 0 k ∙ one_byte (told.byte i k) (are.each i k))
+      let long : length (take r.names p) ≡ r.names = length-take-le r.names p l in
+      ext_get_or 0 (take r.names p) _ (long ∙ sym are.long) (λ i h. let k : i < r.names = omega arith in get_or-take r.names p i 0 k ∙ one_byte (told.byte i k) (are.each i k))
 
 pub take_few : (k : ℕ) (p : List ℕ) → k ≤ most_names → length (take k p) ≤ most_names
 take_few k p h = omega (arith, length-take k p, min-le_left k (length p))
 
--- a turn
-module _ {s t a b : List ℕ} {x y : Checked} (first : ReleaseRead s a x) (second : ReleaseRead t b y) {gs : List ℕ} {i : ℕ} {w : List ℕ} (turn : Turn s t gs i w) where
-  agrees : agreed x y ≡ Accepted (record { names = names_of s; roles = roles_of s })
-  unfolding checked agreed same_counts
-  agrees = let f = turn.fits in simp (first.answer, second.answer, checked, f.first, f.second, agreed, same_counts, eq-eqb _ _ f.names, eq-eqb _ _ f.roles)
+-- one signature of many
+pub part_room : (n m q i : ℕ) → i < q → i * (n + m) + (n + m) ≤ q * (n + m)
+part_room n m q i l = omega (arith, mul-le-mul_right (n + m) l, suc-mul i (n + m))
 
-  pub never_refused : {k : Refusal} {r : Comparison} → r ≡ agreed x y → r ≡ Refused k → ⊥
-  never_refused is e = not_refused (sym e ∙ (is ∙ agrees))
+pub one_signature : (n m q : ℕ) (gs : List ℕ) (i : ℕ) → i < q → signature_fault (q * (n + m)) 0 gs ≡ 0 → signature_fault n m (signature_at n m gs i) ≡ 0
+unfolding signature_fault
+one_signature n m q gs i l h = by_tests (eqb (length gs) (q * (n + m) + 0)) (all is_bit gs) refl refl h
+  where
+    by_tests : (x y : Bool) → eqb (length gs) (q * (n + m) + 0) ≡ x → all is_bit gs ≡ y → pick x (pick y 0 wrong_byte) wrong_length ≡ 0 → signature_fault n m (signature_at n m gs i) ≡ 0
+    by_tests false y e f z = absurd (omega arith)
+    by_tests true false e f z = absurd (omega arith)
+    by_tests true true e f z =
+        let long : length gs ≡ q * (n + m) + 0 = eqb-true _ _ e in
+        let rest : length (drop (i * (n + m)) gs) ≡ length gs - i * (n + m) = length-drop (i * (n + m)) gs in
+        let part : length (signature_at n m gs i) ≡ n + m = length-take-le (n + m) (drop (i * (n + m)) gs) (omega (arith, part_room n m q i l)) in
+        simp (signature_fault, eq-eqb _ _ part, all_take is_bit (n + m) (drop (i * (n + m)) gs) (all_drop is_bit (i * (n + m)) gs f))
 
-  module _ {c : Compared} {r : Comparison} (is : r ≡ agreed x y) (e : r ≡ Accepted c) where
-    agreement : Agree s t c
-    agreement = agree s t c (rw (← first.answer, ← second.answer) (sym is ∙ e))
+-- the row of a signature
+module _ {r : Releases} {gs : List ℕ} {ys : List Row} {w : List ℕ} (fits : Fits r gs ys w) where
+  pub long_small : r.names + r.roles ≤ most_names + most_roles
+  long_small = let h = few_counts r.first.file.now fits.both.first.accepted in omega (arith, h.0, h.1, fits.both.first_names, fits.roles)
 
-    abbrev long : ℕ
-    long = c.names + c.roles
+  module _ (i : ℕ) (l : i < length ys) where
+    pub start_small : i * (r.names + r.roles) ≤ most_branches * (most_names + most_roles)
+    start_small = let early : i ≤ most_branches = omega (arith, fits.few) in mul-le-mul early long_small
 
-    pub long_small : long ≤ most_names + most_roles
-    long_small = sum_small (few_counts agreement).0 (few_counts agreement).1
+    pub part_inside : i * (r.names + r.roles) + (r.names + r.roles) ≤ length gs
+    part_inside = omega (arith, part_room r.names r.roles (length ys) i l, signature_long (length ys * (r.names + r.roles)) 0 gs fits.signatures)
 
-    pub start_small : i * long ≤ most_branches * (most_names + most_roles)
-    start_small = let early : i ≤ most_branches = omega (arith, turn.inside, turn.fits.few) in mul-le-mul early long_small
-
-    in_all : signature_fault (turn.count * long) 0 gs ≡ 0
-    in_all = rw (agreement.first_names, agreement.first_roles) turn.fits.signatures
-
-    pub part_inside : i * long + long ≤ length gs
-    part_inside = omega (arith, part_room c.names c.roles turn.count i turn.inside, signature_long (turn.count * long) 0 gs in_all)
-
-    -- the part that begins at the place i * long and ends at i * long + long
+    -- the part that begins at the place i * (n + m) and ends n + m bytes later
     abbrev part : List ℕ
-    part = take (i * long + long - i * long) (drop (i * long) gs)
+    part = take (i * (r.names + r.roles) + (r.names + r.roles) - i * (r.names + r.roles)) (drop (i * (r.names + r.roles)) gs)
 
-    part_is : part ≡ signature_at c.names c.roles gs i
-    part_is = let d : i * long + long - i * long ≡ long = omega arith in ap (λ (z : ℕ). take z (drop (i * long) gs)) d
+    part_is : part ≡ signature_at r.names r.roles gs i
+    part_is =
+        let d : i * (r.names + r.roles) + (r.names + r.roles) - i * (r.names + r.roles) ≡ r.names + r.roles = omega arith in
+        ap (λ (z : ℕ). take z (drop (i * (r.names + r.roles)) gs)) d
 
-    pub given_part : Given part s t a b c.names c.roles w
-    unfolding size
-    given_part = record {
+    pub given_part : {v : List ℕ} → length v ≡ length w → Given part r v
+    given_part same = record {
       both = record {
-        first = release_read first agreement.first;
-        second = release_read second agreement.second;
-        first_names = agreement.first_names;
-        second_names = agreement.second_names;
-        room = rw agreement.first_names turn.fits.work;
+        first = fits.both.first;
+        second = fits.both.second;
+        first_names = fits.both.first_names;
+        second_names = fits.both.second_names;
+        room = rw same fits.both.room;
       };
-      signature = rw part_is (one_signature c.names c.roles turn.count gs i turn.inside in_all);
+      signature = rw part_is (one_signature r.names r.roles (length ys) gs i l fits.signatures);
     }
 
-    pub ready_part : Ready s t c.names (size c.names) w
-    ready_part = rw agreement.first_names turn.ready
-
     abbrev row : ℕ → ℕ → List ℕ → Row
-    row n m g = row_of (take n g) (comparison_bytes n (signature_of n m g) (axioms_of s) (axioms_of t))
+    row n m g = row_of (take n g) (comparison_bytes n (signature_of n m g) (axioms_of r.first.file.now) (axioms_of r.second.file.now))
 
-    pub row_is : {v : Row} → v ≡ row c.names c.roles part → v ≡ row_at s t gs i
+    pub row_is : {v : Row} → v ≡ row r.names r.roles part → v ≡ row_at r.first.file.now r.second.file.now gs i
     unfolding row_at
-    row_is h = h ∙ (ap (row c.names c.roles) part_is ∙
-        (ap (λ (n : ℕ). row n c.roles (signature_at n c.roles gs i)) agreement.first_names ∙ ap (λ (m : ℕ). row (names_of s) m (signature_at (names_of s) m gs i))
-        agreement.first_roles))
+    row_is h = h ∙ (ap (row r.names r.roles) part_is ∙
+        (ap (λ (n : ℕ). row n r.roles (signature_at n r.roles gs i)) fits.both.first_names
+        ∙ ap (λ (m : ℕ). row (names_of r.first.file.now) m (signature_at (names_of r.first.file.now) m gs i)) fits.roles))
+
+-- one row more
+pub rows_more : (at : ℕ → Row) (ys : List Row) (i : ℕ) (v : Row) → i < length ys → ((k : ℕ) → k < i → get_or ys k no_row ≡ at k) → v ≡ at i
+    → (k : ℕ) → k < i + 1 → get_or (set ys i v) k no_row ≡ at k
+rows_more at ys i v inside before is k h = by_place (ℕ_discrete k i)
+  where
+    by_place : Dec (k ≡ i) → get_or (set ys i v) k no_row ≡ at k
+    by_place (yes e) = rw e (get_or-set_same ys i v no_row inside ∙ is)
+    by_place (no e) = get_or-set_other ys i k v no_row e ∙ before k (omega arith)

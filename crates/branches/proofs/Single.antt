@@ -4,28 +4,31 @@ use mathlib.Core.Path.{◌≡◌, sym, ap, ◌∙◌}
 use mathlib.Core.List.{List}
 use Prim.Native.Nat.{ℕ, ◌<◌}
 use native.Mathlib.Omega.{arith}
-use lib.ListN.{length, get_or, take, drop, get_or-append}
+use lib.ListN.{get_or, take, drop, get_or-append}
+use Rattle.std.specs.Prelude.{Result, Ok}
+use Rattle.release.specs.Refusals.{told}
 use Rattle.el.proofs.Answers.{only_bytes}
 use Rattle.release.specs.Files.{names_of, roles_of}
 use Rattle.demands.specs.Inputs as Inputs
 use Rattle.meanings.specs.declared.Compared.{Compared}
-use Rattle.meanings.specs.declared.Comparison.{Comparison}
-use Rattle.meanings.specs.declared.Comparison.TheVariants.{Accepted}
+use Rattle.branches.specs.declared.refusals.SheetRefusal.{SheetRefusal}
+use Rattle.branches.specs.Refusals.{sheet_refusal}
 use Rattle.meanings.specs.Demand3.{Compares}
-use Rattle.meanings.proofs.Demand3.{not_refused}
+use Rattle.meanings.proofs.Demand3.{accepted_answer}
 use Rattle.branches.specs.declared.row.Row.{Row}
 use Rattle.branches.specs.Rows.{row_of}
 use Rattle.branches.specs.Sheets.{signature_at, no_row, Says}
 use Rattle.branches.specs.Single.{RowTells}
-use Rattle.branches.proofs.Refusals.{known}
+use Rattle.branches.proofs.Judged.{known}
 use Rattle.branches.proofs.Sheets.{accepted_one}
 
-module _ {s t gs : List ℕ} {q : ℕ} {ys zs : List Row} {w v : List ℕ} {answer : Comparison} {c : Compared} (says : Says s t gs q ys zs w v answer) (e : answer ≡ Accepted c) (i : ℕ) (l : i < q) where
+module _ {s t gs : List ℕ} {q : ℕ} {ys zs : List Row} {w v : List ℕ} {answer : Result Compared SheetRefusal} {c : Compared}
+    (says : Says s t gs q ys zs w v answer) (e : answer ≡ Ok c) (i : ℕ) (l : i < q) where
   abbrev signature : List ℕ
   signature = signature_at (names_of s) (roles_of s) gs i
 
   given : Inputs.Accepted s t signature
-  given = let found = known (sym says.answer ∙ e) in accepted_one found.0 found.1 i l
+  given = let found = known (sym says.answer ∙ ap (told sheet_refusal) e) in accepted_one found.0 found.1 i l
 
   pub row_tells : {o u : List ℕ} (single : Compares s t (signature_at (names_of s) (roles_of s) gs i) o u) → RowTells s t (signature_at (names_of s) (roles_of s) gs i) (get_or zs i no_row) single
   row_tells {o} {u} single =
@@ -34,6 +37,6 @@ module _ {s t gs : List ℕ} {q : ℕ} {ys zs : List Row} {w v : List ℕ} {answ
       let there : get_or zs i no_row ≡ get_or filled.filled i no_row = ap (λ (rows : List Row). get_or rows i no_row) filled.rows ∙ get_or-append filled.filled (drop q ys)
       no_row i (omega (arith, filled.long)) in
       record {
-        accepted = λ enough. single.says.answer ∙ not_refused (length o) (length u) given enough;
+        accepted = λ enough. accepted_answer given enough single;
         row = λ a. there ∙ (row.is ∙ ap (row_of (take (names_of s) signature)) (only_bytes row.are_bytes (single.says.accepted a).bytes));
       }

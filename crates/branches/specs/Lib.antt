@@ -1,5 +1,6 @@
 -- One sheet for many branches. To be read in this order.
+pub mod Refusals
 pub mod Rows
 pub mod Sheets
 pub mod Single
-pub mod Steps
+pub mod Filling

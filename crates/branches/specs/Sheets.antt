@@ -4,18 +4,18 @@
 --   sheet s t gs q rows w       the answer for releases s and t, q signatures gs, that many rows and w work bytes
 --   Filled s t gs q ys zs       the rows ys became zs: the first q are the rows of the signatures in their order, the others as before
 --   Says s t gs q ys zs w v r   what the call promises of its answer r, and of rows and memory at its end
-use Rattle.std.specs.Prelude.{◌≡◌, List, ◌++◌, ℕ, ◌+◌, ◌*◌, ◌<◌, eqb, leb, length, get_or, take, drop, replicate}
+use Rattle.std.specs.Prelude.{◌≡◌, List, ◌++◌, ℕ, ◌+◌, ◌*◌, ◌<◌, eqb, leb, length, get_or, take, drop, replicate, Result, Ok, Err}
 use Rattle.el.specs.Lists.{pick}
 use Rattle.release.specs.Files.{names_of, roles_of}
 use Rattle.release.specs.Readings.{checked}
-use Rattle.release.specs.declared.Checked.{Checked}
-use Rattle.release.specs.declared.Refusal.{Refusal}
+use Rattle.release.specs.Refusals.{Numbers, told}
+use Rattle.release.specs.declared.Counts.{Counts}
 use Rattle.signature.specs.Bytes.{signature_fault}
 use Rattle.meanings.specs.declared.Compared.{Compared}
-use Rattle.meanings.specs.declared.Comparison.{Comparison}
-use Rattle.meanings.specs.declared.Comparison.TheVariants.{Accepted, Refused}
 use Rattle.meanings.specs.Comparing.{work_length, refused, agreed, and_then}
+use Rattle.branches.specs.declared.refusals.SheetRefusal.{SheetRefusal}
 use Rattle.branches.specs.declared.row.Row.{Row}
+use Rattle.branches.specs.Refusals.{sheet_refusal}
 use Rattle.branches.specs.Rows.{IsRow}
 
 abbrev pub most_branches : ℕ
@@ -25,22 +25,22 @@ abbrev pub signature_at : ℕ → ℕ → List ℕ → ℕ → List ℕ
 signature_at n m gs i = take (n + m) (drop (i * (n + m)) gs)
 
 -- 42, 17 and 18, 43, 32
-unfoldable pub lent_sheet : List ℕ → ℕ → ℕ → ℕ → Compared → Comparison
+unfoldable pub lent_sheet : List ℕ → ℕ → ℕ → ℕ → Compared → Result Compared Numbers
 lent_sheet gs q rows w c =
     pick (leb q most_branches)
     (pick (eqb (signature_fault (q * (c.names + c.roles)) 0 gs) 0)
     (pick (leb q rows)
     (pick (leb (work_length c.names) w)
-    (Accepted c)
+    (Ok c)
     (refused 32 0))
     (refused 43 0))
     (refused (signature_fault (q * (c.names + c.roles)) 0 gs) 0))
     (refused 42 0)
 
-unfoldable pub judged : Checked → Checked → List ℕ → ℕ → ℕ → ℕ → Comparison
+unfoldable pub judged : Result Counts Numbers → Result Counts Numbers → List ℕ → ℕ → ℕ → ℕ → Result Compared Numbers
 judged first second gs q rows w = and_then (agreed first second) (lent_sheet gs q rows w)
 
-abbrev pub sheet : List ℕ → List ℕ → List ℕ → ℕ → ℕ → ℕ → Comparison
+abbrev pub sheet : List ℕ → List ℕ → List ℕ → ℕ → ℕ → ℕ → Result Compared Numbers
 sheet s t gs q rows w = judged (checked s) (checked t) gs q rows w
 
 abbrev pub no_row : Row
@@ -52,9 +52,9 @@ pub record Filled (s t gs : List ℕ) (q : ℕ) (ys zs : List Row) : Type 0 wher
   pub each : (i : ℕ) → i < q → IsRow s t (signature_at (names_of s) (roles_of s) gs i) (get_or filled i no_row)
   pub rows : zs ≡ filled ++ drop q ys
 
-pub record Says (s t gs : List ℕ) (q : ℕ) (ys zs : List Row) (w v : List ℕ) (r : Comparison) : Type 0 where
-  pub answer : r ≡ sheet s t gs q (length ys) (length w)
-  pub refused_rows : {k : Refusal} → r ≡ Refused k → zs ≡ ys
-  pub refused_work : {k : Refusal} → r ≡ Refused k → v ≡ w
-  pub accepted_rows : {c : Compared} → r ≡ Accepted c → Filled s t gs q ys zs
-  pub accepted_work : {c : Compared} → r ≡ Accepted c → v ≡ replicate (work_length (names_of s)) 0 ++ drop (work_length (names_of s)) w
+pub record Says (s t gs : List ℕ) (q : ℕ) (ys zs : List Row) (w v : List ℕ) (r : Result Compared SheetRefusal) : Type 0 where
+  pub answer : told sheet_refusal r ≡ sheet s t gs q (length ys) (length w)
+  pub refused_rows : {k : SheetRefusal} → r ≡ Err k → zs ≡ ys
+  pub refused_work : {k : SheetRefusal} → r ≡ Err k → v ≡ w
+  pub accepted_rows : {c : Compared} → r ≡ Ok c → Filled s t gs q ys zs
+  pub accepted_work : {c : Compared} → r ≡ Ok c → v ≡ replicate (work_length (names_of s)) 0 ++ drop (work_length (names_of s)) w

@@ -1,55 +1,45 @@
-// The answer of a sheet: refusals in their order.
-ghost use Rattle.std.specs.Prelude.{◌≡◌};
-ghost use Rattle.meanings.specs.Judging.{Limited};
-ghost use Rattle.branches.specs.Sheets.{judged};
+// What a sheet is lent, judged: refusals in their order.
+ghost use Rattle.std.specs.Prelude.{◌≡◌, ◌≤◌};
+ghost use Rattle.release.specs.Files.{most_names, most_roles};
+ghost use Rattle.release.specs.Refusals.{told};
+ghost use Rattle.branches.specs.Refusals.{sheet_refusal};
+ghost use Rattle.branches.specs.Sheets.{lent_sheet};
 
-use meanings::{Comparison, agree, lacks_work, refused};
-use release::Checked;
+use crate::refusals::SheetRefusal;
+use meanings::{CompareRefusal, Compared, lacks_work};
 use signature::signature_fault;
 
-// A sheet's limit and its own refusals.
+// A sheet's limit.
 #[derive(Clone, Copy)]
 pub struct Sheet {}
 
 impl Sheet {
     pub const BRANCHES: usize = 64;
-
-    // more branches than a sheet has; fewer rows than branches
-    pub const MANY_BRANCHES: u8 = 42;
-
-    pub const FEW_ROWS: u8 = 43;
 }
 
-// By what checking the two releases answered. All signatures together are tested as one, of as many names as they have bytes.
+// The counts, if there are not too many branches, the signatures are ones, and rows and work memory are long enough. All signatures together are
+// tested as one, of as many names as they have bytes.
 pub fn judge(
-    first: Checked,
-    second: Checked,
+    counts: Compared,
     signatures: &[u8],
     count: usize,
     rows: usize,
     work: usize,
-) -> Comparison
-    requires { Limited first }
-    ensures { result ≡ judged first second signatures.now count rows work }
+) -> Result<Compared, SheetRefusal>
+    requires { (counts.names ≤ most_names) × (counts.roles ≤ most_roles) }
+    ensures { told sheet_refusal result ≡ lent_sheet signatures.now count rows work counts }
 {
-    let agreed = agree(first, second);
-    let Comparison::Accepted(counts) = agreed else {
-        return agreed;
-    };
-    let names = counts.names as usize;
     if Sheet::BRANCHES < count {
-        return refused(Sheet::MANY_BRANCHES, 0);
+        return Err(SheetRefusal::ManyBranches);
     }
-    let length = count * (names + counts.roles as usize);
-    let fault = signature_fault(signatures, length, 0);
-    if fault != 0 {
-        return refused(fault, 0);
-    }
+    let names = usize::from(counts.names);
+    let length = count * (names + usize::from(counts.roles));
+    signature_fault(signatures, length, 0).map_err(CompareRefusal::Signature)?;
     if rows < count {
-        return refused(Sheet::FEW_ROWS, 0);
+        return Err(SheetRefusal::FewRows);
     }
     if lacks_work(work, names) {
-        return refused(32, 0);
+        return Err(SheetRefusal::Comparison(CompareRefusal::ShortWork));
     }
-    agreed
+    Ok(counts)
 }

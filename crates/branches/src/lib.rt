@@ -3,34 +3,49 @@
 
 ghost use Rattle.branches.specs.Sheets.{Says};
 
+use crate::filling::fill;
+use crate::judging::judge;
+pub use crate::refusals::SheetRefusal;
 use crate::row::Row;
-use crate::steps::{begin, end, row_at, turns};
-use meanings::Comparison;
+use comparison::Releases;
+use meanings::{Compared, read_both};
+use release::table;
+use release::table::Table;
+use release::terminology::Terminology;
 
+mod filling;
 pub mod judging;
+mod refusals;
 pub mod row;
-pub mod steps;
 pub mod values;
 
-// Fills a row for each of `count` signatures, in their order, or refuses, which changes nothing. All is decided in the steps.
-pub fn compare_branches<'a>(
-    first: &'a [u8],
-    second: &'a [u8],
-    signatures: &'a [u8],
+// Fills a row for each of `count` signatures, in their order, or refuses, which changes nothing.
+pub fn compare_branches(
+    first: &[u8],
+    second: &[u8],
+    signatures: &[u8],
     count: usize,
     work: &mut [u8],
     rows: &mut [Row],
-) -> Comparison
+) -> Result<Compared, SheetRefusal>
     ensures { Says first.now second.now signatures.now count rows.old rows.new work.old work.new result }
 {
-    let answer = begin(first, second, signatures, count, rows.len(), work);
-    let filled = turns(answer, count);
-    let mut i = 0;
-    while i < filled {
-        let row = row_at(first, second, signatures, i, work);
-        rows[i] = row;
-        i = i + 1;
-    }
-    end(answer, work);
-    answer
+    let mut first_table = [table::Row::BLANK; Table::LENGTH];
+    let mut second_table = [table::Row::BLANK; Table::LENGTH];
+    let counts = read_both(first, second, &mut first_table, &mut second_table)?;
+    judge(counts, signatures, count, rows.len(), work.len())?;
+    let releases = Releases {
+        first: Terminology {
+            file: first,
+            table: &first_table,
+        },
+        second: Terminology {
+            file: second,
+            table: &second_table,
+        },
+        names: usize::from(counts.names),
+        roles: usize::from(counts.roles),
+    };
+    fill(&releases, signatures, work, &mut rows[..count]);
+    Ok(counts)
 }

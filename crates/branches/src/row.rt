@@ -1,6 +1,6 @@
 // A row of a sheet, by a branch's signature and the result bytes of its comparison.
-ghost use Rattle.std.specs.Prelude.{◌≡◌, ◌+◌, ◌*◌, ◌≤◌, eqb, length};
-ghost use Rattle.el.specs.Lists.{pick, count};
+ghost use Rattle.std.specs.Prelude.{◌≡◌, ◌*◌, ◌≤◌, eqb, length};
+ghost use Rattle.el.specs.Lists.{count};
 ghost use Rattle.release.specs.Files.{most_names};
 ghost use Rattle.branches.specs.Rows.{share, row_of};
 
@@ -15,14 +15,14 @@ pub struct Row {
     pub share: u32,
 }
 
-// 1 for a byte that has the value, 0 for another.
-fn one(byte: u8, value: u8) -> u32
-    ensures { (result ≡ pick (eqb byte value) 1 0) × (result ≤ 1) }
-{
-    if byte == value {
-        return 1;
-    }
-    0
+impl Row {
+    // A row of which nothing is told.
+    pub const NONE: Row = Row {
+        chosen: 0,
+        left: 0,
+        right: 0,
+        share: 0,
+    };
 }
 
 // How many bytes have the value.
@@ -30,13 +30,8 @@ fn count(bytes: &[u8], value: u8) -> u32
     requires { length bytes.now ≤ most_names }
     ensures { (result ≡ count (λ b. eqb b value) bytes.now) × (result ≤ most_names) }
 {
-    let mut found = 0;
-    let mut i = 0;
-    while i < bytes.len() {
-        found += one(bytes[i], value);
-        i += 1;
-    }
-    found
+    // By `as`: there are no more than names, so it fits, and no From makes a number narrower.
+    bytes.iter().filter(|byte| **byte == value).count() as u32
 }
 
 // The share of the names reported, in thousandths, rounded down.
@@ -44,10 +39,7 @@ fn share(reported: u32, chosen: u32) -> u32
     requires { reported ≤ 4 * most_names }
     ensures { result ≡ share reported chosen }
 {
-    if chosen == 0 {
-        return 0;
-    }
-    reported * 1000 / chosen
+    (reported * 1000).checked_div(chosen).unwrap_or(0)
 }
 
 // Tells the row. A name with witnesses on both sides has a byte of its own, so it is counted once in the share.
@@ -56,14 +48,13 @@ pub fn tell(names: &[u8], bytes: &[u8]) -> Row
     ensures { result ≡ row_of names.now bytes.now }
 {
     let chosen = count(names, 1);
-    let both = count(bytes, 3);
-    let left = count(bytes, 1) + both;
+    let left_only = count(bytes, 1);
     let right_only = count(bytes, 2);
-    let right = right_only + both;
+    let both = count(bytes, 3);
     Row {
-        chosen: chosen,
-        left: left,
-        right: right,
-        share: share(left + right_only, chosen),
+        chosen,
+        left: left_only + both,
+        right: right_only + both,
+        share: share(left_only + right_only + both, chosen),
     }
 }

@@ -1,25 +1,25 @@
 // A sheet whose rows are a value: for a caller that has no rows of its own to lend.
 ghost use Rattle.std.specs.Prelude.{◌≤◌};
 ghost use Rattle.branches.specs.Sheets.{most_branches, Says};
-ghost use Rattle.branches.specs.Steps.{FilledPart};
+ghost use Rattle.branches.specs.Filling.{FilledPart};
 
-use crate::compare_branches;
 use crate::judging::Sheet;
 use crate::row::Row;
-use meanings::Comparison;
+use crate::{SheetRefusal, compare_branches};
+use meanings::Compared;
 
 // What a sheet answers, and its rows.
 #[derive(Clone, Copy)]
 pub struct Filled {
-    pub answer: Comparison,
+    pub answer: Result<Compared, SheetRefusal>,
     pub rows: [Row; Sheet::BRANCHES],
 }
 
 // Lends the first rows of those given, `lent` in number, and returns all.
-pub fn fill_part<'a>(
-    first: &'a [u8],
-    second: &'a [u8],
-    signatures: &'a [u8],
+pub fn fill_part(
+    first: &[u8],
+    second: &[u8],
+    signatures: &[u8],
     count: usize,
     work: &mut [u8],
     mut rows: [Row; Sheet::BRANCHES],
@@ -29,17 +29,14 @@ pub fn fill_part<'a>(
     ensures { FilledPart first.now second.now signatures.now count lent rows result.rows work.old work.new result.answer }
 {
     let answer = compare_branches(first, second, signatures, count, work, &mut rows[..lent]);
-    Filled {
-        answer: answer,
-        rows: rows,
-    }
+    Filled { answer, rows }
 }
 
 // Fills the rows given.
-pub fn fill_rows<'a>(
-    first: &'a [u8],
-    second: &'a [u8],
-    signatures: &'a [u8],
+pub fn fill_rows(
+    first: &[u8],
+    second: &[u8],
+    signatures: &[u8],
     count: usize,
     work: &mut [u8],
     rows: [Row; Sheet::BRANCHES],

@@ -15,15 +15,17 @@ use Rattle.el.proofs.Demand3.{one_byte}
 use Rattle.release.specs.Files.{names_of, roles_of, axioms_of}
 use Rattle.demands.specs.Inputs.{Accepted, chosen}
 use Rattle.demands.proofs.Files as Files
-use Rattle.meanings.specs.declared.Comparison.TheVariants as Is
+use Rattle.std.specs.Prelude.{Ok}
+use Rattle.meanings.proofs.Judging.{told_value}
+use Rattle.meanings.specs.Refusals.{compare_refusal}
 use Rattle.release.specs.Readings.{checked}
-use Rattle.meanings.specs.Comparing.{agreed, same_counts, lent, judged, comparison, Result}
+use Rattle.meanings.specs.Comparing.{agreed, same_counts, lent, judged, comparison, Outcome}
 use Rattle.meanings.specs.Demand3.{Enough, Compares, Demand3}
 
 pub turned : {s t g : List ℕ} → Accepted s t g → Accepted t s g
 turned given = record { first = given.second; second = given.first; names = sym given.names; roles = sym given.roles; signature = rw (given.names, given.roles) at given.signature }
 
-pub not_refused : {s t g : List ℕ} (o w : ℕ) → Accepted s t g → Enough s o w → comparison s t g o w ≡ Is.Accepted (record { names = names_of s; roles = roles_of s })
+pub not_refused : {s t g : List ℕ} (o w : ℕ) → Accepted s t g → Enough s o w → comparison s t g o w ≡ Ok (record { names = names_of s; roles = roles_of s })
 unfolding checked agreed same_counts lent judged
 not_refused {s} {t} o w given enough = simp (
   checked,
@@ -41,8 +43,11 @@ not_refused {s} {t} o w given enough = simp (
   le-leb _ _ enough.work,
 )
 
-pub result_of : {s t g o w : List ℕ} → Accepted s t g → Enough s (length o) (length w) → (c : Compares s t g o w) → Result s t g o c.result w c.memory
-result_of {o = o} {w = w} given enough c = c.says.accepted (c.says.answer ∙ not_refused (length o) (length w) given enough)
+pub accepted_answer : {s t g o w : List ℕ} → Accepted s t g → Enough s (length o) (length w) → (c : Compares s t g o w) → c.answer ≡ Ok (record { names = names_of s; roles = roles_of s })
+accepted_answer {o = o} {w = w} given enough c = told_value compare_refusal c.answer _ (c.says.answer ∙ not_refused (length o) (length w) given enough)
+
+pub result_of : {s t g o w : List ℕ} → Accepted s t g → Enough s (length o) (length w) → (c : Compares s t g o w) → Outcome s t g o c.result w c.memory
+result_of {o = o} {w = w} given enough c = c.says.accepted (accepted_answer given enough c)
 
 none_reported : {n : ℕ} {sig : Signature} {t u : List Axiom} {bs : List ℕ} → AreBytes n sig t u bs → ReportsNone n sig t u ↔ ((a : ℕ) → a < n → get_or bs a 0 ≡ 0)
 none_reported {sig = sig} {t = t} {u = u} {bs = bs} are = (
@@ -59,8 +64,8 @@ demand3 s t g {o} {w} {o'} {w'} given enough enough' forth back =
     let back_are : AreBytes (names_of s) (chosen s g) (axioms_of t) (axioms_of s) (take (names_of s) back.result) = rw (← given.names, ← given.roles) at back_there in
     let theory = (Files.demand3 given).equal in
     record {
-      forth_accepted = forth.says.answer ∙ not_refused (length o) (length w) given enough;
-      back_accepted = rw (given.names, given.roles) (back.says.answer ∙ not_refused (length o') (length w') (turned given) enough_back);
+      forth_accepted = accepted_answer given enough forth;
+      back_accepted = rw (given.names, given.roles) (accepted_answer (turned given) enough_back back);
       forth_bytes = forth_are;
       back_bytes = back_are;
       equal = (

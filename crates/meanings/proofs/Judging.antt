@@ -1,47 +1,63 @@
 -- Which refusal of a comparison is met where, in their order; and what is known where none is.
-use mathlib.Core.Path.{◌≡◌, refl, sym, ap, ◌∙◌}
+use mathlib.Core.Path.{◌≡◌, refl, ap}
 use mathlib.Core.Bool.{Bool, true, false, ◌&&◌}
 use mathlib.Core.List.{List}
+use mathlib.Core.Logic.{◌⊎◌, inl, inr}
 use Prim.Native.Nat.{ℕ, ◌*◌, ◌≤◌, ◌<◌}
 use native.Mathlib.Omega.{arith}
-use borrow.Author.Tests.{eq-eqb, ne_eqb, eqb-true, le-leb, lt-leb, ltb-true, ltb-false}
-use lib.Dec.{eqb, ltb}
+use borrow.Author.Tests.{eq-eqb, ne_eqb, eqb-true, le-leb, lt-leb, leb-true}
+use lib.Dec.{eqb, leb}
+use Rattle.std.specs.Prelude.{Result, Ok, Err, MatchResult, IsErrAnd}
 use Rattle.el.specs.Lists.{pick}
 use Rattle.el.proofs.Tests.{and_left, and_right}
-use Rattle.release.specs.Files.{most_names, most_roles}
 use Rattle.marks.specs.Memory.{size}
+use Rattle.release.specs.Files.{most_names, most_roles}
+use Rattle.release.proofs.Limits.{limits}
+use Rattle.release.specs.Refusals.{Numbers, told, answer}
+use Rattle.release.proofs.Refusing.{is_refused, is_accepted}
+use Rattle.release.specs.Tables.{ReleaseRead}
 use Rattle.release.specs.declared.Counts.{Counts}
-use Rattle.release.specs.declared.Refusal.{Refusal}
-use Rattle.release.specs.declared.Checked.{Checked}
-use Rattle.release.specs.declared.Checked.TheVariants as Check
+use Rattle.release.specs.declared.refusals.FileRefusal.{FileRefusal}
+use Rattle.release.specs.declared.table.Row as table
+use Rattle.release.proofs.Checks.{is_release}
 use Rattle.signature.specs.Bytes.{signature_fault}
 use Rattle.meanings.specs.declared.Compared.{Compared}
-use Rattle.meanings.specs.declared.Comparison.{Comparison}
-use Rattle.meanings.specs.declared.Comparison.TheVariants.{Accepted, Refused}
-use Rattle.meanings.specs.Comparing.{work_length, refused, same_counts, agreed, lent, judged}
-use Rattle.meanings.specs.Judging.{number_of, Limited}
+use Rattle.meanings.specs.declared.refusals.CompareRefusal.TheVariants.{First, Second, DifferentCounts}
+use Rattle.meanings.specs.Comparing.{work_length, refused, same_counts, agreed, lent}
+use Rattle.meanings.specs.Reading.{BothRead}
 
 pub work_length_lem : (n q : ℕ) → q ≡ size n → 4 * q ≡ work_length n
 unfolding size
 work_length_lem n q e = rw e
 
-pub not_refused : {A : Type 0} {k : Refusal} {c : Compared} → Refused k ≡ Accepted c → A
-not_refused h = let z : ◌≡◌ {A = ℕ} 0 1 = cc in absurd (omega arith)
+-- what is told of a value is told of that value alone
+pub told_value : {A E : Type 0} (f : E → Numbers) (r : Result A E) (a : A) → told f r ≡ Ok a → r ≡ Ok a
+told_value f (Ok b) a h = cc
+told_value f (Err e) a h = absurd (cc)
 
--- an accepted answer: no condition of a refusal holds
+-- what a refusal was before `map_err`, and a value
+pub mapped_refusal : {A E D : Type 0} (Q : E → D → Type 0) (r : Result A E) (d : D) → MatchResult r (λ x. ◌≡◌ {A = Result A D} (Err d) (Ok x)) (λ e. IsErrAnd {T = A} (Err d) (Q e))
+    → (e : E) × (r ≡ Err e) × Q e d
+mapped_refusal Q (Ok x) d h = absurd (cc)
+mapped_refusal Q (Err e) d h = (e, refl, h)
+
+pub mapped_value : {A E D : Type 0} (Q : E → D → Type 0) (r : Result A E) (a : A) → MatchResult r (λ x. ◌≡◌ {A = Result A D} (Ok a) (Ok x)) (λ e. IsErrAnd {T = A} {E = D} (Ok a) (Q e)) → r ≡ Ok a
+mapped_value Q (Ok x) a h = cc
+mapped_value Q (Err e) a h = absurd h
+
+-- accepted counts are the same in both releases
 pub record SameCounts (a b : Counts) (c : Compared) : Type 0 where
   pub names : a.names ≡ b.names
   pub roles : a.roles ≡ b.roles
   pub counts_names : a.names ≡ c.names
   pub counts_roles : a.roles ≡ c.roles
 
-pub same_counts_lem : (a b : Counts) (c : Compared) → same_counts a b ≡ Accepted c → SameCounts a b c
+pub same_counts_lem : (a b : Counts) (c : Compared) → same_counts a b ≡ Ok c → SameCounts a b c
 unfolding same_counts
 same_counts_lem a b c h = by_test (eqb a.names b.names && eqb a.roles b.roles) refl h
   where
-    by_test : (p : Bool) → (eqb a.names b.names && eqb a.roles b.roles) ≡ p
-        → pick p (Accepted (record { names = a.names; roles = a.roles })) (refused 16 0) ≡ Accepted c → SameCounts a b c
-    by_test false e z = not_refused z
+    by_test : (p : Bool) → (eqb a.names b.names && eqb a.roles b.roles) ≡ p → pick p (Ok (record { names = a.names; roles = a.roles })) (refused 16 0) ≡ Ok c → SameCounts a b c
+    by_test false e z = absurd (cc)
     by_test true e z =
         let y : record { names = a.names; roles = a.roles } ≡ c = cc in
         record {
@@ -52,65 +68,72 @@ same_counts_lem a b c h = by_test (eqb a.names b.names && eqb a.roles b.roles) r
         }
 
 -- the releases
-module _ (first second : Checked) (r : Comparison) where
-  pub first_refused : (k : Refusal) → first ≡ Check.Refused k → (number : ℕ) → number ≡ number_of first → r ≡ refused number 1 → r ≡ agreed first second
-  unfolding agreed
-  first_refused k e number i h = h ∙ rw (i, e)
-
-  pub second_refused : (a : Counts) (k : Refusal) → first ≡ Check.Accepted a → second ≡ Check.Refused k → (number : ℕ) → number ≡ number_of second → r ≡ refused number 2 → r ≡ agreed first second
-  unfolding agreed
-  second_refused a k e f number i h = h ∙ rw (i, e, f)
-
-  module _ (a b : Counts) (e : first ≡ Check.Accepted a) (f : second ≡ Check.Accepted b) where
-    by_counts : r ≡ same_counts a b → r ≡ agreed first second
-    unfolding agreed
-    by_counts h = h ∙ rw (e, f)
-
-    pub names_differ : (a.names ≡ b.names → ⊥) → r ≡ refused 16 0 → r ≡ agreed first second
-    unfolding same_counts
-    names_differ d h = by_counts (h ∙ simp (same_counts, ne_eqb _ _ d))
-
-    module _ (names : a.names ≡ b.names) where
-      pub roles_differ : (a.roles ≡ b.roles → ⊥) → r ≡ refused 16 0 → r ≡ agreed first second
-      unfolding same_counts
-      roles_differ d h = by_counts (h ∙ simp (same_counts, eq-eqb _ _ names, ne_eqb _ _ d))
-
-      pub counts_same : a.roles ≡ b.roles → r ≡ Accepted (record { names = a.names; roles = a.roles }) → r ≡ agreed first second
-      unfolding same_counts
-      counts_same d h = by_counts (h ∙ simp (same_counts, eq-eqb _ _ names, eq-eqb _ _ d))
-
--- releases that agree have no more names and roles than there can be
-pub agreed_limits : (first second : Checked) (c : Compared) → Limited first → agreed first second ≡ Accepted c → (c.names ≤ most_names) × (c.roles ≤ most_roles)
+pub first_refused : {s t : List ℕ} {a b : List table.Row} {e : FileRefusal} → ReleaseRead s a (Err e) → BothRead s t a b (Err (First e))
 unfolding agreed
-agreed_limits (Check.Refused k) second c l h = not_refused h
-agreed_limits (Check.Accepted a) (Check.Refused k) c l h = not_refused h
-agreed_limits (Check.Accepted a) (Check.Accepted b) c l h = let s = same_counts_lem a b c h in (omega (arith, s.counts_names, l.names refl), omega (arith, s.counts_roles, l.roles refl))
+first_refused read = record { answer = rw (← read.answer, agreed) refl; first = λ z. absurd (cc); second = λ z. absurd (cc) }
 
--- the signature and the memory
-module _ (first second : Checked) (g : List ℕ) (o w : ℕ) (r so_far : Comparison) (is_agreed : so_far ≡ agreed first second) where
-  pub not_agreed : (k : Refusal) → so_far ≡ Refused k → r ≡ so_far → r ≡ judged first second g o w
-  unfolding judged
-  not_agreed k e h = h ∙ (e ∙ rw (← is_agreed, e))
+module _ {s t : List ℕ} {a b : List table.Row} where
+  pub second_refused : {x : Counts} {e : FileRefusal} → ReleaseRead s a (Ok x) → ReleaseRead t b (Err e) → BothRead s t a b (Err (Second e))
+  unfolding agreed
+  second_refused one two = record { answer = rw (← one.answer, ← two.answer, agreed) refl; first = λ z. absurd (cc); second = λ z. absurd (cc) }
 
-  module _ (c : Compared) (e : so_far ≡ Accepted c) (fault : ℕ) (is : fault ≡ signature_fault c.names c.roles g) where
-    by_lent : r ≡ lent g o w c → r ≡ judged first second g o w
-    unfolding judged
-    by_lent h = h ∙ rw (← is_agreed, e)
+  module _ {x y : Counts} (one : ReleaseRead s a (Ok x)) (two : ReleaseRead t b (Ok y)) where
+    pub differ : (x.names ≡ y.names → ⊥) ⊎ ((x.names ≡ y.names) × (x.roles ≡ y.roles → ⊥)) → BothRead s t a b (Err DifferentCounts)
+    unfolding agreed same_counts
+    differ (inl d) = record { answer = rw (← one.answer, ← two.answer, agreed) (simp (same_counts, ne_eqb _ _ d)); first = λ z. absurd (cc); second = λ z. absurd (cc) }
+    differ (inr (n, d)) = record {
+      answer = rw (← one.answer, ← two.answer, agreed) (simp (same_counts, eq-eqb _ _ n, ne_eqb _ _ d));
+      first = λ z. absurd (cc);
+      second = λ z. absurd (cc);
+    }
 
-    pub signature_refused : (fault ≡ 0 → ⊥) → r ≡ refused fault 0 → r ≡ judged first second g o w
+    pub counts_same : x.names ≡ y.names → x.roles ≡ y.roles → BothRead s t a b (Ok (record { names = x.names; roles = x.roles }))
+    unfolding agreed same_counts
+    counts_same n m = record {
+      answer = rw (← one.answer, ← two.answer, agreed) (simp (same_counts, eq-eqb _ _ n, eq-eqb _ _ m));
+      first = λ z. is_release one;
+      second = λ z. is_release two;
+    }
+
+pub few : {s : List ℕ} {a : List table.Row} {x : Counts} → ReleaseRead s a (Ok x) → (x.names ≤ most_names) × (x.roles ≤ most_roles)
+few {s} {x = x} read = limits s x read.answer
+
+-- what is lent, where it is refused and where it is enough
+pub record LentEnough (g : List ℕ) (o w : ℕ) (c : Compared) : Type 0 where
+  pub signature : signature_fault c.names c.roles g ≡ 0
+  pub result : c.names ≤ o
+  pub work : work_length c.names ≤ w
+
+pub lent_enough : (g : List ℕ) (o w : ℕ) (d c : Compared) → lent g o w d ≡ Ok c → (d ≡ c) × LentEnough g o w d
+unfolding lent
+lent_enough g o w d c h = by_tests (eqb (signature_fault d.names d.roles g) 0) (leb d.names o) (leb (work_length d.names) w) refl refl refl h
+  where
+    by_tests : (q u v : Bool) → eqb (signature_fault d.names d.roles g) 0 ≡ q → leb d.names o ≡ u → leb (work_length d.names) w ≡ v
+        → pick q (pick u (pick v (Ok d) (refused 32 0)) (refused 31 0)) (refused (signature_fault d.names d.roles g) 0) ≡ Ok c → (d ≡ c) × LentEnough g o w d
+    by_tests false u v f i j z = absurd (cc)
+    by_tests true false v f i j z = absurd (cc)
+    by_tests true true false f i j z = absurd (cc)
+    by_tests true true true f i j z = let y : d ≡ c = cc in (y, record { signature = eqb-true _ _ f; result = leb-true _ _ i; work = leb-true _ _ j })
+
+pub signature_accepted : (n m : ℕ) (g : List ℕ) → Ok (tt {0}) ≡ answer 0 (signature_fault n m g) (tt {0}) → signature_fault n m g ≡ 0
+signature_accepted n m g h = (is_accepted 0 (signature_fault n m g) (tt {0}) (tt {0}) h).0
+
+module _ (g : List ℕ) (o w : ℕ) (c : Compared) where
+  pub signature_refused : (n : Numbers) → Err n ≡ answer 0 (signature_fault c.names c.roles g) (tt {0}) → Err n ≡ lent g o w c
+  unfolding lent
+  signature_refused n h =
+      let r = is_refused 0 (signature_fault c.names c.roles g) (tt {0}) n h in
+      rw r.0 (simp (lent, ne_eqb (signature_fault c.names c.roles g) 0 (λ z. omega (arith, r.1))))
+
+  module _ (none : signature_fault c.names c.roles g ≡ 0) where
+    pub result_short : o < c.names → refused 31 0 ≡ lent g o w c
     unfolding lent
-    signature_refused d h = by_lent (h ∙ simp (lent, ← is, ne_eqb _ _ d))
+    result_short l = simp (lent, none, lt-leb _ _ l)
 
-    module _ (none : fault ≡ 0) where
-      pub result_short : o < c.names → r ≡ refused 31 0 → r ≡ judged first second g o w
-      unfolding lent
-      result_short l h = by_lent (h ∙ simp (lent, ← is, none, lt-leb _ _ l))
+    pub work_short : c.names ≤ o → w < work_length c.names → refused 32 0 ≡ lent g o w c
+    unfolding lent
+    work_short long l = simp (lent, none, le-leb _ _ long, lt-leb _ _ l)
 
-      module _ (long : c.names ≤ o) (lacks : Bool) (told : lacks ≡ ltb w (work_length c.names)) where
-        pub work_short : lacks ≡ true → r ≡ refused 32 0 → r ≡ judged first second g o w
-        unfolding lent
-        work_short l h = let z : w < work_length c.names = ltb-true _ _ (sym told ∙ l) in by_lent (h ∙ simp (lent, ← is, none, le-leb _ _ long, lt-leb _ _ z))
-
-        pub accepted : lacks ≡ false → r ≡ Accepted c → r ≡ judged first second g o w
-        unfolding lent
-        accepted l h = let z : work_length c.names ≤ w = ltb-false _ _ (sym told ∙ l) in by_lent (h ∙ simp (lent, ← is, none, le-leb _ _ long, le-leb _ _ z))
+    pub accepted : c.names ≤ o → work_length c.names ≤ w → Ok c ≡ lent g o w c
+    unfolding lent
+    accepted long l = simp (lent, none, le-leb _ _ long, le-leb _ _ l)

@@ -1,51 +1,30 @@
 -- From the answer of a comparison and what comparing gives to what the call promises.
---   Agree, agree, few_counts     what is known of two releases that agree
---   limited, given      what the calls below ask
---   refuses, compares   the promise, where it is refused and where it is not
-use mathlib.Core.Path.{◌≡◌, refl, sym, ap, ap₂, subst, ◌∙◌}
-use mathlib.Core.Bool.{Bool, true, false}
+--   Agree, agree, few_counts          what is known of two releases that agree
+--   not_read, not_lent, given, compares   the promise, where it is refused and where it is not
+use mathlib.Core.Path.{◌≡◌, refl, sym, ap, ap₂, ◌∙◌}
 use mathlib.Core.List.{List, [], ◌∷◌, ◌++◌}
 use Prim.Native.Nat.{ℕ, zero, suc, ◌+◌, ◌≤◌, ◌<◌}
 use native.Mathlib.Omega.{arith}
-use borrow.Author.Tests.{eqb-true, leb-true}
-use lib.Dec.{eqb, leb}
 use lib.ListN.{length, get_or, take, drop, replicate, length-take, length-drop}
 use lib.Seq.{ext_get_or, get_or-take, get_or-drop}
-use Rattle.el.specs.Lists.{pick}
+use Rattle.std.specs.Prelude.{Ok, Err}
 use Rattle.el.specs.Comparison.{AreBytes}
 use Rattle.release.specs.Files.{names_of, roles_of, axioms_of, most_names, most_roles, fault}
-use Rattle.release.specs.Readings.{checked, checked_by}
-use Rattle.release.specs.Tables.{Release, ReleaseRead}
-use Rattle.release.specs.declared.Refusal.{Refusal}
-use Rattle.release.specs.declared.Checked.{Checked}
+use Rattle.release.specs.Readings.{checked, counts_in}
+use Rattle.release.specs.Refusals.{answer}
+use Rattle.release.specs.Tables.{Release}
+use Rattle.release.specs.declared.table.Row as table
 use Rattle.release.proofs.Limits as limits
-use Rattle.release.proofs.Limits.{limits}
-use Rattle.signature.specs.Bytes.{signature_fault, signature_of}
+use Rattle.signature.specs.Bytes.{signature_of}
 use Rattle.marks.specs.Memory.{size}
 use Rattle.comparison.specs.Compared as C
+use Rattle.comparison.specs.declared.Releases.{Releases}
 use Rattle.meanings.specs.declared.Compared.{Compared}
-use Rattle.meanings.specs.declared.Comparison.{Comparison}
-use Rattle.meanings.specs.declared.Comparison.TheVariants.{Accepted, Refused}
-use Rattle.meanings.proofs.Judging.{not_refused, same_counts_lem}
-use Rattle.meanings.specs.Comparing.{work_length, refused, agreed, lent, and_then, judged, comparison, Result, Says}
-use Rattle.meanings.specs.Judging.{Limited}
-
--- what an accepted comparison has been lent
-pub record LentEnough (g : List ℕ) (o w : ℕ) (c : Compared) : Type 0 where
-  pub signature : signature_fault c.names c.roles g ≡ 0
-  pub result : c.names ≤ o
-  pub work : work_length c.names ≤ w
-
-lent_enough : (g : List ℕ) (o w : ℕ) (d c : Compared) → lent g o w d ≡ Accepted c → (d ≡ c) × LentEnough g o w d
-unfolding lent
-lent_enough g o w d c h = by_tests (eqb (signature_fault d.names d.roles g) 0) (leb d.names o) (leb (work_length d.names) w) refl refl refl h
-  where
-    by_tests : (q u v : Bool) → eqb (signature_fault d.names d.roles g) 0 ≡ q → leb d.names o ≡ u → leb (work_length d.names) w ≡ v
-        → pick q (pick u (pick v (Accepted d) (refused 32 0)) (refused 31 0)) (refused (signature_fault d.names d.roles g) 0) ≡ Accepted c → (d ≡ c) × LentEnough g o w d
-    by_tests false u v f i j z = not_refused z
-    by_tests true false v f i j z = not_refused z
-    by_tests true true false f i j z = not_refused z
-    by_tests true true true f i j z = let y : d ≡ c = cc in (y, record { signature = eqb-true _ _ f; result = leb-true _ _ i; work = leb-true _ _ j })
+use Rattle.meanings.specs.declared.refusals.CompareRefusal.{CompareRefusal}
+use Rattle.meanings.specs.Comparing.{work_length, agreed, lent, judged, Outcome, Says}
+use Rattle.meanings.specs.Reading.{BothRead}
+use Rattle.meanings.specs.Refusals.{compare_refusal}
+use Rattle.meanings.proofs.Judging.{same_counts_lem, LentEnough, lent_enough}
 
 -- memory that is 0 at its start, and as before after that
 pub cleared : (k : ℕ) (v w : List ℕ) → length v ≡ length w → k ≤ length w → ((i : ℕ) → i < k → get_or v i 0 ≡ 0) → ((i : ℕ) → k ≤ i → get_or v i 0 ≡ get_or w i 0) → v ≡ replicate k 0 ++ drop k w
@@ -53,14 +32,6 @@ cleared zero v w e h z p = ext_get_or 0 v w e (λ i l. p i (omega arith))
 cleared (suc k) [] w e h z p = absurd (omega arith)
 cleared (suc k) (x ∷ v) [] e h z p = absurd (omega arith)
 cleared (suc k) (x ∷ v) (y ∷ w) e h z p = ap₂ ◌∷◌ (z 0 (omega arith)) (cleared k v w (omega arith) (omega arith) (λ i l. z (suc i) (omega arith)) (λ i l. p (suc i) (omega arith)))
-
--- what checking a release says of its counts
-pub limited : (s t : List ℕ) (r : Checked) → ReleaseRead s t r → Limited r
-limited s t r read = record { names = λ {a} e. (limits s a (sym read.answer ∙ e)).0; roles = λ {a} e. (limits s a (sym read.answer ∙ e)).1 }
-
--- the table of an accepted release
-pub release_read : {s a : List ℕ} {x : Checked} → ReleaseRead s a x → fault s ≡ 0 → Release s a
-release_read read ok = record { accepted = ok; decoded = read.decoded ok }
 
 -- two releases that agree
 pub record Agree (s t : List ℕ) (c : Compared) : Type 0 where
@@ -71,13 +42,13 @@ pub record Agree (s t : List ℕ) (c : Compared) : Type 0 where
   pub first_roles : c.roles ≡ roles_of s
   pub second_roles : c.roles ≡ roles_of t
 
-pub agree : (s t : List ℕ) (c : Compared) → agreed (checked s) (checked t) ≡ Accepted c → Agree s t c
+pub agree : (s t : List ℕ) (c : Compared) → agreed (checked s) (checked t) ≡ Ok c → Agree s t c
 unfolding agreed checked
 agree s t c h = by_faults (fault s) (fault t) refl refl h
   where
-    by_faults : (x y : ℕ) → fault s ≡ x → fault t ≡ y → agreed (checked_by x s) (checked_by y t) ≡ Accepted c → Agree s t c
-    by_faults (suc x) y e f z = not_refused z
-    by_faults zero (suc y) e f z = not_refused z
+    by_faults : (x y : ℕ) → fault s ≡ x → fault t ≡ y → agreed (answer 1 x (counts_in s)) (answer 1 y (counts_in t)) ≡ Ok c → Agree s t c
+    by_faults (suc x) y e f z = absurd (cc)
+    by_faults zero (suc y) e f z = absurd (cc)
     by_faults zero zero e f z =
         let v = same_counts_lem _ _ c z in
         record {
@@ -93,59 +64,61 @@ agree s t c h = by_faults (fault s) (fault t) refl refl h
 pub few_counts : {s t : List ℕ} {c : Compared} → Agree s t c → (c.names ≤ most_names) × (c.roles ≤ most_roles)
 few_counts {s} k = let h = limits.few_counts s k.first in (omega (arith, k.first_names, h.0), omega (arith, k.first_roles, h.1))
 
--- an accepted comparison
-module _ {s t a b : List ℕ} {x y : Checked} (first : ReleaseRead s a x) (second : ReleaseRead t b y) (g o w : List ℕ) (answer : Comparison) (is : answer ≡ judged x y g (length o) (length w)) where
-  pub is_comparison : answer ≡ comparison s t g (length o) (length w)
-  is_comparison = is ∙ rw (first.answer, second.answer)
+pub both_agree : {s t : List ℕ} {a b : List table.Row} {c : Compared} → BothRead s t a b (Ok c) → Agree s t c
+both_agree {s} {t} {c = c} read = agree s t c (sym read.answer)
 
-  pub refuses : (k : Refusal) → answer ≡ Refused k → Says s t g o o w w answer
-  refuses k e = record { answer = is_comparison; refused_result = λ _. refl; refused_work = λ _. refl; accepted = λ z. not_refused (sym e ∙ z) }
+module _ {s t : List ℕ} {a b : List table.Row} (g o w : List ℕ) where
+  pub not_read : {e : CompareRefusal} → BothRead s t a b (Err e) → Says s t g o o w w (Err e)
+  unfolding judged
+  not_read read = record { answer = rw (← read.answer, judged) refl; refused_result = λ z. refl; refused_work = λ z. refl; accepted = λ z. absurd (cc) }
 
-  module _ (c : Compared) (e : answer ≡ Accepted c) where
-    by_agreed : (d : Comparison) → agreed x y ≡ d → and_then d (lent g (length o) (length w)) ≡ Accepted c → Agree s t c × LentEnough g (length o) (length w) c
-    by_agreed (Refused k) f h = not_refused h
-    by_agreed (Accepted d) f h =
-        let z = lent_enough g (length o) (length w) d c h in
-        (agree s t c (rw (← first.answer, ← second.answer) (f ∙ ap Accepted z.0)), subst (LentEnough g (length o) (length w)) z.0 z.1)
-
-    known : Agree s t c × LentEnough g (length o) (length w) c
+  module _ {c : Compared} (read : BothRead s t a b (Ok c)) where
+    pub not_lent : {e : CompareRefusal} → Err (compare_refusal e) ≡ lent g (length o) (length w) c → Says s t g o o w w (Err e)
     unfolding judged
-    known = by_agreed (agreed x y) refl (sym is ∙ e)
+    not_lent refused = record { answer = rw (← read.answer, judged) refused; refused_result = λ z. refl; refused_work = λ z. refl; accepted = λ z. absurd (cc) }
 
-    pub given : C.Given g s t a b c.names c.roles w
-    unfolding size
-    given =
-        let k = known.0 in
-        record {
-          both = record {
-            first = release_read first k.first;
-            second = release_read second k.second;
-            first_names = k.first_names;
-            second_names = k.second_names;
-            room = known.1.work;
-          };
-          signature = known.1.signature;
+    module _ {d : Compared} (lends : Ok d ≡ lent g (length o) (length w) c) where
+      pub enough : LentEnough g (length o) (length w) c
+      enough = (lent_enough g (length o) (length w) c d (sym lends)).1
+
+      -- lists by their elements
+      module _ (p v : List ℕ) (long_p : length p ≡ length o) (long_v : length v ≡ length w) (done : C.Compared g s t c.names c.roles o p w v) where
+        bytes_are : AreBytes c.names (signature_of c.names c.roles g) (axioms_of s) (axioms_of t) (take c.names p)
+        bytes_are = record {
+          long = simp length-take (omega (arith, enough.result));
+          each = λ a l. rw (get_or-take c.names p a 0 l) (done.reported.byte a l);
         }
 
-    pub room : c.names ≤ length o
-    room = known.1.result
+        rest_is : drop c.names p ≡ drop c.names o
+        rest_is = ext_get_or 0 _ _ (simp (length-drop, long_p)) (λ i l. get_or-drop c.names p i 0 ∙ (done.reported.rest (c.names + i) (omega arith) ∙ sym (get_or-drop c.names o i 0)))
 
-    -- lists by their elements
-    module _ (p v : List ℕ) (long_p : length p ≡ length o) (long_v : length v ≡ length w) (done : C.Compared g s t c.names c.roles o p w v) where
-      bytes_are : AreBytes c.names (signature_of c.names c.roles g) (axioms_of s) (axioms_of t) (take c.names p)
-      bytes_are = record {
-        long = simp length-take (omega (arith, known.1.result));
-        each = λ a l. rw (get_or-take c.names p a 0 l) (done.reported.byte a l);
-      }
+        outcome : Outcome s t g o p w v
+        unfolding size
+        outcome =
+            let k = both_agree read in
+            let work_is = cleared (work_length c.names) v w long_v enough.work done.zero done.past in
+            record { bytes = rw (k.first_names, k.first_roles) at bytes_are; past = rw k.first_names at rest_is; work = rw k.first_names at work_is }
 
-      rest_is : drop c.names p ≡ drop c.names o
-      rest_is = ext_get_or 0 _ _ (simp (length-drop, long_p)) (λ i l. get_or-drop c.names p i 0 ∙ (done.reported.rest (c.names + i) (omega arith) ∙ sym (get_or-drop c.names o i 0)))
+        pub compares : Says s t g o p w v (Ok c)
+        unfolding judged
+        compares = record {
+          answer = rw (← read.answer, judged) (ap Ok (lent_enough g (length o) (length w) c d (sym lends)).0 ∙ lends);
+          refused_result = λ z. absurd (cc);
+          refused_work = λ z. absurd (cc);
+          accepted = λ _. outcome;
+        }
 
-      compares_result : Result s t g o p w v
-      unfolding size
-      compares_result =
-          let work_is = cleared (work_length c.names) v w long_v known.1.work done.zero done.past in
-          record { bytes = rw (known.0.first_names, known.0.first_roles) at bytes_are; past = rw known.0.first_names at rest_is; work = rw known.0.first_names at work_is }
-
-      pub compares : Says s t g o p w v (Accepted c)
-      compares = record { answer = sym e ∙ is_comparison; refused_result = λ z. not_refused (sym z); refused_work = λ z. not_refused (sym z); accepted = λ _. compares_result }
+-- what the comparison asks, of releases whose tables were read
+pub given : {g w : List ℕ} (o : ℕ) {c : Compared} (r : Releases) → r.names ≡ c.names → r.roles ≡ c.roles → Release r.first.file.now r.first.table.now
+    → Release r.second.file.now r.second.table.now → Agree r.first.file.now r.second.file.now c → LentEnough g o (length w) c → C.Given g r w
+unfolding size
+given o r names roles first second k lends = record {
+  both = record {
+    first = first;
+    second = second;
+    first_names = names ∙ k.first_names;
+    second_names = names ∙ k.second_names;
+    room = rw names lends.work;
+  };
+  signature = rw (names, roles) lends.signature;
+}

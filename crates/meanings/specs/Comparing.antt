@@ -2,68 +2,66 @@
 --   work_length n                 how much work memory a comparison of releases with n names needs
 --   agreed x y                   the answer as far as the releases decide it, by what checking them answers
 --   comparison s t g o w         the answer for releases s and t, signature g, o result bytes and w work bytes
---   Result s t g o o2 w w2       after an accepted comparison: o2 has the names' bytes, w2 is cleared, the rest is as before
+--   Outcome s t g o o2 w w2      after an accepted comparison: o2 has the names' bytes, w2 is cleared, the rest is as before
 --   Says s t g o o2 w w2 r       what the call promises of its answer r and of the memory at its end
-use Rattle.std.specs.Prelude.{◌≡◌, ◌&&◌, List, ◌++◌, ℕ, suc, ◌*◌, eqb, leb, length, take, drop, replicate}
+use Rattle.std.specs.Prelude.{◌≡◌, ◌&&◌, List, ◌++◌, ℕ, suc, ◌*◌, eqb, leb, length, take, drop, replicate, Result, Ok, Err}
 use Rattle.el.specs.Lists.{pick}
 use Rattle.el.specs.Comparison.{AreBytes}
 use Rattle.release.specs.Files.{names_of, axioms_of}
 use Rattle.release.specs.Readings.{checked}
+use Rattle.release.specs.Refusals.{Numbers, told}
 use Rattle.release.specs.declared.Counts.{Counts}
-use Rattle.release.specs.declared.Checked.{Checked}
-use Rattle.release.specs.declared.Checked.TheVariants as Check
-use Rattle.release.specs.declared.Refusal.{Refusal}
 use Rattle.signature.specs.Bytes.{signature_fault}
 use Rattle.demands.specs.Inputs.{chosen}
 use Rattle.meanings.specs.declared.Compared.{Compared}
-use Rattle.meanings.specs.declared.Comparison.{Comparison}
-use Rattle.meanings.specs.declared.Comparison.TheVariants.{Accepted, Refused}
+use Rattle.meanings.specs.declared.refusals.CompareRefusal.{CompareRefusal}
+use Rattle.meanings.specs.Refusals.{compare_refusal}
 
 abbrev pub work_length : ℕ → ℕ
 work_length n = 4 * (suc n * suc n)
 
-abbrev pub refused : ℕ → ℕ → Comparison
-refused number side = Refused (record { number = number; side = side })
+abbrev pub refused : ℕ → ℕ → Result Compared Numbers
+refused number side = Err (record { number = number; side = side })
 
 -- 16
-unfoldable pub same_counts : Counts → Counts → Comparison
-same_counts a b = pick (eqb a.names b.names && eqb a.roles b.roles) (Accepted (record { names = a.names; roles = a.roles })) (refused 16 0)
+unfoldable pub same_counts : Counts → Counts → Result Compared Numbers
+same_counts a b = pick (eqb a.names b.names && eqb a.roles b.roles) (Ok (record { names = a.names; roles = a.roles })) (refused 16 0)
 
 -- by what checking the two releases answers: the first release's refusal, then the second's, then 16
-unfoldable pub agreed : Checked → Checked → Comparison
-agreed (Check.Refused k) second = refused k.number 1
-agreed (Check.Accepted a) (Check.Refused k) = refused k.number 2
-agreed (Check.Accepted a) (Check.Accepted b) = same_counts a b
+unfoldable pub agreed : Result Counts Numbers → Result Counts Numbers → Result Compared Numbers
+agreed (Err k) second = refused k.number 1
+agreed (Ok a) (Err k) = refused k.number 2
+agreed (Ok a) (Ok b) = same_counts a b
 
 -- 17 and 18, 31, 32
-unfoldable pub lent : List ℕ → ℕ → ℕ → Compared → Comparison
+unfoldable pub lent : List ℕ → ℕ → ℕ → Compared → Result Compared Numbers
 lent g o w c =
     pick (eqb (signature_fault c.names c.roles g) 0)
     (pick (leb c.names o)
     (pick (leb (work_length c.names) w)
-    (Accepted c)
+    (Ok c)
     (refused 32 0))
     (refused 31 0))
     (refused (signature_fault c.names c.roles g) 0)
 
 -- a refusal stays; where there is none yet, what follows tells
-abbrev pub and_then : Comparison → (Compared → Comparison) → Comparison
-and_then (Refused k) follows = Refused k
-and_then (Accepted c) follows = follows c
+abbrev pub and_then : Result Compared Numbers → (Compared → Result Compared Numbers) → Result Compared Numbers
+and_then (Err k) follows = Err k
+and_then (Ok c) follows = follows c
 
-unfoldable pub judged : Checked → Checked → List ℕ → ℕ → ℕ → Comparison
+unfoldable pub judged : Result Counts Numbers → Result Counts Numbers → List ℕ → ℕ → ℕ → Result Compared Numbers
 judged first second g o w = and_then (agreed first second) (lent g o w)
 
-abbrev pub comparison : List ℕ → List ℕ → List ℕ → ℕ → ℕ → Comparison
+abbrev pub comparison : List ℕ → List ℕ → List ℕ → ℕ → ℕ → Result Compared Numbers
 comparison s t g o w = judged (checked s) (checked t) g o w
 
-pub record Result (s t g o o2 w w2 : List ℕ) : Type 0 where
+pub record Outcome (s t g o o2 w w2 : List ℕ) : Type 0 where
   pub bytes : AreBytes (names_of s) (chosen s g) (axioms_of s) (axioms_of t) (take (names_of s) o2)
   pub past : drop (names_of s) o2 ≡ drop (names_of s) o
   pub work : w2 ≡ replicate (work_length (names_of s)) 0 ++ drop (work_length (names_of s)) w
 
-pub record Says (s t g o o2 w w2 : List ℕ) (r : Comparison) : Type 0 where
-  pub answer : r ≡ comparison s t g (length o) (length w)
-  pub refused_result : {k : Refusal} → r ≡ Refused k → o2 ≡ o
-  pub refused_work : {k : Refusal} → r ≡ Refused k → w2 ≡ w
-  pub accepted : {c : Compared} → r ≡ Accepted c → Result s t g o o2 w w2
+pub record Says (s t g o o2 w w2 : List ℕ) (r : Result Compared CompareRefusal) : Type 0 where
+  pub answer : told compare_refusal r ≡ comparison s t g (length o) (length w)
+  pub refused_result : {k : CompareRefusal} → r ≡ Err k → o2 ≡ o
+  pub refused_work : {k : CompareRefusal} → r ≡ Err k → w2 ≡ w
+  pub accepted : {c : Compared} → r ≡ Ok c → Outcome s t g o o2 w w2

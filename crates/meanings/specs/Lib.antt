@@ -1,4 +1,5 @@
 -- What a comparison promises. To be read in this order.
+pub mod Refusals
 pub mod Comparing
+pub mod Reading
 pub mod Demand3
-pub mod Judging

@@ -3,45 +3,26 @@
 
 ghost use Rattle.std.specs.Prelude.{◌≡◌, ltb, ◌≤◌};
 ghost use Rattle.release.specs.Files.{most_names};
-ghost use Rattle.meanings.specs.Comparing.{work_length, agreed, judged, Says};
-ghost use Rattle.meanings.specs.Judging.{number_of, Limited};
+ghost use Rattle.release.specs.Refusals.{told};
+ghost use Rattle.release.specs.Tables.{Blank};
+ghost use Rattle.meanings.specs.Comparing.{work_length, lent, Says};
+ghost use Rattle.meanings.specs.Refusals.{compare_refusal};
+ghost use Rattle.meanings.specs.Reading.{BothRead};
 
-use comparison::compare_tables;
-use release::table::Table;
-use release::{Checked, Refusal, read_release};
+pub use crate::refusals::CompareRefusal;
+use comparison::{Releases, compare_tables};
+use release::read_release;
+use release::table::{Row, Table};
+use release::terminology::Terminology;
 use signature::signature_fault;
+
+mod refusals;
 
 // What was compared: the counts of names and roles, which both releases have.
 #[derive(Clone, Copy)]
 pub struct Compared {
     pub names: u16,
     pub roles: u8,
-}
-
-// What a comparison answers.
-#[derive(Clone, Copy)]
-pub enum Comparison {
-    Accepted(Compared),
-    Refused(Refusal),
-}
-
-pub fn refused(number: u8, side: u8) -> Comparison
-    ensures { result ≡ Comparison.Refused (record { number = number; side = side }) }
-{
-    Comparison::Refused(Refusal {
-        number: number,
-        side: side,
-    })
-}
-
-// The number of a check's refusal, 0 for an accepted release.
-fn number_of(checked: Checked) -> u8
-    ensures { result ≡ number_of checked }
-{
-    match checked {
-        Checked::Refused(refusal) => refusal.number,
-        Checked::Accepted(_) => 0,
-    }
 }
 
 // Whether work memory is shorter than a comparison of releases with this many names needs.
@@ -52,56 +33,50 @@ pub fn lacks_work(work: usize, names: usize) -> bool
     work < 4 * marks::size(names)
 }
 
-// The answer of a comparison as far as the releases decide it, by what checking them answered: their refusals, then 16.
-pub fn agree(first: Checked, second: Checked) -> Comparison
-    requires { Limited first }
-    ensures { result ≡ agreed first second }
+// Reads two releases into blank tables: the counts that they share, or the first refusal that they meet.
+pub fn read_both(
+    first: &[u8],
+    second: &[u8],
+    first_table: &mut [Row],
+    second_table: &mut [Row],
+) -> Result<Compared, CompareRefusal>
+    requires first_blank { Blank first_table.old }
+    requires second_blank { Blank second_table.old }
+    ensures { BothRead first.now second.now first_table.new second_table.new result }
 {
-    let Checked::Accepted(one) = first else {
-        return refused(number_of(first), 1);
-    };
-    let Checked::Accepted(two) = second else {
-        return refused(number_of(second), 2);
-    };
-    if one.names != two.names {
-        return refused(16, 0);
+    let one = read_release(first, first_table).map_err(CompareRefusal::First)?;
+    let two = read_release(second, second_table).map_err(CompareRefusal::Second)?;
+    if one.names != two.names || one.roles != two.roles {
+        return Err(CompareRefusal::DifferentCounts);
     }
-    if one.roles != two.roles {
-        return refused(16, 0);
-    }
-    Comparison::Accepted(Compared {
+    // By `as`: an accepted release has few names and roles, so both fit, and no From makes a number narrower.
+    Ok(Compared {
         names: one.names as u16,
         roles: one.roles as u8,
     })
 }
 
-// The whole answer: refusals in their order.
+// The counts, if the signature is one and the result and the work memory are long enough.
 fn judge(
-    first: Checked,
-    second: Checked,
+    counts: Compared,
     signature: &[u8],
     result_length: usize,
     work: usize,
-) -> Comparison
-    requires { Limited first }
-    ensures { result ≡ judged first second signature.now result_length work }
+) -> Result<Compared, CompareRefusal>
+    requires { counts.names ≤ most_names }
+    ensures { told compare_refusal result ≡ lent signature.now result_length work counts }
 {
-    let agreed = agree(first, second);
-    let Comparison::Accepted(counts) = agreed else {
-        return agreed;
-    };
-    let names = counts.names as usize;
-    let fault = signature_fault(signature, names, counts.roles as usize);
-    if fault != 0 {
-        return refused(fault, 0);
-    }
+    let names = usize::from(counts.names);
+    signature_fault(signature, names, usize::from(counts.roles)).map_err(
+        CompareRefusal::Signature,
+    )?;
     if result_length < names {
-        return refused(31, 0);
+        return Err(CompareRefusal::ShortResult);
     }
     if lacks_work(work, names) {
-        return refused(32, 0);
+        return Err(CompareRefusal::ShortWork);
     }
-    agreed
+    Ok(counts)
 }
 
 // Compares two releases over a signature: the byte of each name in the first result bytes, or the refusal, which changes nothing.
@@ -111,33 +86,25 @@ pub fn compare_releases(
     signature: &[u8],
     result_bytes: &mut [u8],
     work: &mut [u8],
-) -> Comparison
+) -> Result<Compared, CompareRefusal>
     ensures { Says first.now second.now signature.now result_bytes.old result_bytes.new work.old work.new result }
 {
-    let mut first_table = [0u16; Table::LENGTH];
-    let first_checked = read_release(first, &mut first_table);
-    let mut second_table = [0u16; Table::LENGTH];
-    let second_checked = read_release(second, &mut second_table);
-    let answer = judge(
-        first_checked,
-        second_checked,
-        signature,
-        result_bytes.len(),
-        work.len(),
-    );
-    let Comparison::Accepted(counts) = answer else {
-        return answer;
+    let mut first_table = [Row::BLANK; Table::LENGTH];
+    let mut second_table = [Row::BLANK; Table::LENGTH];
+    let counts = read_both(first, second, &mut first_table, &mut second_table)?;
+    judge(counts, signature, result_bytes.len(), work.len())?;
+    let releases = Releases {
+        first: Terminology {
+            file: first,
+            table: &first_table,
+        },
+        second: Terminology {
+            file: second,
+            table: &second_table,
+        },
+        names: usize::from(counts.names),
+        roles: usize::from(counts.roles),
     };
-    compare_tables(
-        first,
-        second,
-        &first_table,
-        &second_table,
-        signature,
-        result_bytes,
-        work,
-        counts.names as usize,
-        counts.roles as usize,
-    );
-    answer
+    compare_tables(&releases, signature, result_bytes, work);
+    Ok(counts)
 }

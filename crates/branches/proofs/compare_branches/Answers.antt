@@ -1,32 +1,48 @@
--- Each turn finds one row more, and the end says what is promised of the answer, the rows and the memory.
-use Rattle.std.proofs.Common.{◌≡◌, ◌<◌, length, arith, refl, ◌∙◌}
-use Rattle.branches.proofs.Sheets.{sheet_more, turn, enough_rows, endable, says}
+-- `compare_branches` keeps its promise: where reading refuses, where what is lent does not serve, and where the rows are filled.
+use Rattle.std.proofs.Common.{refl, sym, length-take-le}
+use Rattle.release.proofs.Refusing.{passed}
+use Rattle.release.proofs.Rows.{blank_table}
+use Rattle.meanings.proofs.Promise.{both_agree, few_counts}
+use Rattle.branches.specs.declared.refusals.SheetRefusal.TheVariants.{Comparison}
+use Rattle.branches.proofs.Sheets.{not_read, not_lent, lent, fits, says}
 use Rattle.branches.proofs.compare_branches.Goals as goal
 
-pub row_at-row-requires : goal.row_at-row-requires
-row_at-row-requires c = rw c.loop-i.invariant.1 (turn c.begin-answer.ensures c.loop-i.i (rw c.turns-filled.ensures at c.loop-i-test.true))
+pub read_both-requires-clause-first_blank : goal.read_both-requires-clause-first_blank
+read_both-requires-clause-first_blank c = blank_table
 
-pub offset_bounds-rows-i : goal.offset_bounds-rows-i
-offset_bounds-rows-i c =
-    let asked = turn c.begin-answer.ensures c.loop-i.i (rw c.turns-filled.ensures at c.loop-i-test.true) in
-    omega (arith, asked.inside, asked.fits.few)
+pub read_both-requires-clause-second_blank : goal.read_both-requires-clause-second_blank
+read_both-requires-clause-second_blank c = blank_table
 
-pub bounds-rows-i : goal.bounds-rows-i
-bounds-rows-i c = omega (arith, c.turns-filled.ensures, enough_rows c.begin-answer.ensures)
+pub returns-in_err-counts : goal.returns-in_err-counts
+returns-in_err-counts c = rw (passed _ (Comparison c.in_err-counts.field-0.0) c.from_residual.ensures.1) (not_read _ _ _ _ c.in_err-counts.ensures)
 
-pub loop-i-preserved : goal.loop-i-preserved
-loop-i-preserved c =
-    let within : c.loop-i.i < length c.args.rows.now = omega (arith, c.turns-filled.ensures, enough_rows c.begin-answer.ensures) in (
-      omega arith,
-      c.row_at-row.ensures.1 ∙ c.loop-i.invariant.1,
-      rw (c.row_at-row.ensures.0, c.loop-i.invariant.2) (sheet_more c.args.first.now c.args.second.now c.args.signatures.now c.loop-i.i c.args.rows.now within),
-    )
+pub judge-requires : goal.judge-requires
+judge-requires c = few_counts (both_agree c.in_ok-counts.ensures)
 
-pub end-requires : goal.end-requires
-end-requires c = rw c.loop-i.invariant.1 (endable c.begin-answer.ensures)
+pub returns-in_err-judge : goal.returns-in_err-judge
+returns-in_err-judge c =
+    rw (passed _ c.in_err-judge.field-0.0 c.from_residual-in_err-judge.ensures.1) (not_lent _ _ _ _ c.in_ok-counts.ensures c.in_err-judge.ensures)
+
+pub slice_bounds-fill-end : goal.slice_bounds-fill-end
+slice_bounds-fill-end c =
+    (lent c.args.signatures.now c.args.count c.args.rows.now c.args.work.now c.in_ok-counts.ensures c.in_ok-judge.ensures).rows_lent
+
+pub slice_bounds-fill-end-2 : goal.slice_bounds-fill-end-2
+slice_bounds-fill-end-2 c =
+    let a = c.args in
+    let enough = lent a.signatures.now a.count a.rows.now a.work.now c.in_ok-counts.ensures c.in_ok-judge.ensures in
+    sym (length-take-le a.count a.rows.now enough.rows_lent)
+
+pub fill-requires : goal.fill-requires
+fill-requires c =
+    let a = c.args in
+    let read = c.in_ok-counts.ensures in
+    let enough = lent a.signatures.now a.count a.rows.now a.work.now read c.in_ok-judge.ensures in
+    fits _ c.from.ensures c.from-2.ensures (read.first refl) (read.second refl) (both_agree read) enough (length-take-le a.count a.rows.now enough.rows_lent)
 
 pub returns : goal.returns
 returns c =
-    let all : c.loop-i.i ≡ c.turns-filled.result = omega arith in
-    rw (c.loop-i.invariant.2, all, c.turns-filled.ensures)
-    (says c.begin-answer.ensures c.args.rows.now refl (rw c.loop-i.invariant.1 at c.end.ensures))
+    let a = c.args in
+    let read = c.in_ok-counts.ensures in
+    let enough = lent a.signatures.now a.count a.rows.now a.work.now read c.in_ok-judge.ensures in
+    says _ _ _ _ read c.in_ok-judge.ensures c.fill.ensures (length-take-le a.count a.rows.now enough.rows_lent) refl refl c.from.ensures refl

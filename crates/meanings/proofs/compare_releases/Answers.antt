@@ -1,27 +1,38 @@
+-- `compare_releases` keeps its promise: where reading refuses, where what is lent does not serve, and where the releases are compared.
+use Rattle.std.proofs.Common.{refl, arith}
+use Rattle.release.proofs.Refusing.{passed}
 use Rattle.release.proofs.Rows.{blank_table}
-use Rattle.meanings.proofs.Promise.{limited, refuses, room, given, compares}
+use Rattle.meanings.proofs.Promise.{both_agree, few_counts, not_read, not_lent, enough, given, compares}
 use Rattle.meanings.proofs.compare_releases.Goals as goal
 
-pub read_release-first_checked-requires : goal.read_release-first_checked-requires
-read_release-first_checked-requires c = blank_table
+pub read_both-requires-clause-first_blank : goal.read_both-requires-clause-first_blank
+read_both-requires-clause-first_blank c = blank_table
 
-pub read_release-second_checked-requires : goal.read_release-second_checked-requires
-read_release-second_checked-requires c = blank_table
+pub read_both-requires-clause-second_blank : goal.read_both-requires-clause-second_blank
+read_both-requires-clause-second_blank c = blank_table
 
-pub judge-answer-requires : goal.judge-answer-requires
-judge-answer-requires c = limited _ _ _ c.read_release-first_checked.ensures
+pub returns-in_err-counts : goal.returns-in_err-counts
+returns-in_err-counts c = rw (passed _ c.in_err-counts.field-0.0 c.from_residual.ensures.1) (not_read _ _ _ c.in_err-counts.ensures)
 
-pub returns-in_default : goal.returns-in_default
-returns-in_default c = refuses c.read_release-first_checked.ensures c.read_release-second_checked.ensures _ _ _ _ c.judge-answer.ensures _ c.in_default.is
+pub judge-requires : goal.judge-requires
+judge-requires c = (few_counts (both_agree c.in_ok-counts.ensures)).0
+
+pub returns-in_err-judge : goal.returns-in_err-judge
+returns-in_err-judge c =
+    rw (passed _ c.in_err-judge.field-0.0 c.from_residual-in_err-judge.ensures.1) (not_lent _ _ _ c.in_ok-counts.ensures c.in_err-judge.ensures)
 
 pub compare_tables-requires : goal.compare_tables-requires
-compare_tables-requires c = let a = c.args in
-    let i = given c.read_release-first_checked.ensures c.read_release-second_checked.ensures a.signature.now a.result_bytes.now a.work.now _ c.judge-answer.ensures _ c.in-Accepted.is in
-    let k = room c.read_release-first_checked.ensures c.read_release-second_checked.ensures a.signature.now a.result_bytes.now a.work.now _ c.judge-answer.ensures _ c.in-Accepted.is in
-    record { given = i; names_in_bounds = k }
+compare_tables-requires c =
+    let read = c.in_ok-counts.ensures in
+    let lends = enough c.args.signature.now c.args.result_bytes.now c.args.work.now read c.in_ok-judge.ensures in
+    record {
+      given = given _ _ c.from.ensures c.from-2.ensures (read.first refl) (read.second refl) (both_agree read) lends;
+      names_in_bounds = omega (arith, lends.result);
+    }
 
 pub returns : goal.returns
 returns c =
-    let a = c.args in
-    compares c.read_release-first_checked.ensures c.read_release-second_checked.ensures a.signature.now a.result_bytes.now a.work.now _ c.judge-answer.ensures _ c.in-Accepted.is _
-    _ c.compare_tables.auto.result_bytes c.compare_tables.auto.work c.compare_tables.ensures
+    let read = c.in_ok-counts.ensures in
+    let names = c.from.ensures in
+    let roles = c.from-2.ensures in
+    compares _ _ _ read c.in_ok-judge.ensures _ _ c.compare_tables.auto.result_bytes c.compare_tables.auto.work (rw (names, roles) at c.compare_tables.ensures)

@@ -1,34 +1,36 @@
-use Rattle.branches.proofs.Refusals.{sum_small, not_agreed, many_branches, signatures_refused, few_rows, work_short, accepted}
-use Rattle.meanings.proofs.Judging.{agreed_limits}
-use native.Mathlib.Nat.{mul-le-mul}
-use native.Mathlib.Omega.{arith}
-use mathlib.Core.Path.{refl, sym, ◌∙◌}
+-- `judge` meets its contract: by where the first refusal is met.
+use Rattle.std.proofs.Common.{◌≡◌, arith, sym}
+use borrow.Author.Tests.{ltb-true, ltb-false}
+use Rattle.branches.specs.declared.refusals.SheetRefusal.TheVariants.{Comparison}
+use Rattle.release.proofs.Refusing.{passed}
+use Rattle.meanings.specs.declared.refusals.CompareRefusal.TheVariants.{Signature}
+use Rattle.meanings.proofs.Judging.{mapped_refusal, mapped_value, signature_accepted}
+use Rattle.branches.proofs.Judged.{many_branches, signatures_refused, few_rows, work_short, accepted}
 use Rattle.branches.proofs.judging.judge.Goals as goal
 
-pub returns-in_default : goal.returns-in_default
-returns-in_default c = not_agreed _ _ _ _ _ _ _ _ c.agree-agreed.ensures _ c.in_default.is refl
-
 pub returns-then-count-gt-BRANCHES : goal.returns-then-count-gt-BRANCHES
-returns-then-count-gt-BRANCHES c = many_branches _ _ _ _ _ _ _ _ c.agree-agreed.ensures _ c.in-Accepted.is c.if-count-gt-BRANCHES.true c.refused.ensures
+returns-then-count-gt-BRANCHES c = many_branches _ _ _ _ _ (omega arith)
 
-pub overflow_mul-length : goal.overflow_mul-length
-overflow_mul-length c = let h = agreed_limits _ _ _ c.requires (sym c.agree-agreed.ensures ∙ c.in-Accepted.is) in omega (arith, mul-le-mul c.if-count-gt-BRANCHES.false (sum_small h.0 h.1))
-
-pub returns-then-fault-ne0 : goal.returns-then-fault-ne0
-returns-then-fault-ne0 c = signatures_refused _ _ _ _ _ _ _ _ c.agree-agreed.ensures _ c.in-Accepted.is c.if-count-gt-BRANCHES.false _ c.signature_fault-fault.ensures
-    c.if-fault-ne0.true c.refused-then-fault-ne0.ensures
+pub returns-in_err-map_err : goal.returns-in_err-map_err
+returns-in_err-map_err c =
+    let m = mapped_refusal (λ e d. d ≡ Signature e) c.signature_fault.result c.in_err-map_err.field-0.0 c.in_err-map_err.ensures.cases in
+    let f : c.in_err-map_err.field-0.0 ≡ Signature m.0 = m.2 in
+    rw (passed _ (Comparison c.in_err-map_err.field-0.0) c.from_residual.ensures.1, f)
+    (signatures_refused _ _ _ _ _ (omega arith) _ (rw (m.1, c.from-names.ensures, c.from.ensures) at c.signature_fault.ensures))
 
 pub returns-then-rows-count : goal.returns-then-rows-count
-returns-then-rows-count c = few_rows _ _ _ _ _ _ _ _ c.agree-agreed.ensures _ c.in-Accepted.is c.if-count-gt-BRANCHES.false _ c.signature_fault-fault.ensures c.if-fault-ne0.false
-    c.if-rows-count.true c.refused-then-rows-count.ensures
-
-pub lacks_work-requires : goal.lacks_work-requires
-lacks_work-requires c = (agreed_limits _ _ _ c.requires (sym c.agree-agreed.ensures ∙ c.in-Accepted.is)).0
+returns-then-rows-count c =
+    let m = mapped_value (λ e d. d ≡ Signature e) c.signature_fault.result c.in_ok-map_err.field-0 c.in_ok-map_err.ensures.cases in
+    few_rows _ _ _ _ _ (omega arith) (signature_accepted _ _ _ (rw (m, c.from-names.ensures, c.from.ensures) at c.signature_fault.ensures)) (omega arith)
 
 pub returns-then-lacks_work : goal.returns-then-lacks_work
-returns-then-lacks_work c = work_short _ _ _ _ _ _ _ _ c.agree-agreed.ensures _ c.in-Accepted.is c.if-count-gt-BRANCHES.false _ c.signature_fault-fault.ensures
-    c.if-fault-ne0.false c.if-rows-count.false _ c.lacks_work.ensures c.if-lacks_work.true c.refused-then-lacks_work.ensures
+returns-then-lacks_work c =
+    let m = mapped_value (λ e d. d ≡ Signature e) c.signature_fault.result c.in_ok-map_err.field-0 c.in_ok-map_err.ensures.cases in
+    work_short _ _ _ _ _ (omega arith) (signature_accepted _ _ _ (rw (m, c.from-names.ensures, c.from.ensures) at c.signature_fault.ensures)) (omega arith)
+    (ltb-true _ _ (sym (rw c.from-names.ensures at c.if-lacks_work.ensures)))
 
 pub returns : goal.returns
-returns c = accepted _ _ _ _ _ _ _ _ c.agree-agreed.ensures _ c.in-Accepted.is c.if-count-gt-BRANCHES.false _ c.signature_fault-fault.ensures c.if-fault-ne0.false
-    c.if-rows-count.false _ c.lacks_work.ensures c.if-lacks_work.false refl
+returns c =
+    let m = mapped_value (λ e d. d ≡ Signature e) c.signature_fault.result c.in_ok-map_err.field-0 c.in_ok-map_err.ensures.cases in
+    accepted _ _ _ _ _ (omega arith) (signature_accepted _ _ _ (rw (m, c.from-names.ensures, c.from.ensures) at c.signature_fault.ensures)) (omega arith)
+    (ltb-false _ _ (sym (rw c.from-names.ensures at c.if-lacks_work.ensures)))

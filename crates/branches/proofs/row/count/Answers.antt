@@ -1,27 +1,25 @@
-use Rattle.branches.proofs.Counts.{count_next, count_all}
+-- `count` meets its contract: the bytes that pass the filter are counted.
+use Rattle.std.proofs.Common.{◌≡◌, arith, rules, tests, ◌∙◌}
+use Rattle.std.proofs.lemmas.Iterator.{YieldsList-from_slice}
+use Rattle.std.proofs.lemmas.Iterator.Consumers.{count_from_yields_List, YieldsList-from_filter}
 use Rattle.el.specs.Lists.{count}
-use native.Mathlib.Omega.{arith}
-use mathlib.Core.Path.{refl}
+use Rattle.branches.proofs.Counts.{is, count_filter, count_few}
 use Rattle.branches.proofs.row.count.Goals as goal
 
-pub loop-i-init : goal.loop-i-init
-unfolding count
-loop-i-init c = (omega arith, omega arith, refl)
-
-pub bounds-bytes-i : goal.bounds-bytes-i
-bounds-bytes-i c = omega arith
-
-pub overflow_add-found : goal.overflow_add-found
-overflow_add-found c = omega (arith, c.loop-i.invariant.0, c.loop-i.invariant.1, c.one-found.ensures.1, c.requires)
-
-pub overflow_add-i : goal.overflow_add-i
-overflow_add-i c = omega (arith, c.loop-i-test.true, c.requires)
-
-pub loop-i-smaller : goal.loop-i-smaller
-loop-i-smaller c = omega (arith, c.loop-i-test.true)
-
-pub loop-i-preserved : goal.loop-i-preserved
-loop-i-preserved c = (omega (arith, c.loop-i-test.true), omega (arith, c.loop-i.invariant.1, c.one-found.ensures.1), count_next _ _ c.loop-i-test.true c.loop-i.invariant.2 c.one-found.ensures.0)
+pub overflow_cast-result : goal.overflow_cast-result
+overflow_cast-result c =
+    let on = is c.args.value in
+    let counted : c.count.result ≡ count on c.args.bytes.now =
+    count_from_yields_List c.filter.result _ c.count.ensures.ran
+    (YieldsList-from_filter _ on (YieldsList-from_slice c.args.bytes.now cc) c.filter.ensures.closure (λ x r q k. search (rules, tests)))
+    ∙ count_filter on c.args.bytes.now in
+    omega (arith, count_few on c.args.bytes.now)
 
 pub returns : goal.returns
-returns c = (count_all _ _ c.loop-i-test.false c.loop-i.invariant.2, omega (arith, c.loop-i.invariant.0, c.loop-i.invariant.1, c.requires))
+returns c =
+    let on = is c.args.value in
+    let counted : c.count.result ≡ count on c.args.bytes.now =
+    count_from_yields_List c.filter.result _ c.count.ensures.ran
+    (YieldsList-from_filter _ on (YieldsList-from_slice c.args.bytes.now cc) c.filter.ensures.closure (λ x r q k. search (rules, tests)))
+    ∙ count_filter on c.args.bytes.now in
+    (counted, omega (arith, count_few on c.args.bytes.now))

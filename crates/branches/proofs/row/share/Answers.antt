@@ -1,8 +1,7 @@
-use Rattle.branches.proofs.Counts.{share_none, share_some}
+-- `share` meets its contract: by whether a name is chosen.
+use Rattle.std.proofs.Common.{◌∙◌}
+use Rattle.branches.proofs.Counts.{share_divided}
 use Rattle.branches.proofs.row.share.Goals as goal
 
-pub returns-then-chosen-eq0 : goal.returns-then-chosen-eq0
-returns-then-chosen-eq0 c = share_none _ _ c.if-chosen-eq0.true
-
 pub returns : goal.returns
-returns c = share_some _ _ c.if-chosen-eq0.false
+returns c = c.unwrap_or.ensures ∙ share_divided c.args.reported c.args.chosen c.checked_div.result c.checked_div.ensures

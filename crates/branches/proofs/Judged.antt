@@ -1,0 +1,73 @@
+-- Which refusal of a sheet is met where, in their order; and what is known where none is.
+use mathlib.Core.Path.{◌≡◌, refl}
+use mathlib.Core.Bool.{Bool, true, false}
+use mathlib.Core.List.{List}
+use Prim.Native.Nat.{ℕ, ◌+◌, ◌*◌, ◌≤◌, ◌<◌}
+use native.Mathlib.Omega.{arith}
+use borrow.Author.Tests.{ne_eqb, le-leb, lt-leb, eqb-true, leb-true}
+use lib.Dec.{eqb, leb}
+use Rattle.std.specs.Prelude.{Result, Ok, Err}
+use Rattle.el.specs.Lists.{pick}
+use Rattle.release.specs.Readings.{checked}
+use Rattle.release.specs.Refusals.{Numbers, answer}
+use Rattle.release.proofs.Refusing.{is_refused}
+use Rattle.signature.specs.Bytes.{signature_fault}
+use Rattle.meanings.specs.declared.Compared.{Compared}
+use Rattle.meanings.specs.Comparing.{work_length, refused, agreed, and_then}
+use Rattle.meanings.proofs.Promise.{Agree, agree}
+use Rattle.branches.specs.Sheets.{most_branches, lent_sheet, judged, sheet}
+
+-- no condition of a refusal holds
+pub record Enough (gs : List ℕ) (q rows w : ℕ) (c : Compared) : Type 0 where
+  pub few : q ≤ most_branches
+  pub signatures : signature_fault (q * (c.names + c.roles)) 0 gs ≡ 0
+  pub rows_lent : q ≤ rows
+  pub work : work_length c.names ≤ w
+
+pub enough : (gs : List ℕ) (q rows w : ℕ) (d c : Compared) → lent_sheet gs q rows w d ≡ Ok c → (d ≡ c) × Enough gs q rows w d
+unfolding lent_sheet
+enough gs q rows w d c h = by_tests (leb q most_branches) (eqb (signature_fault (q * (d.names + d.roles)) 0 gs) 0) (leb q rows) (leb (work_length d.names) w) refl refl refl refl h
+  where
+    by_tests : (x y z u : Bool) → leb q most_branches ≡ x → eqb (signature_fault (q * (d.names + d.roles)) 0 gs) 0 ≡ y → leb q rows ≡ z → leb (work_length d.names) w ≡ u
+        → pick x (pick y (pick z (pick u (Ok d) (refused 32 0)) (refused 43 0)) (refused (signature_fault (q * (d.names + d.roles)) 0 gs) 0)) (refused 42 0) ≡ Ok c
+        → (d ≡ c) × Enough gs q rows w d
+    by_tests false y z u e f i j k = absurd (cc)
+    by_tests true false z u e f i j k = absurd (cc)
+    by_tests true true false u e f i j k = absurd (cc)
+    by_tests true true true false e f i j k = absurd (cc)
+    by_tests true true true true e f i j k = let same : d ≡ c = cc in (same, record { few = leb-true _ _ e; signatures = eqb-true _ _ f; rows_lent = leb-true _ _ i; work = leb-true _ _ j })
+
+-- what is known of an accepted sheet
+pub known : {s t gs : List ℕ} {q rows w : ℕ} {c : Compared} → sheet s t gs q rows w ≡ Ok c → Agree s t c × Enough gs q rows w c
+unfolding judged
+known {s} {t} {gs} {q} {rows} {w} {c} h = by_agreed (agreed (checked s) (checked t)) refl h
+  where
+    by_agreed : (d : Result Compared Numbers) → agreed (checked s) (checked t) ≡ d → and_then d (lent_sheet gs q rows w) ≡ Ok c → Agree s t c × Enough gs q rows w c
+    by_agreed (Err k) f z = absurd (cc)
+    by_agreed (Ok d) f z = let e = enough gs q rows w d c z in rw (← e.0) (agree s t d f, e.1)
+
+-- the refusals
+module _ (gs : List ℕ) (q rows w : ℕ) (c : Compared) where
+  pub many_branches : most_branches < q → refused 42 0 ≡ lent_sheet gs q rows w c
+  unfolding lent_sheet
+  many_branches l = simp (lent_sheet, lt-leb _ _ l)
+
+  module _ (few : q ≤ most_branches) where
+    pub signatures_refused : (n : Numbers) → Err n ≡ answer 0 (signature_fault (q * (c.names + c.roles)) 0 gs) (tt {0}) → Err n ≡ lent_sheet gs q rows w c
+    unfolding lent_sheet
+    signatures_refused n h =
+        let r = is_refused 0 (signature_fault (q * (c.names + c.roles)) 0 gs) (tt {0}) n h in
+        rw r.0 (simp (lent_sheet, le-leb _ _ few, ne_eqb (signature_fault (q * (c.names + c.roles)) 0 gs) 0 (λ z. omega (arith, r.1))))
+
+    module _ (none : signature_fault (q * (c.names + c.roles)) 0 gs ≡ 0) where
+      pub few_rows : rows < q → refused 43 0 ≡ lent_sheet gs q rows w c
+      unfolding lent_sheet
+      few_rows l = simp (lent_sheet, le-leb _ _ few, none, lt-leb _ _ l)
+
+      pub work_short : q ≤ rows → w < work_length c.names → refused 32 0 ≡ lent_sheet gs q rows w c
+      unfolding lent_sheet
+      work_short lends l = simp (lent_sheet, le-leb _ _ few, none, le-leb _ _ lends, lt-leb _ _ l)
+
+      pub accepted : q ≤ rows → work_length c.names ≤ w → Ok c ≡ lent_sheet gs q rows w c
+      unfolding lent_sheet
+      accepted lends l = simp (lent_sheet, le-leb _ _ few, none, le-leb _ _ lends, le-leb _ _ l)

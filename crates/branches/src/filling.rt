@@ -1,0 +1,44 @@
+// The rows of a sheet, given the terminologies of its releases.
+ghost use Rattle.std.specs.Prelude.{◌≡◌, take};
+ghost use Rattle.release.specs.Files.{axioms_of};
+ghost use Rattle.signature.specs.Bytes.{signature_of};
+ghost use Rattle.el.specs.Answers.{comparison_bytes};
+ghost use Rattle.marks.specs.Memory.{size};
+ghost use Rattle.comparison.specs.Compared.{Given, Ready};
+ghost use Rattle.branches.specs.Filling.{Fits, RowsFilled};
+ghost use Rattle.branches.specs.Rows.{row_of};
+
+use crate::row::{Row, tell};
+use comparison::preparation::prepare;
+use comparison::{Releases, compare_prepared};
+use release::Release;
+
+// The row of one signature. The memory is left as it was.
+fn row_of(releases: &Releases, signature: &[u8], work: &mut [u8]) -> Row
+    requires given { Given signature.now releases.now work.old }
+    requires ready { Ready releases.now.first.file.now releases.now.second.file.now releases.now.names (size releases.now.names) work.old }
+    ensures row { result ≡ row_of (take releases.now.names signature.now)
+        (comparison_bytes releases.now.names (signature_of releases.now.names releases.now.roles signature.now)
+        (axioms_of releases.now.first.file.now) (axioms_of releases.now.second.file.now)) }
+    ensures same { work.new ≡ work.old }
+{
+    let names = releases.names;
+    let mut result = [0u8; Release::NAMES];
+    compare_prepared(releases, signature, &mut result, work);
+    tell(&signature[..names], &result[..names])
+}
+
+// Fills a row for each signature: the releases are classified once, and the memory is 0 again as far as it is used.
+pub fn fill(releases: &Releases, signatures: &[u8], work: &mut [u8], rows: &mut [Row])
+    requires { Fits releases.now signatures.now rows.old work.old }
+    ensures { RowsFilled releases.now signatures.now rows.old rows.new work.old work.new }
+{
+    prepare(releases, work);
+    let length = releases.names + releases.roles;
+    for branch in 0..rows.len() {
+        let start = branch * length;
+        let signature = &signatures[start..start + length];
+        rows[branch] = row_of(releases, signature, work);
+    }
+    marks::clear(work, 4 * marks::size(releases.names));
+}

@@ -1,0 +1,39 @@
+// The refusals of a comparison of releases.
+ghost use Rattle.release.specs.Refusals.{Numbers};
+ghost use Rattle.meanings.specs.Refusals.{compare_refusal};
+
+use release::{FileRefusal, Refusal};
+use signature::SignatureRefusal;
+
+// Why a comparison is refused: the first of these that is met, in this order.
+#[derive(Clone, Copy, Debug, PartialEq, Eq)]
+pub enum CompareRefusal {
+    First(FileRefusal),
+    Second(FileRefusal),
+    DifferentCounts,
+    Signature(SignatureRefusal),
+    ShortResult,
+    ShortWork,
+}
+
+impl Refusal for CompareRefusal {
+    ghost numbers = { compare_refusal };
+
+    fn number(self) -> u8 {
+        match self {
+            CompareRefusal::First(refusal) | CompareRefusal::Second(refusal) => refusal.number(),
+            CompareRefusal::DifferentCounts => 16,
+            CompareRefusal::Signature(refusal) => refusal.number(),
+            CompareRefusal::ShortResult => 31,
+            CompareRefusal::ShortWork => 32,
+        }
+    }
+
+    fn side(self) -> u8 {
+        match self {
+            CompareRefusal::First(_) => 1,
+            CompareRefusal::Second(_) => 2,
+            _ => 0,
+        }
+    }
+}
