@@ -1,42 +1,18 @@
--- The lines and counts of result bytes, one byte at a time.
---   Counting side bs found i     `found` of the first i bytes of bs report on a side
---   Adding bs k i                k is the length of the lines of the first i bytes of bs
--- Not here: writing (Puts.antt).
-use mathlib.Core.Path.{◌≡◌, refl, sym, ap, subst, ◌∙◌}
-use mathlib.Core.Bool.{Bool, true, false}
+-- The lines and counts of result bytes, by the sides that the bytes report on.
+use mathlib.Core.Path.{◌≡◌, refl, sym, ap, ◌∙◌}
+use mathlib.Core.Bool.{true, false}
 use mathlib.Core.List.{List, [], ◌∷◌, ◌++◌}
-use Prim.Native.Nat.{ℕ, ◌+◌, ◌*◌, ◌≤◌, ◌<◌}
-use native.Mathlib.Numerals.{add-one}
+use Prim.Native.Nat.{ℕ, suc, ◌+◌, ◌<◌}
 use native.Mathlib.Omega.{arith}
-use lib.ListN.{length, drop, get_or, length-append, drop_of_length-le}
-use lib.Seq.{drop-cons}
-use Rattle.el.specs.Lists.{pick, count}
+use lib.ListN.{length, take, get_or}
+use Rattle.std.proofs.Common.{append_assoc, length-take-le}
+use Rattle.std.proofs.lemmas.List.{append-nil, take_more}
 use Rattle.el.specs.Comparison.{is_reported}
+use Rattle.report.specs.declared.lines.Side.{Side}
+use Rattle.report.specs.declared.lines.Side.TheVariants.{Left, Right, Both}
 use Rattle.report.specs.Texts.{newline, space, letter, line, entry, lines}
 use Rattle.report.specs.Numbers.{three_digits}
-use Rattle.report.specs.Places.{Room, Put, LinesLength, Counted, on_side}
-use Rattle.report.proofs.Puts.{Rest, rest_less, rest_nothing, room_first}
-use Rattle.report.proofs.Decimals.{three_few}
-
--- sides and letters
-module _ (b : ℕ) where
-  pub reported_left : on_side 1 b ≡ true → true ≡ is_reported b
-  reported_left e = rw e
-
-  pub reported_right : on_side 1 b ≡ false → on_side 2 b ≡ is_reported b
-  reported_right e = rw e
-
-  pub letter_both : on_side 1 b ≡ true → on_side 2 b ≡ true → ◌≡◌ {A = ℕ} 66 (letter b)
-  unfolding letter
-  letter_both e f = rw (e, f)
-
-  pub letter_left : on_side 1 b ≡ true → on_side 2 b ≡ false → ◌≡◌ {A = ℕ} 76 (letter b)
-  unfolding letter
-  letter_left e f = rw (e, f)
-
-  pub letter_right : on_side 1 b ≡ false → ◌≡◌ {A = ℕ} 82 (letter b)
-  unfolding letter
-  letter_right e = rw e
+use Rattle.report.specs.Sides.{side_byte, side_letter}
 
 -- the line of a name
 module _ (a b : ℕ) where
@@ -48,85 +24,26 @@ module _ (a b : ℕ) where
   unfolding entry
   entry_nothing e = rw e
 
-  pub entry_few : length (entry a b) ≤ a + 6
-  entry_few = go (is_reported b) refl
-    where
-      go : (t : Bool) → is_reported b ≡ t → length (entry a b) ≤ a + 6
-      go true e = omega (arith, ap length (entry_line e), length-append (three_digits a) (space ∷ letter b ∷ newline ∷ []), three_few a)
-      go false e = omega (arith, ap length (entry_nothing e))
+-- by the side that its byte reports on
+side_line_at : (a : ℕ) (s : Side) → entry a (side_byte s) ≡ three_digits a ++ (space ∷ side_letter s ∷ newline ∷ [])
+unfolding entry line letter
+side_line_at a Left = refl
+side_line_at a Right = refl
+side_line_at a Both = refl
 
-module _ (bs : List ℕ) (i : ℕ) (h : i < length bs) where
-  next_lines : lines i (drop i bs) ≡ entry i (get_or bs i 0) ++ lines (i + 1) (drop (i + 1) bs)
-  unfolding lines
-  next_lines =
-      ap (λ (l : List ℕ). lines i l) (drop-cons bs i 0 h)
-      ∙ ap (λ (k : ℕ). entry i (get_or bs i 0) ++ lines k (drop k bs)) (sym (add-one i))
+pub side_line : (a b : ℕ) (s : Side) (l : ℕ) → l ≡ side_letter s → side_byte s ≡ b → three_digits a ++ (space ∷ l ∷ newline ∷ []) ≡ entry a b
+side_line a b s l f e = rw f (sym (side_line_at a s) ∙ ap (λ (k : ℕ). entry a k) e)
 
-  next_count : (p : ℕ → Bool) → count p (drop i bs) ≡ pick (p (get_or bs i 0)) 1 0 + count p (drop (i + 1) bs)
-  unfolding count
-  next_count p =
-      ap (λ (l : List ℕ). count p l) (drop-cons bs i 0 h)
-      ∙ ap (λ (k : ℕ). pick (p (get_or bs i 0)) 1 0 + count p (drop k bs)) (sym (add-one i))
+-- one line more
+lines_append : (a : ℕ) (bs : List ℕ) (b : ℕ) → lines a (bs ++ (b ∷ [])) ≡ lines a bs ++ entry (a + length bs) b
+unfolding lines
+lines_append a [] b = let e : a + 0 ≡ a = omega arith in rw e (append-nil (entry a b))
+lines_append a (d ∷ bs) b =
+    let e : suc a + length bs ≡ a + suc (length bs) = omega arith in
+    ap (λ (l : List ℕ). entry a d ++ l) (lines_append (suc a) bs b ∙ ap (λ (k : ℕ). lines (suc a) bs ++ entry k b) e)
+    ∙ sym (append_assoc (entry a d) (lines (suc a) bs) (entry (a + suc (length bs)) b))
 
-module _ {o : List ℕ} {p : ℕ} (bs : List ℕ) {q : List ℕ} {next : ℕ} (i : ℕ) where
-  pub entry_room : Rest o p (lines 0 bs) q next (lines i (drop i bs)) → i < length bs → Room q next (entry i (get_or bs i 0))
-  entry_room rest h =
-      room_first (entry i (get_or bs i 0)) (lines (i + 1) (drop (i + 1) bs)) (subst (λ (l : List ℕ). Room q next l) (next_lines bs i h) rest.room)
-
-  pub entry_put : {r : List ℕ} {then : ℕ} → Rest o p (lines 0 bs) q next (lines i (drop i bs)) → i < length bs → Put q next (entry i (get_or bs i 0)) r then
-      → Rest o p (lines 0 bs) r then (lines (i + 1) (drop (i + 1) bs))
-  entry_put rest h put = rest_less (subst (λ (l : List ℕ). Rest o p (lines 0 bs) q next l) (next_lines bs i h) rest) put
-
-  pub entries_put : Rest o p (lines 0 bs) q next (lines i (drop i bs)) → length bs ≤ i → Put o p (lines 0 bs) q next
-  unfolding lines
-  entries_put rest h =
-      rest_nothing (subst (λ (l : List ℕ). Rest o p (lines 0 bs) q next (lines i l)) (drop_of_length-le bs h) rest)
-
-pub record Counting (side : ℕ) (bs : List ℕ) (found i : ℕ) : Type 0 where
-  pub is : count (on_side side) bs ≡ found + count (on_side side) (drop i bs)
-  pub few : found ≤ i
-
-module _ (side : ℕ) (bs : List ℕ) where
-  pub count_none : Counting side bs 0 0
-  count_none = record { is = omega arith; few = omega arith }
-
-  module _ (found i : ℕ) (going : Counting side bs found i) where
-    pub count_more : i < length bs → on_side side (get_or bs i 0) ≡ true → Counting side bs (found + 1) (i + 1)
-    count_more h e =
-        let n : count (on_side side) (drop i bs) ≡ 1 + count (on_side side) (drop (i + 1) bs) =
-        next_count bs i h (on_side side) ∙ ap (λ (b : Bool). pick b 1 0 + count (on_side side) (drop (i + 1) bs)) e in
-        record { is = going.is ∙ omega arith; few = omega arith }
-
-    pub count_same : i < length bs → on_side side (get_or bs i 0) ≡ false → Counting side bs found (i + 1)
-    count_same h e =
-        let n : count (on_side side) (drop i bs) ≡ 0 + count (on_side side) (drop (i + 1) bs) =
-        next_count bs i h (on_side side) ∙ ap (λ (b : Bool). pick b 1 0 + count (on_side side) (drop (i + 1) bs)) e in
-        record { is = going.is ∙ omega arith; few = omega arith }
-
-    pub count_all : i ≤ length bs → length bs ≤ i → Counted side bs found
-    unfolding count
-    count_all l h =
-        let n : count (on_side side) (drop i bs) ≡ 0 = ap (λ (r : List ℕ). count (on_side side) r) (drop_of_length-le bs h) in
-        record { is = omega (arith, going.is); small = omega arith }
-
-pub record Adding (bs : List ℕ) (k i : ℕ) : Type 0 where
-  pub is : length (lines 0 bs) ≡ k + length (lines i (drop i bs))
-  pub few : k ≤ i * 70000
-
-module _ (bs : List ℕ) where
-  pub add_none : Adding bs 0 0
-  add_none = record { is = omega arith; few = omega arith }
-
-  module _ (k i : ℕ) (going : Adding bs k i) where
-    pub add_entry : (more : ℕ) → i < length bs → i < 65536 → more ≡ length (entry i (get_or bs i 0)) → Adding bs (k + more) (i + 1)
-    add_entry more h small e =
-        let f : length (entry i (get_or bs i 0)) ≤ i + 6 = entry_few i (get_or bs i 0) in
-        let n : length (lines i (drop i bs)) ≡ length (entry i (get_or bs i 0)) + length (lines (i + 1) (drop (i + 1) bs)) =
-        ap length (next_lines bs i h) ∙ length-append (entry i (get_or bs i 0)) (lines (i + 1) (drop (i + 1) bs)) in
-        record { is = omega (arith, going.is); few = omega arith }
-
-    pub add_all : i ≤ length bs → length bs ≤ i → LinesLength bs k
-    unfolding lines
-    add_all l h =
-        let n : length (lines i (drop i bs)) ≡ 0 = ap (λ (r : List ℕ). length (lines i r)) (drop_of_length-le bs h) in
-        record { is = omega (arith, going.is); small = omega arith }
+pub lines_more : (bs : List ℕ) (i : ℕ) → i < length bs → lines 0 (take i bs) ++ entry i (get_or bs i 0) ≡ lines 0 (take (i + 1) bs)
+lines_more bs i h =
+    let long : 0 + length (take i bs) ≡ i = omega (arith, length-take-le i bs) in
+    sym (ap (λ (l : List ℕ). lines 0 l) (take_more bs i 0 h) ∙ lines_append 0 (take i bs) (get_or bs i 0) ∙ ap (λ (k : ℕ). lines 0 (take i bs) ++ entry k (get_or bs i 0)) long)

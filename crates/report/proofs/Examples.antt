@@ -6,7 +6,7 @@ use Rattle.report.specs.Numbers.{digits_within, decimal, three_digits}
 use Rattle.el.specs.Lists.{count}
 use Rattle.branches.specs.Sheets.{no_row}
 use Rattle.branches.specs.declared.row.Row.{Row}
-use Rattle.meanings.specs.declared.Comparison.TheVariants.{Accepted}
+use Rattle.std.proofs.Common.{Ok}
 use Rattle.report.specs.Sheets.{worded, row_line, row_lines, branches_of, sheet_text}
 use Rattle.report.specs.Texts.{two_numbers, letter, line, entry, lines, report_with, report, refusal_line}
 
@@ -49,6 +49,6 @@ three_rows =
     ∷ []
 
 -- of three rows, where two branches were asked for
-sheet : sheet_text (Accepted (record { names = 12; roles = 0 })) 2 three_rows ≡ sheet_lines
+sheet : sheet_text (Ok (record { names = 12; roles = 0 })) 2 three_rows ≡ sheet_lines
 unfolding sheet_lines three_rows sheet_text branches_of row_lines row_line worded decimal digits_within
 sheet = refl

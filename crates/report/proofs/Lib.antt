@@ -1,9 +1,6 @@
--- Laws of writing a text piece by piece, of numbers and of lines. To be read in this order.
-pub mod Puts
+-- The text that the code puts is the text defined, and what writing it answers is what is promised.
 pub mod Decimals
 pub mod Entries
-pub mod Pieces
-pub mod Answers
-pub mod Examples
-pub mod Answered
 pub mod Sheets
+pub mod Answers
+mod Examples

@@ -6,13 +6,13 @@
 --   branches_of q           q, or 64 where q is above 64: an accepted sheet never has more branches
 --   sheet_text a q rs       the text of a sheet of q branches with the answer a and the rows rs
 --   SheetWritten a q rs o p r      writing it answers r, and the output, o before, is p after it
-use Rattle.std.specs.Prelude.{List, [], ◌∷◌, ◌++◌, ℕ, suc, ltb, take}
+use Rattle.std.specs.Prelude.{List, [], ◌∷◌, ◌++◌, ℕ, suc, ltb, take, Result, Ok, Err}
 use Rattle.el.specs.Lists.{pick}
 use Rattle.branches.specs.Sheets.{most_branches}
 use Rattle.branches.specs.declared.row.Row.{Row}
-use Rattle.meanings.specs.declared.Comparison.{Comparison}
-use Rattle.meanings.specs.declared.Comparison.TheVariants.{Accepted, Refused}
-use Rattle.report.specs.declared.Written.{Written}
+use Rattle.meanings.specs.declared.Compared.{Compared}
+use Rattle.release.specs.Refusals.{Numbers}
+use Rattle.report.specs.declared.refusals.ReportRefusal.{ReportRefusal}
 use Rattle.report.specs.Numbers.{decimal}
 use Rattle.report.specs.Texts.{newline, right_word, refusal_line}
 use Rattle.report.specs.Written.{fitted, WrittenAs}
@@ -55,9 +55,9 @@ first_lines n rs = row_lines 0 (take n rs)
 unfoldable pub branches_of : ℕ → ℕ
 branches_of q = pick (ltb most_branches q) most_branches q
 
-unfoldable pub sheet_text : Comparison → ℕ → List Row → List ℕ
-sheet_text (Accepted counts) q rs = first_lines (branches_of q) rs
-sheet_text (Refused refusal) q rs = refusal_line refusal.number refusal.side
+unfoldable pub sheet_text : Result Compared Numbers → ℕ → List Row → List ℕ
+sheet_text (Ok counts) q rs = first_lines (branches_of q) rs
+sheet_text (Err refusal) q rs = refusal_line refusal.number refusal.side
 
-abbrev pub SheetWritten : Comparison → ℕ → List Row → List ℕ → List ℕ → Written → Type 0
+abbrev pub SheetWritten : Result Compared Numbers → ℕ → List Row → List ℕ → List ℕ → Result ℕ ReportRefusal → Type 0
 SheetWritten a q rs o output answer = WrittenAs (fitted (sheet_text a q rs) o) (sheet_text a q rs) o output answer

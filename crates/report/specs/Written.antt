@@ -3,27 +3,20 @@
 --   output_after a text o   the output o after the answer a: the text at its start and the rest as it was, or unchanged
 --   WrittenAs e text o p a     the answer a is e, and the output, o before, is p after it
 --   report_answer n m result o              what writing a report answers
-use Rattle.std.specs.Prelude.{◌≡◌, List, ◌++◌, ℕ, ltb, length, take, drop}
+use Rattle.std.specs.Prelude.{◌≡◌, List, ◌++◌, ℕ, ltb, length, take, drop, Result, Ok, Err}
 use Rattle.el.specs.Lists.{pick}
 use Rattle.report.specs.Texts.{report}
-use Rattle.report.specs.declared.Written.{Written}
-use Rattle.report.specs.declared.Written.TheVariants.{Length, Refused}
+use Rattle.report.specs.declared.refusals.ReportRefusal.{ReportRefusal}
+use Rattle.report.specs.declared.refusals.ReportRefusal.TheVariants.{ShortResult, ShortOutput}
 
--- "31 result shorter than n", and a number of our own for the output; both concern neither release
-abbrev pub short_result : Written
-short_result = Refused (record { number = 31; side = 0 })
+unfoldable pub fitted : List ℕ → List ℕ → Result ℕ ReportRefusal
+fitted text o = pick (ltb (length o) (length text)) (Err ShortOutput) (Ok (length text))
 
-abbrev pub short_output : Written
-short_output = Refused (record { number = 33; side = 0 })
+abbrev pub output_after : Result ℕ ReportRefusal → List ℕ → List ℕ → List ℕ
+output_after (Ok k) text o = text ++ drop k o
+output_after (Err f) text o = o
 
-unfoldable pub fitted : List ℕ → List ℕ → Written
-fitted text o = pick (ltb (length o) (length text)) short_output (Length (length text))
-
-abbrev pub output_after : Written → List ℕ → List ℕ → List ℕ
-output_after (Length k) text o = text ++ drop k o
-output_after (Refused f) text o = o
-
-pub record WrittenAs (expected : Written) (text o output : List ℕ) (answer : Written) : Type 0 where
+pub record WrittenAs (expected : Result ℕ ReportRefusal) (text o output : List ℕ) (answer : Result ℕ ReportRefusal) : Type 0 where
   pub answers : answer ≡ expected
   pub leaves : output ≡ output_after expected text o
 
@@ -31,5 +24,5 @@ pub record WrittenAs (expected : Written) (text o output : List ℕ) (answer : W
 abbrev pub report_text : ℕ → ℕ → List ℕ → List ℕ
 report_text n m result = report n m (take n result)
 
-unfoldable pub report_answer : ℕ → ℕ → List ℕ → List ℕ → Written
-report_answer n m result o = pick (ltb (length result) n) short_result (fitted (report_text n m result) o)
+unfoldable pub report_answer : ℕ → ℕ → List ℕ → List ℕ → Result ℕ ReportRefusal
+report_answer n m result o = pick (ltb (length result) n) (Err ShortResult) (fitted (report_text n m result) o)

@@ -1,7 +1,7 @@
 -- A rewritten file is accepted, and says what the release says.
 --   read_back       so does the file of an accepted release in a version that has room for its names
 use mathlib.Core.Path.{◌≡◌, refl, sym, ap, subst, ◌∙◌}
-use mathlib.Core.Bool.{Bool, true, false, not}
+use mathlib.Core.Bool.{Bool, true, false}
 use mathlib.Core.List.{List, ◌++◌}
 use Prim.Native.Nat.{ℕ, zero, suc, ◌+◌, ◌≤◌}
 use native.Mathlib.Nat.{mod-eq_of_lt}
@@ -11,10 +11,13 @@ use lib.ListN.{length, get_or}
 use Rattle.el.specs.Lists.{pick}
 use Rattle.el.specs.Axioms.{Axiom}
 use Rattle.el.specs.Derivability.{Derives}
-use Rattle.release.specs.Files.{mark, starts_with, is_version, version_of, width_of, most_names_of, top_number, header_length, first_place, names_of, roles_of, count_of, header_fault}
+use Rattle.release.specs.Files.{mark, starts_with, version_of, width_of, most_names_of, top_number, header_length, first_place, names_of, roles_of, count_of, header_fault}
 use Rattle.release.specs.Files.{axioms_fault, axioms_from, axioms_of, conjunct_defined, fault, IsWidth}
 use Rattle.release.proofs.Numbers.{width_1, width_2}
-use Rattle.release.proofs.Headers.{header_none}
+use Rattle.release.specs.declared.number.Version.{Version}
+use Rattle.release.specs.declared.number.Version.TheVariants.{One, Two}
+use Rattle.release.specs.Versions.{width as version_width}
+use Rattle.release.proofs.Headers.{Started, header_none}
 use Rattle.release.proofs.Checks.{header_sound}
 use Rattle.release.proofs.Linked.{no_header_fault, no_axiom_fault, no_conjunct_defined}
 use Rattle.rewriting.specs.Bytes.{number_bytes, axioms_bytes, release_bytes}
@@ -22,6 +25,13 @@ use Rattle.rewriting.specs.Rewriting.{rewritten, Same}
 use Rattle.rewriting.proofs.Lengths.{header_bytes, count_length}
 use Rattle.rewriting.proofs.Parts.{At, at_start, at_place, at_later, at_byte, number_back, fits, two_fit, byte_back, at_number, at_next}
 use Rattle.rewriting.proofs.ReadBack.{axioms_back}
+
+-- the version whose names have this width
+version_with : (w : ℕ) → IsWidth w → (v : Version) × (version_width v ≡ w)
+version_with zero h = absurd (omega arith)
+version_with (suc zero) h = (One, refl)
+version_with (suc (suc zero)) h = (Two, refl)
+version_with (suc (suc (suc w))) h = absurd (omega arith)
 
 -- the header of a file of n names, m roles and the axioms al
 module _ (w n m : ℕ) (al : List Axiom) (width : IsWidth w) (few : n ≤ most_names_of w) (few_roles : m ≤ 32) (few_axioms : length al ≤ n) where
@@ -88,25 +98,18 @@ module _ (w n m : ℕ) (al : List Axiom) (width : IsWidth w) (few : n ≤ most_n
   unfolding count_of
   count_back = rw width_back (number_back w (length al) (fits w (length al) width (within_top (length al) few_axioms)) (at_number w (length al) (axioms_bytes w al) at_count))
 
-  marked : not (starts_with mark t) ≡ false
+  marked : starts_with mark t ≡ true
   unfolding release_bytes
   marked = refl
 
-  known : not (is_version (version_of t)) ≡ false
-  known = rw version_back (by_width w width)
-    where
-      by_width : (x : ℕ) → IsWidth x → not (is_version x) ≡ false
-      by_width zero h = absurd (omega arith)
-      by_width (suc zero) h = refl
-      by_width (suc (suc zero)) h = refl
-      by_width (suc (suc (suc x))) h = absurd (omega arith)
-
   pub header_back : header_fault t ≡ 0
-  header_back =
-      let l = header_bytes w n m al in
-      let long : header_length 1 ≤ length t = omega (arith, l, width.some) in
-      let whole : first_place t ≤ length t = omega (arith, l, width_back) in
-      header_none t long marked known whole (rw (width_back, names_back) few) (rw roles_back few_roles) (rw (count_back, names_back) few_axioms)
+  header_back = by_version (version_with w width)
+    where
+      by_version : (v : Version) × (version_width v ≡ w) → header_fault t ≡ 0
+      by_version (v, e) =
+          let l = header_bytes w n m al in
+          let started : Started t v = record { long = omega (arith, l, width.some); marked = marked; version = e ∙ sym version_back } in
+          header_none t v started (omega (arith, l, e)) (rw (e, names_back) few) (rw roles_back few_roles) (rw (count_back, names_back) few_axioms)
 
 -- the whole file
 module _ (w : ℕ) (s : List ℕ) (width : IsWidth w) (ok : fault s ≡ 0) (few : names_of s ≤ most_names_of w) where

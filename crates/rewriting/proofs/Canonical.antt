@@ -20,7 +20,7 @@ use Rattle.release.proofs.Checks.{Header, header_sound}
 use Rattle.release.proofs.Linked.{no_header_fault}
 use Rattle.rewriting.specs.Bytes.{Bytes, number_bytes, names_bytes, filler_number, tail_bytes, axiom_bytes, axioms_bytes, release_bytes}
 use Rattle.rewriting.specs.Rewriting.{rewritten}
-use Rattle.rewriting.specs.Places.{TailStands, AxiomStands}
+use Rattle.rewriting.specs.Stands.{TailStands, AxiomStands}
 use Rattle.rewriting.proofs.Pieces.{number_length, numbers_length}
 use Rattle.rewriting.proofs.Lengths.{own_length, header_bytes, accepted_ends, count_length}
 use Rattle.rewriting.proofs.Stands.{tail_stands, AllStand, all_stand}

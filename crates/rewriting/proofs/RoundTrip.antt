@@ -14,11 +14,10 @@ use lib.Seq.{take_at}
 use Rattle.release.specs.Files.{version_of, width_of, most_names_of, names_of, fault, IsWidth}
 use Rattle.release.proofs.Checks.{header_sound}
 use Rattle.release.proofs.Linked.{no_header_fault}
-use Rattle.rewriting.specs.declared.Rewriting.{Rewriting}
-use Rattle.rewriting.specs.declared.Rewriting.TheVariants.{Written}
+use Rattle.std.specs.Prelude.{Result, Ok}
+use Rattle.release.specs.Refusals.{Numbers}
 use Rattle.rewriting.specs.Bytes.{Bytes}
 use Rattle.rewriting.specs.Rewriting.{rewritten, refusal, fitted, answer_to, output_after, Rewrites, Same, Returned}
-use Rattle.rewriting.proofs.Stands.{one_byte}
 use Rattle.rewriting.proofs.Accepted.{read_back}
 use Rattle.rewriting.proofs.Canonical.{canonical, version_width}
 
@@ -29,7 +28,7 @@ pub record Wrote (w : ℕ) (s o : List ℕ) (k : ℕ) : Type 0 where
   pub long : k ≡ length (rewritten w s)
   pub room : k ≤ length o
 
-pub not_refused : (w : ℕ) (s o : List ℕ) → fault s ≡ 0 → names_of s ≤ most_names_of w → length (rewritten w s) ≤ length o → answer_to w s o ≡ Written (length (rewritten w s))
+pub not_refused : (w : ℕ) (s o : List ℕ) → fault s ≡ 0 → names_of s ≤ most_names_of w → length (rewritten w s) ≤ length o → answer_to w s o ≡ Ok (length (rewritten w s))
 unfolding answer_to fitted
 not_refused w s o ok names room =
     let few : ltb (most_names_of w) (names_of s) ≡ false = le-ltb _ _ names in
@@ -37,37 +36,37 @@ not_refused w s o ok names room =
     simp (answer_to, ok, fitted, few, fits)
 
 module _ (w : ℕ) (s o : List ℕ) (k : ℕ) where
-  fitted_wrote : fault s ≡ 0 → Written k ≡ fitted w s o → Wrote w s o k
+  fitted_wrote : fault s ≡ 0 → Ok k ≡ fitted w s o → Wrote w s o k
   unfolding fitted
   fitted_wrote ok h = by_tests (ltb (most_names_of w) (names_of s)) (ltb (length o) (length (rewritten w s))) refl refl
     where
       by_tests : (a b : Bool) → ltb (most_names_of w) (names_of s) ≡ a → ltb (length o) (length (rewritten w s)) ≡ b → Wrote w s o k
       by_tests true b e f =
-          let i : Written k ≡ refusal 40 1 = h ∙ rw (e, fitted) in
+          let i : Ok k ≡ refusal 40 1 = h ∙ rw (e, fitted) in
           let z : ◌≡◌ {A = ℕ} 0 1 = cc in
           absurd (omega arith)
       by_tests false true e f =
-          let i : Written k ≡ refusal 41 0 = h ∙ rw (e, f, fitted) in
+          let i : Ok k ≡ refusal 41 0 = h ∙ rw (e, f, fitted) in
           let z : ◌≡◌ {A = ℕ} 0 1 = cc in
           absurd (omega arith)
       by_tests false false e f =
-          let i : Written k ≡ Written (length (rewritten w s)) = h ∙ rw (e, f, fitted) in
+          let i : Ok k ≡ Ok (length (rewritten w s)) = h ∙ rw (e, f, fitted) in
           let l : k ≡ length (rewritten w s) = cc in
           record { accepted = ok; names = ltb-false _ _ e; long = l; room = omega (arith, ltb-false (length o) (length (rewritten w s)) f) }
 
-  pub wrote : Written k ≡ answer_to w s o → Wrote w s o k
+  pub wrote : Ok k ≡ answer_to w s o → Wrote w s o k
   unfolding answer_to
   wrote h = by_fault (fault s) refl
     where
       by_fault : (f : ℕ) → fault s ≡ f → Wrote w s o k
       by_fault zero e = fitted_wrote e (h ∙ rw e)
       by_fault (suc f) e =
-          let i : Written k ≡ refusal (suc f) 1 = h ∙ rw e in
+          let i : Ok k ≡ refusal (suc f) 1 = h ∙ rw e in
           let z : ◌≡◌ {A = ℕ} 0 1 = cc in
           absurd (omega arith)
 
 -- the bytes that a call wrote
-module _ {w : ℕ} {s o q : List ℕ} {k : ℕ} (call : Rewrites w s o q (Written k)) where
+module _ {w : ℕ} {s o q : List ℕ} {k : ℕ} (call : Rewrites w s o q (Ok k)) where
   pub written_bytes : take k q ≡ rewritten w s
   written_bytes = ap (take k) call.leaves ∙ take_at (rewritten w s) (drop k o) k (sym (wrote w s o k call.answers).long)
 
@@ -84,7 +83,7 @@ same_file : {w : ℕ} {s t : List ℕ} (v : ℕ) → Same w s t → rewritten v 
 unfolding rewritten
 same_file v same = rw (same.names, same.roles, same.axioms)
 
-pub round_trip : (s : List ℕ) → Bytes s → {w : ℕ} → IsWidth w → {o q o' q' : List ℕ} {k : ℕ} {answer : Rewriting} → Rewrites w s o q (Written k)
+pub round_trip : (s : List ℕ) → Bytes s → {w : ℕ} → IsWidth w → {o q o' q' : List ℕ} {k : ℕ} {answer : Result ℕ Numbers} → Rewrites w s o q (Ok k)
     → Rewrites (version_of s) (take k q) o' q' answer → length s ≤ length o' → Returned s o' q' answer
 round_trip s bytes {w} width {o} {q} {o'} {q'} {k} {answer} forth back room =
     let ok : fault s ≡ 0 = (wrote w s o k forth.answers).accepted in
@@ -94,15 +93,15 @@ round_trip s bytes {w} width {o} {q} {o'} {q'} {k} {answer} forth back room =
     let again : rewritten v t ≡ s = same_file v same ∙ copied s bytes ok in
     let few : names_of s ≤ most_names_of (width_of s) = (header_sound s (no_header_fault s ok)).names_by_width in
     let names : names_of t ≤ most_names_of v = rw (same.names, version_width s bytes ok) few in
-    let full : answer_to v t o' ≡ Written (length (rewritten v t)) = not_refused v t o' same.accepted names (rw again room) in
-    let answers : answer ≡ Written (length s) = back.answers ∙ full ∙ ap (λ (x : List ℕ). Written (length x)) again in
+    let full : answer_to v t o' ≡ Ok (length (rewritten v t)) = not_refused v t o' same.accepted names (rw again room) in
+    let answers : answer ≡ Ok (length s) = back.answers ∙ full ∙ ap (λ (x : List ℕ). Ok (length x)) again in
     record {
       answers = answers;
-      leaves = back.leaves ∙ (ap (λ (a : Rewriting). output_after a (rewritten v t) o') answers ∙ ap (λ (x : List ℕ). x ++ drop (length s) o') again);
+      leaves = back.leaves ∙ (ap (λ (a : Result ℕ Numbers). output_after a (rewritten v t) o') answers ∙ ap (λ (x : List ℕ). x ++ drop (length s) o') again);
     }
 
 -- a release of version 2 rewritten as version 1 and then as version 2
-pub round_trip_2 : (s : List ℕ) → Bytes s → version_of s ≡ 2 → {o q o' q' : List ℕ} {k : ℕ} {answer : Rewriting} → Rewrites 1 s o q (Written k) → Rewrites 2 (take k q) o' q' answer
+pub round_trip_2 : (s : List ℕ) → Bytes s → version_of s ≡ 2 → {o q o' q' : List ℕ} {k : ℕ} {answer : Result ℕ Numbers} → Rewrites 1 s o q (Ok k) → Rewrites 2 (take k q) o' q' answer
     → length s ≤ length o' → Returned s o' q' answer
 round_trip_2 s bytes e {o} {q} {o'} {q'} {k} {answer} forth back room =
-    round_trip s bytes one_byte forth (subst (λ (v : ℕ). Rewrites v (take k q) o' q' answer) (sym e) back) room
+    round_trip s bytes (record { some = omega arith; few = omega arith }) forth (subst (λ (v : ℕ). Rewrites v (take k q) o' q' answer) (sym e) back) room

@@ -1,103 +1,113 @@
 // An axiom read at a place of a file and written at a place of the output, with names of another width.
-ghost use Rattle.std.specs.Prelude.{◌≡◌};
-ghost use Rattle.release.specs.Files.{joins, numbers, filler_node, right_at, axiom_at, axiom_length, IsWidth};
+ghost use Rattle.std.specs.Prelude.{◌≡◌, ◌≤◌, ◌+◌, ◌*◌, length};
+ghost use Rattle.release.specs.Files.{joins, numbers, filler_node, right_at, axiom_at, axiom_length};
+ghost use Rattle.release.specs.Versions.{width};
 ghost use Rattle.rewriting.specs.Bytes.{names_bytes, filler_number, tail_bytes, axiom_bytes};
-ghost use Rattle.rewriting.specs.Places.{Room, Put, NamesStand, TailStands, AxiomStands};
+ghost use Rattle.rewriting.specs.Stands.{TailStands, AxiomStands};
+ghost use Rattle.writing.specs.Places.{Room, Put};
 
-use crate::places::put_number;
-use release::number::{number, top, wide};
+use crate::numbers::put_number;
+use release::number::Version;
+use writing::put_byte;
 
+// A file that is read, and the version that it has.
+#[derive(Clone, Copy)]
+pub struct Source<'a> {
+    pub file: &'a [u8],
+    pub version: Version,
+}
+
+// The kinds of a conjunction. Of a kind byte that was accepted the number tells it.
 fn is_conjunction(kind: u8) -> bool
     ensures { result ≡ joins kind }
 {
-    if kind == 1 {
-        return true;
-    }
-    kind == 2
+    matches!(kind, 1 | 2)
 }
 
 // The bytes that the axiom at `from` takes in the file.
-pub fn axiom_length(file: &[u8], from: usize, width: usize) -> usize
-    requires { AxiomStands width file.now from }
-    ensures { result ≡ axiom_length width file.now from }
+pub fn axiom_length(source: &Source, from: usize) -> usize
+    requires { AxiomStands (width source.now.version) source.now.file.now from }
+    ensures { result ≡ axiom_length (width source.now.version) source.now.file.now from }
 {
+    let width = source.version.width();
     let after = from + width;
-    if is_conjunction(file[after]) {
-        return width + 1 + (1 + width * wide(file[after + 1]));
+    if is_conjunction(source.file[after]) {
+        return width + 1 + (1 + width * usize::from(source.file[after + 1]));
     }
     width + 1 + (1 + width)
 }
 
-// The number that a filler has where names are as wide as wanted: ⊤ has another one there.
-fn filler_number(filler: usize, width: usize, wanted: usize) -> usize
-    ensures { result ≡ filler_number wanted (filler_node width filler) }
+// The number that a filler has in the wanted version: ⊤ has another one there.
+fn filler_number(filler: usize, version: Version, wanted: Version) -> usize
+    ensures { result ≡ filler_number (width wanted) (filler_node (width version) filler) }
 {
-    if filler == top(width) {
-        return top(wanted);
+    if filler == version.top() {
+        return wanted.top();
     }
     filler
 }
 
 // Names one after the other.
 fn put_names(
-    file: &[u8],
+    source: &Source,
     from: usize,
-    width: usize,
     count: usize,
     output: &mut [u8],
     at: usize,
-    wanted: usize,
+    wanted: Version,
 ) -> usize
-    requires { (NamesStand width count file.now from × IsWidth wanted) × Room output.old at (names_bytes wanted (numbers width count file.now from)) }
-    ensures { Put output.old at (names_bytes wanted (numbers width count file.now from)) output.new result }
+    requires inside { from + width source.now.version * count ≤ length source.now.file.now }
+    requires room { Room output.old at (names_bytes (width wanted) (numbers (width source.now.version) count source.now.file.now from)) }
+    ensures { Put output.old at (names_bytes (width wanted) (numbers (width source.now.version) count source.now.file.now from)) output.new result }
 {
-    let mut left = count;
     let mut p = from;
     let mut next = at;
-    while 0 < left {
-        next = put_number(output, next, wanted, number(file, p, width));
-        p += width;
-        left -= 1;
+    for _name in 0..count {
+        let name = source.version.number(source.file, p);
+        next = put_number(output, next, wanted, name);
+        p += source.version.width();
     }
     next
 }
 
 // What stands after the kind byte: a byte, and then the conjuncts or the filler.
 fn put_tail(
-    file: &[u8],
+    source: &Source,
     tail: usize,
-    width: usize,
     kind: u8,
     output: &mut [u8],
     at: usize,
-    wanted: usize,
+    wanted: Version,
 ) -> usize
-    requires { (TailStands width kind file.now tail × IsWidth wanted) × Room output.old at (tail_bytes wanted (right_at width kind file.now tail)) }
-    ensures { Put output.old at (tail_bytes wanted (right_at width kind file.now tail)) output.new result }
+    requires stands { TailStands (width source.now.version) kind source.now.file.now tail }
+    requires room { Room output.old at (tail_bytes (width wanted) (right_at (width source.now.version) kind source.now.file.now tail)) }
+    ensures { Put output.old at (tail_bytes (width wanted) (right_at (width source.now.version) kind source.now.file.now tail)) output.new result }
 {
-    let first = wide(file[tail]);
-    let next = put_number(output, at, 1, first);
+    let first = source.file[tail];
+    let next = put_byte(output, at, first);
     if is_conjunction(kind) {
-        return put_names(file, tail + 1, width, first, output, next, wanted);
+        return put_names(source, tail + 1, usize::from(first), output, next, wanted);
     }
-    let filler = number(file, tail + 1, width);
-    put_number(output, next, wanted, filler_number(filler, width, wanted))
+    let filler = source.version.number(source.file, tail + 1);
+    let number = filler_number(filler, source.version, wanted);
+    put_number(output, next, wanted, number)
 }
 
 pub fn put_axiom(
-    file: &[u8],
+    source: &Source,
     from: usize,
-    width: usize,
     output: &mut [u8],
     at: usize,
-    wanted: usize,
+    wanted: Version,
 ) -> usize
-    requires { (AxiomStands width file.now from × IsWidth wanted) × Room output.old at (axiom_bytes wanted (axiom_at width file.now from)) }
-    ensures { Put output.old at (axiom_bytes wanted (axiom_at width file.now from)) output.new result }
+    requires stands { AxiomStands (width source.now.version) source.now.file.now from }
+    requires room { Room output.old at (axiom_bytes (width wanted) (axiom_at (width source.now.version) source.now.file.now from)) }
+    ensures { Put output.old at (axiom_bytes (width wanted) (axiom_at (width source.now.version) source.now.file.now from)) output.new result }
 {
-    let left = number(file, from, width);
-    let kind = file[from + width];
+    let after = from + source.version.width();
+    let left = source.version.number(source.file, from);
+    let kind = source.file[after];
     let first = put_number(output, at, wanted, left);
-    let second = put_number(output, first, 1, wide(kind));
-    put_tail(file, from + width + 1, width, kind, output, second, wanted)
+    let second = put_byte(output, first, kind);
+    put_tail(source, after + 1, kind, output, second, wanted)
 }

@@ -1,8 +1,11 @@
-use Rattle.report.proofs.Answered.{accepted_written, refused_written}
+-- `write_answer` meets its contract: by the two cases of the answer.
+use Rattle.report.specs.Answered.{answer_text, answer_to}
 use Rattle.report.proofs.write_answer.Goals as goal
 
-pub returns-in-Accepted : goal.returns-in-Accepted
-returns-in-Accepted c = accepted_written _ _ c.in-Accepted.is c.write_report.ensures
+pub returns-in-Ok : goal.returns-in-Ok
+unfolding answer_text answer_to
+returns-in-Ok g c = rw (c.in-Ok.is, answer_text, answer_to) c.write_report.ensures
 
-pub returns-in-Refused : goal.returns-in-Refused
-returns-in-Refused c = refused_written _ _ c.in-Refused.is c.write_refusal.ensures
+pub returns-in-Err : goal.returns-in-Err
+unfolding answer_text answer_to
+returns-in-Err g c = rw (c.in-Err.is, answer_text, answer_to) c.write_refusal.ensures

@@ -1,13 +1,13 @@
--- `write_refusal` meets its contract: the line fits or not.
-use Rattle.report.proofs.Answers.{text_too_long, text_fits, refusal_text}
+-- `write_refusal` meets its contract: the line is put whole or not at all.
+use Rattle.std.proofs.Common.{◌≡◌, rules, sym, ◌∙◌}
+use Rattle.report.proofs.Answers.{whole_written}
+use Rattle.report.specs.Texts.{refusal_line}
 use Rattle.report.proofs.write_refusal.Goals as goal
 
-pub returns-then-output-length : goal.returns-then-output-length
-returns-then-output-length c =
-    let text = refusal_text c.wide-number.ensures c.wide-side.ensures in
-    text_too_long _ _ _ _ text c.two_numbers_length-length.ensures c.if-output-length.true c.refused.ensures
-
 pub returns : goal.returns
-returns c =
-    let text = refusal_text c.wide-number.ensures c.wide-side.ensures in
-    text_fits _ _ _ _ text c.two_numbers_length-length.ensures c.if-output-length.false c.put_two_numbers.ensures
+unfolding refusal_line
+returns g c =
+    let told = g.R.Refusal.numbers c.args.refusal in
+    let number : told.number ≡ c.from-number.result = sym (c.from-number.ensures ∙ c.number.ensures) in
+    let side : told.side ≡ c.from-side.result = sym (c.from-side.ensures ∙ c.side.ensures) in
+    rw (number, side) (whole_written _ _ _ _ _ (c.put_whole.ensures _ (λ o q next e. search rules)) c.ok_or.ensures.value)

@@ -1,27 +1,13 @@
--- `put_entry` meets its contract: room for each piece of the line where those before it stand, and then the whole line.
-use mathlib.Core.Path.{refl, sym, ◌∙◌}
-use Rattle.report.proofs.Puts.{put_none}
-use Rattle.report.proofs.Entries.{entry_nothing}
-use Rattle.report.proofs.Pieces.{name_room, space_room, letter_room, line_end_room, line_put}
+-- `put_entry` meets its contract: nothing for a name that is not reported, else its line, piece by piece.
+use Rattle.std.proofs.Common.{arith, sym}
+use Rattle.writing.proofs.Puts.{put_none, put_as, put_then}
+use Rattle.report.proofs.Entries.{entry_nothing, side_line}
 use Rattle.report.proofs.lines.put_entry.Goals as goal
 
-pub put_three_digits-first-requires : goal.put_three_digits-first-requires
-put_three_digits-first-requires c = name_room c.args.name c.args.byte _ (sym c.is_reported.ensures ∙ c.if-is_reported.true) refl c.requires
-
-pub put_byte-second-requires : goal.put_byte-second-requires
-put_byte-second-requires c = space_room c.args.name c.args.byte _ (sym c.is_reported.ensures ∙ c.if-is_reported.true) refl c.requires c.put_three_digits-first.ensures
-
-pub put_byte-third-requires : goal.put_byte-third-requires
-put_byte-third-requires c = letter_room c.args.name c.args.byte _ (sym c.is_reported.ensures ∙ c.if-is_reported.true) c.letter.ensures c.requires c.put_three_digits-first.ensures
-    c.put_byte-second.ensures
-
-pub put_byte-requires : goal.put_byte-requires
-put_byte-requires c = line_end_room c.args.name c.args.byte _ (sym c.is_reported.ensures ∙ c.if-is_reported.true) c.letter.ensures c.requires c.put_three_digits-first.ensures
-    c.put_byte-second.ensures c.put_byte-third.ensures
-
-pub returns-then-is_reported : goal.returns-then-is_reported
-returns-then-is_reported c = line_put c.args.name c.args.byte _ (sym c.is_reported.ensures ∙ c.if-is_reported.true) c.letter.ensures c.put_three_digits-first.ensures
-    c.put_byte-second.ensures c.put_byte-third.ensures c.put_byte.ensures
+pub returns-in_default : goal.returns-in_default
+returns-in_default c = put_as (sym (entry_nothing c.args.name c.args.byte c.in_default.ensures)) (put_none (omega arith) (omega arith))
 
 pub returns : goal.returns
-returns c = rw (entry_nothing c.args.name c.args.byte (sym c.is_reported.ensures ∙ c.if-is_reported.false)) put_none
+returns c =
+    put_as (side_line c.args.name c.args.byte c.in-Some.side c.letter.result c.letter.ensures c.in-Some.ensures)
+    (put_then c.put_three_digits-first.ensures (put_then c.put_or_count-second.ensures (put_then c.put_or_count-third.ensures c.put_or_count.ensures)))

@@ -1,22 +1,12 @@
--- The digits of the tenth are put first, then the last digit.
-use Rattle.std.proofs.Common.{arith}
-use Rattle.report.proofs.Decimals.{tenth_less, tenth_room, one_digit_room, one_digit_put, last_digit_room, last_digit_put}
+-- The digits of a number are those of its tenth, and its last: put one after the other they are the number.
+use mathlib.Core.Path.{sym}
+use native.Mathlib.Omega.{arith}
+use Rattle.writing.proofs.Puts.{put_as, put_then}
+use Rattle.report.proofs.Decimals.{decimal_last, decimal_more}
 use Rattle.report.proofs.numbers.+put_decimal.Goals as goal
 
-pub put_byte-requires : goal.put_byte-requires
-put_byte-requires t c = one_digit_room _ _ c.if-number-lt10.true c.digit.ensures c.requires
-
 pub returns-then-number-lt10 : goal.returns-then-number-lt10
-returns-then-number-lt10 t c = one_digit_put _ _ c.if-number-lt10.true c.digit.ensures c.put_byte.ensures
-
-pub put_decimal-next-requires : goal.put_decimal-next-requires
-put_decimal-next-requires t c =
-    let large = c.if-number-lt10.false in
-    (omega (arith, tenth_less _ large), tenth_room _ large c.requires)
-
-pub put_byte-requires-2 : goal.put_byte-requires-2
-put_byte-requires-2 t c =
-    last_digit_room _ _ c.if-number-lt10.false c.digit-2.ensures c.requires c.put_decimal-next.ensures
+returns-then-number-lt10 t c = put_as (decimal_last c.args.number c.if-number-lt10.true) c.put_or_count.ensures
 
 pub returns : goal.returns
-returns t c = last_digit_put _ _ c.if-number-lt10.false c.digit-2.ensures c.put_decimal-next.ensures c.put_byte-2.ensures
+returns t c = put_as (sym (decimal_more c.args.number c.if-number-lt10.false)) (put_then c.put_decimal-next.ensures c.put_or_count-2.ensures)

@@ -1,4 +1,4 @@
--- The tenth of a number is less, so it ends.
+-- Each call is made for a tenth of the number.
 use Rattle.report.proofs.numbers.+put_decimal.Given as goal
 
 abbrev pub decreases-put_decimal : goal.decreases-put_decimal

@@ -1,12 +1,8 @@
--- `put_rows` meets its contract. The invariant: the lines of the branches from `branch` on are still to be written.
-use Prim.Native.Nat.{◌≤◌, ◌-◌}
-use Rattle.report.specs.Sheets.{first_lines}
-use Rattle.report.proofs.Puts.{Rest}
-use Rattle.report.proofs.Sheets.{lines_from}
+-- `put_rows` meets its contract: the lines of the branches so far are put.
+use Rattle.std.proofs.Common.{take}
+use Rattle.report.specs.Sheets.{row_lines}
+use Rattle.writing.specs.Places.{Put}
 use Rattle.report.proofs.sheet.put_rows.Given as goal
 
 abbrev pub invariant-loop-branch : goal.invariant-loop-branch
-invariant-loop-branch l = (l.branch ≤ l.count) × Rest l.initial.output 0 (first_lines l.count l.rows) l.output l.next (lines_from l.branch l.count l.rows)
-
-abbrev pub decreases-loop-branch : goal.decreases-loop-branch
-decreases-loop-branch l = l.count - l.branch
+invariant-loop-branch l = Put l.initial.output 0 (row_lines 0 (take l.branch l.rows)) l.output l.next

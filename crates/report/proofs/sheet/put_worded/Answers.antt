@@ -1,12 +1,8 @@
--- `put_worded` meets its contract: room for the number where the word stands, and then both.
-use Rattle.report.proofs.Sheets.{the_word_room, the_number_room, worded_put}
+-- `put_worded` meets its contract: the word is put, and then the number.
+use Rattle.writing.proofs.Puts.{put_then}
+use Rattle.report.specs.Sheets.{worded}
 use Rattle.report.proofs.sheet.put_worded.Goals as goal
 
-pub put_text-next-requires : goal.put_text-next-requires
-put_text-next-requires c = the_word_room _ _ c.requires
-
-pub put_decimal-requires : goal.put_decimal-requires
-put_decimal-requires c = the_number_room _ _ c.requires c.put_text-next.ensures
-
 pub returns : goal.returns
-returns c = worded_put _ _ c.put_text-next.ensures c.put_decimal.ensures
+unfolding worded
+returns c = put_then c.put_text-next.ensures c.put_decimal.ensures

@@ -1,14 +1,17 @@
 -- `put_names` meets its contract. The invariant: the names from place `p` on are still to be written.
-use Prim.Native.Nat.{◌+◌, ◌*◌, ◌≤◌}
+use Prim.Native.Nat.{◌+◌, ◌-◌, ◌*◌, ◌≤◌}
 use lib.ListN.{length}
 use Rattle.release.specs.Files.{numbers}
+use Rattle.release.specs.Versions.{width}
 use Rattle.rewriting.specs.Bytes.{names_bytes}
 use Rattle.rewriting.proofs.Puts.{Rest}
 use Rattle.rewriting.proofs.axiom.put_names.Given as goal
 
-abbrev pub invariant-loop-left : goal.invariant-loop-left
-invariant-loop-left l = (l.p + l.width * l.left ≤ length l.file) × Rest l.initial.output l.at (names_bytes l.wanted (numbers l.width l.count l.file l.from)) l.output l.next
-    (names_bytes l.wanted (numbers l.width l.left l.file l.p))
-
-abbrev pub decreases-loop-left : goal.decreases-loop-left
-decreases-loop-left l = l.left
+abbrev pub invariant-loop-name : goal.invariant-loop-name
+invariant-loop-name l =
+    let v = width l.source.version in
+    let file = l.source.file.now in
+    record {
+      inside : l.p + v * (l.count - l._name) ≤ length file;
+      left : Rest l.initial.output l.at (names_bytes (width l.wanted) (numbers v l.count file l.from)) l.output l.next (names_bytes (width l.wanted) (numbers v (l.count - l._name) file l.p));
+    }

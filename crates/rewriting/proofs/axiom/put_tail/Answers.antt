@@ -1,40 +1,42 @@
 -- `put_tail` meets its contract: a byte, and then the conjuncts or the filler.
 use mathlib.Core.Path.{sym, ◌∙◌}
+use Prim.Native.Nat.{◌<◌}
+use native.Mathlib.Omega.{arith}
+use lib.ListN.{get_or}
+use Rattle.release.specs.Versions.{width}
 use Rattle.rewriting.proofs.Puts.{rest_whole, piece_put, last_put}
 use Rattle.rewriting.proofs.Pieces.{first_room, joined_bytes, restricted_bytes}
-use Rattle.rewriting.proofs.Stands.{one_byte, names_stand, filler_stands}
 use Rattle.rewriting.proofs.axiom.put_tail.Goals as goal
 
-pub put_number-next-requires : goal.put_number-next-requires
-put_number-next-requires c = (one_byte, first_room _ _ _ c.requires.1)
+pub put_byte-next-requires : goal.put_byte-next-requires
+put_byte-next-requires c = first_room _ _ _ c.requires.room
 
-pub put_names-requires : goal.put_names-requires
-put_names-requires c =
+pub put_names-requires-clause-room : goal.put_names-requires-clause-room
+put_names-requires-clause-room c =
     let a = c.args in
-    let j = sym c.is_conjunction.ensures ∙ c.if-is_conjunction.true in
-    let begins = joined_bytes a.wanted a.width a.kind a.file.now a.tail _ c.wide-first.ensures j in
-    ((names_stand _ _ _ _ c.requires.0.0 j _ c.wide-first.ensures, c.requires.0.1), (piece_put begins (rest_whole c.requires.1) c.put_number-next.ensures).room)
+    let small : get_or a.source.now.file.now a.tail 0 < 256 = omega arith in
+    let begins = joined_bytes (width a.wanted) (width a.source.now.version) a.kind a.source.now.file.now a.tail small (sym c.is_conjunction.ensures ∙ c.if-is_conjunction.true) in
+    rw c.from.ensures (piece_put begins (rest_whole (omega arith) c.requires.room) c.put_byte-next.ensures).room
 
 pub returns-then-is_conjunction : goal.returns-then-is_conjunction
 returns-then-is_conjunction c =
     let a = c.args in
-    let j = sym c.is_conjunction.ensures ∙ c.if-is_conjunction.true in
-    let begins = joined_bytes a.wanted a.width a.kind a.file.now a.tail _ c.wide-first.ensures j in
-    last_put (piece_put begins (rest_whole c.requires.1) c.put_number-next.ensures) c.put_names.ensures
-
-pub number-filler-requires : goal.number-filler-requires
-number-filler-requires c = filler_stands _ _ _ _ c.requires.0.0 (sym c.is_conjunction.ensures ∙ c.if-is_conjunction.false)
+    let small : get_or a.source.now.file.now a.tail 0 < 256 = omega arith in
+    let begins = joined_bytes (width a.wanted) (width a.source.now.version) a.kind a.source.now.file.now a.tail small (sym c.is_conjunction.ensures ∙ c.if-is_conjunction.true) in
+    last_put (piece_put begins (rest_whole (omega arith) c.requires.room) c.put_byte-next.ensures) (rw c.from.ensures at c.put_names.ensures)
 
 pub put_number-requires : goal.put_number-requires
 put_number-requires c =
     let a = c.args in
+    let small : get_or a.source.now.file.now a.tail 0 < 256 = omega arith in
     let j = sym c.is_conjunction.ensures ∙ c.if-is_conjunction.false in
-    let begins = restricted_bytes a.wanted a.width a.kind a.file.now a.tail _ c.wide-first.ensures j _ _ c.number-filler.ensures c.filler_number.ensures in
-    (c.requires.0.1, (piece_put begins (rest_whole c.requires.1) c.put_number-next.ensures).room)
+    let begins = restricted_bytes (width a.wanted) (width a.source.now.version) a.kind a.source.now.file.now a.tail small j _ _ c.number-filler.ensures c.filler_number-number.ensures in
+    (piece_put begins (rest_whole (omega arith) c.requires.room) c.put_byte-next.ensures).room
 
 pub returns : goal.returns
 returns c =
     let a = c.args in
+    let small : get_or a.source.now.file.now a.tail 0 < 256 = omega arith in
     let j = sym c.is_conjunction.ensures ∙ c.if-is_conjunction.false in
-    let begins = restricted_bytes a.wanted a.width a.kind a.file.now a.tail _ c.wide-first.ensures j _ _ c.number-filler.ensures c.filler_number.ensures in
-    last_put (piece_put begins (rest_whole c.requires.1) c.put_number-next.ensures) c.put_number.ensures
+    let begins = restricted_bytes (width a.wanted) (width a.source.now.version) a.kind a.source.now.file.now a.tail small j _ _ c.number-filler.ensures c.filler_number-number.ensures in
+    last_put (piece_put begins (rest_whole (omega arith) c.requires.room) c.put_byte-next.ensures) c.put_number.ensures

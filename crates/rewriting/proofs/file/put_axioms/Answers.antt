@@ -1,45 +1,50 @@
 -- `put_axioms` meets its contract. The invariant: the axioms from place `from` on are still to be written.
+use mathlib.Core.Path.{◌≡◌}
+use Prim.Native.Nat.{suc, ◌+◌, ◌-◌}
 use native.Mathlib.Omega.{arith}
-use Rattle.release.proofs.Numbers.{is_width}
+use Rattle.std.proofs.Math.Nat.{sub-zero}
+use Rattle.release.specs.Files.{count_of}
 use Rattle.rewriting.proofs.Puts.{rest_whole, piece_room, piece_put, nothing_left}
 use Rattle.rewriting.proofs.Pieces.{first_axiom, no_axiom}
 use Rattle.rewriting.proofs.Stands.{all_stand, first_stands, others_stand, header_stands, has_version}
 use Rattle.rewriting.proofs.file.put_axioms.Goals as goal
 
-pub width-width-requires : goal.width-width-requires
-width-width-requires c = has_version _ c.requires.0.0
+pub of-version-requires : goal.of-version-requires
+of-version-requires c = has_version _ c.requires.accepted
 
-pub axioms-left-requires : goal.axioms-left-requires
-axioms-left-requires c = header_stands _ c.requires.0.0 _ c.width-width.ensures
+pub axioms-axiom-end-requires : goal.axioms-axiom-end-requires
+axioms-axiom-end-requires c = header_stands _ c.requires.accepted _ c.of-version.ensures
 
-pub header_length-from-requires : goal.header_length-from-requires
-header_length-from-requires c = omega (arith, c.width-width.ensures, (is_width c.args.file.now).few)
+pub loop-axiom-init : goal.loop-axiom-init
+loop-axiom-init c = rw (sub-zero, c.header_length-from.ensures, c.of-version.ensures) (record { stand = all_stand _ c.requires.accepted; left = rest_whole (omega arith) c.requires.room })
 
-pub loop-left-init : goal.loop-left-init
-loop-left-init c = rw (c.header_length-from.ensures, c.width-width.ensures, c.axioms-left.ensures) (all_stand _ c.requires.0.0, rest_whole c.requires.1)
+pub put_axiom-next-requires-clause-stands : goal.put_axiom-next-requires-clause-stands
+put_axiom-next-requires-clause-stands c =
+    let more : count_of c.args.file.now - c.loop-axiom._axiom ≡ suc (count_of c.args.file.now - (c.loop-axiom._axiom + 1)) = omega (arith, c.axioms-axiom-end.ensures, c.loop-axiom-test.true) in
+    first_stands _ _ _ _ more c.loop-axiom.invariant.stand _ c.of-version.ensures
 
-pub put_axiom-next-requires : goal.put_axiom-next-requires
-put_axiom-next-requires c = (
-  (first_stands c.loop-left.left _ _ (omega (arith, c.loop-left-test.true)) c.loop-left.invariant.0 _ c.width-width.ensures, c.requires.0.1),
-  piece_room
-      (first_axiom _ _ _ c.loop-left.left (omega (arith, c.loop-left-test.true)) _ c.width-width.ensures) c.loop-left.invariant.1,
-)
+pub put_axiom-next-requires-clause-room : goal.put_axiom-next-requires-clause-room
+put_axiom-next-requires-clause-room c =
+    let more : count_of c.args.file.now - c.loop-axiom._axiom ≡ suc (count_of c.args.file.now - (c.loop-axiom._axiom + 1)) = omega (arith, c.axioms-axiom-end.ensures, c.loop-axiom-test.true) in
+    piece_room (first_axiom _ _ _ _ _ more _ c.of-version.ensures) c.loop-axiom.invariant.left
 
 pub axiom_length-from-requires : goal.axiom_length-from-requires
-axiom_length-from-requires c = first_stands c.loop-left.left _ _ (omega (arith, c.loop-left-test.true)) c.loop-left.invariant.0 _ c.width-width.ensures
+axiom_length-from-requires c =
+    let more : count_of c.args.file.now - c.loop-axiom._axiom ≡ suc (count_of c.args.file.now - (c.loop-axiom._axiom + 1)) = omega (arith, c.axioms-axiom-end.ensures, c.loop-axiom-test.true) in
+    first_stands _ _ _ _ more c.loop-axiom.invariant.stand _ c.of-version.ensures
 
 pub overflow_add-from : goal.overflow_add-from
-overflow_add-from c = omega (arith, c.axiom_length-from.ensures, (first_stands c.loop-left.left _ _ (omega (arith, c.loop-left-test.true)) c.loop-left.invariant.0 _ c.width-width.ensures).inside)
+overflow_add-from c =
+    let more : count_of c.args.file.now - c.loop-axiom._axiom ≡ suc (count_of c.args.file.now - (c.loop-axiom._axiom + 1)) = omega (arith, c.axioms-axiom-end.ensures, c.loop-axiom-test.true) in
+    omega (arith, c.axiom_length-from.ensures, (first_stands _ _ _ _ more c.loop-axiom.invariant.stand _ c.of-version.ensures).inside)
 
-pub loop-left-preserved : goal.loop-left-preserved
-loop-left-preserved c = rw c.axiom_length-from.ensures (
-  others_stand c.loop-left.left _ _ (omega (arith, c.loop-left-test.true)) c.loop-left.invariant.0 _ c.width-width.ensures,
-  piece_put
-      (first_axiom _ _ _ c.loop-left.left (omega (arith, c.loop-left-test.true)) _ c.width-width.ensures) c.loop-left.invariant.1 c.put_axiom-next.ensures,
-)
-
-pub shape_of-output : goal.shape_of-output
-shape_of-output c = c.loop-left.invariant.1.same
+pub loop-axiom-preserved : goal.loop-axiom-preserved
+loop-axiom-preserved c =
+    let more : count_of c.args.file.now - c.loop-axiom._axiom ≡ suc (count_of c.args.file.now - (c.loop-axiom._axiom + 1)) = omega (arith, c.axioms-axiom-end.ensures, c.loop-axiom-test.true) in
+    rw c.axiom_length-from.ensures (record {
+      stand = others_stand _ _ _ _ more c.loop-axiom.invariant.stand _ c.of-version.ensures;
+      left = piece_put (first_axiom _ _ _ _ _ more _ c.of-version.ensures) c.loop-axiom.invariant.left c.put_axiom-next.ensures;
+    })
 
 pub returns : goal.returns
-returns c = nothing_left (no_axiom _ _ _ c.loop-left.left (omega (arith, c.loop-left-test.false))) c.loop-left.invariant.1
+returns c = nothing_left (no_axiom _ _ _ _ (omega (arith, c.axioms-axiom-end.ensures, c.loop-axiom-test.false))) c.loop-axiom.invariant.left

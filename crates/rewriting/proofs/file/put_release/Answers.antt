@@ -1,57 +1,58 @@
 -- `put_release` meets its contract: room for each piece where those before it stand, and then the whole file.
+use mathlib.Core.Path.{◌≡◌, ap}
+use native.Mathlib.Omega.{arith}
+use Rattle.release.specs.declared.Counts.{Counts}
+use Rattle.release.specs.Files.{roles_of}
+use Rattle.release.proofs.Limits.{few_counts}
 use Rattle.rewriting.proofs.Puts.{rest_whole, piece_room, piece_put, last_put}
-use Rattle.rewriting.proofs.Stands.{one_byte, two_bytes}
 use Rattle.rewriting.proofs.Answers.{begins_mark, begins_version, begins_names, begins_roles, begins_count}
 use Rattle.rewriting.proofs.file.put_release.Goals as goal
 
-pub put_mark-marked-requires : goal.put_mark-marked-requires
-put_mark-marked-requires c = piece_room (begins_mark _ _) (rest_whole c.requires.1)
-
 pub put_number-versioned-requires : goal.put_number-versioned-requires
 put_number-versioned-requires c =
-    let r0 = piece_put (begins_mark _ _) (rest_whole c.requires.1) c.put_mark-marked.ensures in
-    (two_bytes, piece_room (begins_version _ _) r0)
+    let r0 = piece_put (begins_mark _ _) (rest_whole (omega arith) c.requires.room) c.put_text-marked.ensures in
+    rw c.width.ensures (piece_room (begins_version _ _) r0)
 
 pub put_number-named-requires : goal.put_number-named-requires
 put_number-named-requires c =
-    let g = c.requires.0.0 in
-    let r0 = piece_put (begins_mark _ _) (rest_whole c.requires.1) c.put_mark-marked.ensures in
-    let r1 = piece_put (begins_version _ _) r0 c.put_number-versioned.ensures in
-    (c.requires.0.1, piece_room (begins_names _ _ g) r1)
+    let r0 = piece_put (begins_mark _ _) (rest_whole (omega arith) c.requires.room) c.put_text-marked.ensures in
+    let r1 = piece_put (begins_version _ _) r0 (rw c.width.ensures at c.put_number-versioned.ensures) in
+    piece_room (begins_names _ _ c.requires.counts) r1
 
-pub put_number-ruled-requires : goal.put_number-ruled-requires
-put_number-ruled-requires c =
-    let g = c.requires.0.0 in
-    let r0 = piece_put (begins_mark _ _) (rest_whole c.requires.1) c.put_mark-marked.ensures in
-    let r1 = piece_put (begins_version _ _) r0 c.put_number-versioned.ensures in
-    let r2 = piece_put (begins_names _ _ g) r1 c.put_number-named.ensures in
-    (one_byte, piece_room (begins_roles _ _ g) r2)
+pub overflow_cast-counts : goal.overflow_cast-counts
+overflow_cast-counts c =
+    let e : c.args.counts.roles ≡ roles_of c.args.file.now = ap (λ (a : Counts). a.roles) c.requires.counts in
+    omega (arith, (few_counts c.args.file.now c.requires.accepted).1)
+
+pub put_byte-ruled-requires : goal.put_byte-ruled-requires
+put_byte-ruled-requires c =
+    let r0 = piece_put (begins_mark _ _) (rest_whole (omega arith) c.requires.room) c.put_text-marked.ensures in
+    let r1 = piece_put (begins_version _ _) r0 (rw c.width.ensures at c.put_number-versioned.ensures) in
+    let r2 = piece_put (begins_names _ _ c.requires.counts) r1 c.put_number-named.ensures in
+    piece_room (begins_roles _ _ c.requires.counts c.requires.accepted) r2
 
 pub put_number-counted-requires : goal.put_number-counted-requires
 put_number-counted-requires c =
-    let g = c.requires.0.0 in
-    let r0 = piece_put (begins_mark _ _) (rest_whole c.requires.1) c.put_mark-marked.ensures in
-    let r1 = piece_put (begins_version _ _) r0 c.put_number-versioned.ensures in
-    let r2 = piece_put (begins_names _ _ g) r1 c.put_number-named.ensures in
-    let r3 = piece_put (begins_roles _ _ g) r2 c.put_number-ruled.ensures in
-    (c.requires.0.1, piece_room (begins_count _ _ g) r3)
+    let r0 = piece_put (begins_mark _ _) (rest_whole (omega arith) c.requires.room) c.put_text-marked.ensures in
+    let r1 = piece_put (begins_version _ _) r0 (rw c.width.ensures at c.put_number-versioned.ensures) in
+    let r2 = piece_put (begins_names _ _ c.requires.counts) r1 c.put_number-named.ensures in
+    let r3 = piece_put (begins_roles _ _ c.requires.counts c.requires.accepted) r2 c.put_byte-ruled.ensures in
+    piece_room (begins_count _ _ c.requires.counts) r3
 
-pub put_axioms-requires : goal.put_axioms-requires
-put_axioms-requires c =
-    let g = c.requires.0.0 in
-    let r0 = piece_put (begins_mark _ _) (rest_whole c.requires.1) c.put_mark-marked.ensures in
-    let r1 = piece_put (begins_version _ _) r0 c.put_number-versioned.ensures in
-    let r2 = piece_put (begins_names _ _ g) r1 c.put_number-named.ensures in
-    let r3 = piece_put (begins_roles _ _ g) r2 c.put_number-ruled.ensures in
-    let r4 = piece_put (begins_count _ _ g) r3 c.put_number-counted.ensures in
-    ((g.accepted, c.requires.0.1), r4.room)
+pub put_axioms-requires-clause-room : goal.put_axioms-requires-clause-room
+put_axioms-requires-clause-room c =
+    let r0 = piece_put (begins_mark _ _) (rest_whole (omega arith) c.requires.room) c.put_text-marked.ensures in
+    let r1 = piece_put (begins_version _ _) r0 (rw c.width.ensures at c.put_number-versioned.ensures) in
+    let r2 = piece_put (begins_names _ _ c.requires.counts) r1 c.put_number-named.ensures in
+    let r3 = piece_put (begins_roles _ _ c.requires.counts c.requires.accepted) r2 c.put_byte-ruled.ensures in
+    let r4 = piece_put (begins_count _ _ c.requires.counts) r3 c.put_number-counted.ensures in
+    r4.room
 
 pub returns : goal.returns
 returns c =
-    let g = c.requires.0.0 in
-    let r0 = piece_put (begins_mark _ _) (rest_whole c.requires.1) c.put_mark-marked.ensures in
-    let r1 = piece_put (begins_version _ _) r0 c.put_number-versioned.ensures in
-    let r2 = piece_put (begins_names _ _ g) r1 c.put_number-named.ensures in
-    let r3 = piece_put (begins_roles _ _ g) r2 c.put_number-ruled.ensures in
-    let r4 = piece_put (begins_count _ _ g) r3 c.put_number-counted.ensures in
+    let r0 = piece_put (begins_mark _ _) (rest_whole (omega arith) c.requires.room) c.put_text-marked.ensures in
+    let r1 = piece_put (begins_version _ _) r0 (rw c.width.ensures at c.put_number-versioned.ensures) in
+    let r2 = piece_put (begins_names _ _ c.requires.counts) r1 c.put_number-named.ensures in
+    let r3 = piece_put (begins_roles _ _ c.requires.counts c.requires.accepted) r2 c.put_byte-ruled.ensures in
+    let r4 = piece_put (begins_count _ _ c.requires.counts) r3 c.put_number-counted.ensures in
     last_put r4 c.put_axioms.ensures

@@ -1,9 +1,0 @@
--- `is_conjunction` meets its contract.
-use borrow.Author.Tests.{eq-eqb, ne_eqb}
-use Rattle.rewriting.proofs.axiom.is_conjunction.Goals as goal
-
-pub returns-then-kind-eq1 : goal.returns-then-kind-eq1
-returns-then-kind-eq1 c = rw (eq-eqb _ _ c.if-kind-eq1.true)
-
-pub returns : goal.returns
-returns c = rw (ne_eqb _ _ c.if-kind-eq1.false)

@@ -1,0 +1,9 @@
+-- The refusals of rewriting as callers of other languages are told them: the release's own on side 1, then 40 and 41.
+use Rattle.release.specs.Refusals.{Numbers, file_refusal}
+use Rattle.rewriting.specs.declared.refusals.RewriteRefusal.{RewriteRefusal}
+use Rattle.rewriting.specs.declared.refusals.RewriteRefusal.TheVariants.{File, ManyNames, ShortOutput}
+
+abbrev pub rewrite_refusal : RewriteRefusal → Numbers
+rewrite_refusal (File r) = file_refusal r
+rewrite_refusal ManyNames = record { number = 40; side = 1 }
+rewrite_refusal ShortOutput = record { number = 41; side = 0 }

@@ -1,0 +1,20 @@
+// Numbers put into the output, each in the bytes of a version's names.
+ghost use Rattle.release.specs.Versions.{width};
+ghost use Rattle.rewriting.specs.Bytes.{number_bytes};
+ghost use Rattle.writing.specs.Places.{Room, Put};
+
+use release::number::Version;
+use writing::put_byte;
+
+// The low byte first.
+pub fn put_number(output: &mut [u8], at: usize, version: Version, x: usize) -> usize
+    requires { Room output.old at (number_bytes (width version) x) }
+    ensures { Put output.old at (number_bytes (width version) x) output.new result }
+{
+    let [low, high, ..] = x.to_le_bytes();
+    let next = put_byte(output, at, low);
+    match version {
+        Version::One => next,
+        Version::Two => put_byte(output, next, high),
+    }
+}

@@ -1,0 +1,2 @@
+-- Laws of bytes put one after the other.
+pub mod Puts
