@@ -14,21 +14,23 @@ use std::{fs, str};
 // are.
 pub const RELEASE_BYTES: usize = 36839;
 
-// Reads the file's bytes to the start of `room`, as many as it holds, and answers how many. A missing file counts as empty, and a read
-// that fails as the end of the file. A name that is not UTF-8 is no file's.
-pub fn read_file(rt: &impl Files, name: &[u8], room: &mut [u8]) -> usize
-    ensures { result ≤ length room.old }
+// Reads the file's bytes to the start of `room`, as many as it holds, and answers those bytes. A missing file counts as empty, and a read
+// that fails as the end of the file. A name is bytes and no `&str`, so that any can be asked for: one that is not UTF-8 is no file's.
+pub fn read_file<'a>(rt: &impl Files, name: &[u8], room: &'a mut [u8]) -> &'a [u8]
+    ensures { length result.now ≤ length room.old }
 {
     let Ok(name) = str::from_utf8(name) else {
-        return 0;
+        return &[];
     };
     let Ok(mut file) = fs::open(rt, name) else {
-        return 0;
+        return &[];
     };
-    read_full(&mut file, room)
+    let length = read_full(&mut file, room);
+    &room[..length]
 }
 
-// Reads until `room` is full, the file ends or a read fails, and answers how many bytes it put at the start of `room`.
+// Reads until `room` is full, the file ends or a read fails, and answers how many bytes it put at the start of `room`. A loop, since the
+// library's `read_exact` promises nothing of a file that is too short.
 pub fn read_full<R: Read>(file: &mut R, room: &mut [u8]) -> usize
     ensures within { result ≤ length room.new }
     ensures bytes { Consumes (R.remaining file.old) (R.remaining file.new) (take result room.new) }

@@ -2,121 +2,101 @@
 --   prints           a text that was written is printed;  prints_within: its length is within the output
 --   answer_fitted    an answer to a comparison with a result that is long enough is written where its text fits
 --   station_prints, sheet_prints     the two programs
---   count_refused, count_none, count_some     how many signatures there are
+--   count_divided    how many signatures there are
 use mathlib.Core.Path.{◌≡◌, refl, sym, ap, ◌∙◌}
-use mathlib.Core.Bool.{Bool, true, false}
 use mathlib.Core.List.{List}
 use Prim.Native.Nat.{ℕ, ◌+◌, ◌/◌, ◌≤◌, ◌<◌}
 use native.Mathlib.Omega.{arith}
-use native.Mathlib.Decide.{dec_lt}
-use borrow.Author.Tests.{eq-eqb, ne_eqb, leb-true, lt-ltb, le-ltb}
-use lib.Dec.{eqb, leb}
+use borrow.Author.Tests.{eq-eqb, ne_eqb, le-ltb}
+use mathlib.Core.Logic.{⊎_elim}
 use lib.ListN.{length}
-use Rattle.el.specs.Lists.{pick}
+use Rattle.std.proofs.lemmas.Bool.{cases_lt}
+use Rattle.std.specs.Option.{SomeIff, unwrap_or}
+use Rattle.std.specs.Prelude.{Option, Some, None, Result, Ok, Err, IfSome}
+use Rattle.std.specs.Result.{result_ok}
 use Rattle.release.specs.Files.{most_names}
 use Rattle.release.specs.Readings.{checked}
+use Rattle.release.specs.Refusals.{Numbers, told}
 use Rattle.release.specs.declared.Counts.{Counts}
-use Rattle.release.specs.declared.Refusal.{Refusal}
-use Rattle.release.specs.declared.Checked.{Checked}
-use Rattle.release.specs.declared.Checked.TheVariants as Check
-use Rattle.signature.specs.Bytes.{signature_fault}
 use Rattle.meanings.specs.declared.Compared.{Compared}
-use Rattle.meanings.specs.declared.Comparison.{Comparison}
-use Rattle.meanings.specs.declared.Comparison.TheVariants.{Accepted, Refused}
-use Rattle.meanings.specs.Comparing.{work_length, refused, agreed, lent, and_then, judged, comparison, Says}
-use Rattle.meanings.proofs.Judging.{not_refused}
+use Rattle.meanings.specs.declared.refusals.CompareRefusal.{CompareRefusal}
+use Rattle.meanings.specs.Comparing.{agreed, lent, and_then, judged, comparison, Says}
+use Rattle.meanings.specs.Refusals.{compare_refusal}
+use Rattle.meanings.proofs.Judging.{lent_enough}
+use Rattle.branches.specs.declared.refusals.SheetRefusal.{SheetRefusal}
 use Rattle.branches.specs.declared.row.Row.{Row}
+use Rattle.branches.specs.Refusals.{sheet_refusal}
 use Rattle.branches.specs.Sheets as branches
 use Rattle.branches.specs.Sheets.{most_branches}
-use Rattle.report.specs.declared.Written.{Written}
-use Rattle.report.specs.declared.Written.TheVariants.{Length}
-use Rattle.report.specs.Written.{short_output, fitted, output_after, WrittenAs, report_answer}
+use Rattle.report.specs.declared.refusals.ReportRefusal.{ReportRefusal}
+use Rattle.report.specs.Written.{fitted, output_after, WrittenAs, report_answer}
 use Rattle.report.specs.Answered.{answer_text, answer_to}
 use Rattle.report.specs.Sheets.{sheet_text, SheetWritten}
-use Rattle.programs.specs.Printed.{text_length, Prints, signature_count, StationPrints, SheetPrints}
+use Rattle.report.proofs.Answers.{fits, lacks}
+use Rattle.programs.specs.Printed.{Prints, signature_count, StationPrints, SheetPrints}
 
 -- a text that is written
-fits : (text o : List ℕ) → length text ≤ length o → fitted text o ≡ Length (length text)
-unfolding fitted
-fits text o h = rw (le-ltb (length o) (length text) h)
-
-lacks : (text o : List ℕ) → length o < length text → fitted text o ≡ short_output
-unfolding fitted
-lacks text o h = rw (lt-ltb (length o) (length text) h)
-
-pub prints : {text o p : List ℕ} {a : Written} {r : ℕ} → WrittenAs (fitted text o) text o p a → r ≡ text_length a → Prints text o p r
-unfolding text_length
+pub prints : {text o p : List ℕ} {a : Result ℕ ReportRefusal} {r : Option ℕ} → WrittenAs (fitted text o) text o p a → r ≡ result_ok a → Prints text o p r
 prints {text} {o} {p} {a} {r} w e = record {
   written = a;
   writes = w;
-  whole = λ h. (e ∙ ap text_length (w.answers ∙ fits text o h), w.leaves ∙ ap (λ (z : Written). output_after z text o) (fits text o h));
-  short = λ h. (e ∙ ap text_length (w.answers ∙ lacks text o h), w.leaves ∙ ap (λ (z : Written). output_after z text o) (lacks text o h));
+  whole = λ h. (e ∙ ap result_ok (w.answers ∙ fits text o h), w.leaves ∙ ap (λ (z : Result ℕ ReportRefusal). output_after z text o) (fits text o h));
+  short = λ h. (e ∙ ap result_ok (w.answers ∙ lacks text o h), w.leaves ∙ ap (λ (z : Result ℕ ReportRefusal). output_after z text o) (lacks text o h));
 }
 
-pub prints_within : {text o p : List ℕ} {r : ℕ} → Prints text o p r → r ≤ length o
-prints_within {text} {o} {p} {r} w = by_length (dec_lt (length o) (length text))
+pub prints_within : (text o p : List ℕ) (r : Option ℕ) → length p ≡ length o → Prints text o p r → IfSome r (λ k. k ≤ length p)
+prints_within text o p None same w = tt
+prints_within text o p (Some k) same w = ⊎_elim lacking whole (cases_lt (length o) (length text))
   where
-    by_length : Dec (length o < length text) → r ≤ length o
-    by_length (yes h) = omega (arith, (w.short h).0)
-    by_length (no h) = omega (arith, (w.whole (omega arith)).0)
+    lacking : length o < length text → k ≤ length p
+    lacking h = let e = (w.short h).0 in absurd (cc)
+
+    whole : length text ≤ length o → k ≤ length p
+    whole h = let e = (w.whole h).0 in let equal : k ≡ length text = cc in omega arith
 
 -- a comparison is accepted only where the result has a byte for each name
-lent_result : (g : List ℕ) (o w : ℕ) (d c : Compared) → lent g o w d ≡ Accepted c → c.names ≤ o
-unfolding lent
-lent_result g o w d c h = by_tests (eqb (signature_fault d.names d.roles g) 0) (leb d.names o) (leb (work_length d.names) w) refl h
-  where
-    by_tests : (q u v : Bool) → leb d.names o ≡ u
-        → pick q (pick u (pick v (Accepted d) (refused 32 0)) (refused 31 0)) (refused (signature_fault d.names d.roles g) 0) ≡ Accepted c
-        → c.names ≤ o
-    by_tests false u v i z = not_refused z
-    by_tests true false v i z = not_refused z
-    by_tests true true false i z = not_refused z
-    by_tests true true true i z = let y : d ≡ c = cc in rw (← y) (leb-true _ _ i)
-
-result_long : (s t g : List ℕ) (o w : ℕ) (c : Compared) → comparison s t g o w ≡ Accepted c → c.names ≤ o
+result_long : (s t g : List ℕ) (o w : ℕ) (c : Compared) → comparison s t g o w ≡ Ok c → c.names ≤ o
 unfolding judged
 result_long s t g o w c h = by_releases (agreed _ _) h
   where
-    by_releases : (a : Comparison) → and_then a (lent g o w) ≡ Accepted c → c.names ≤ o
-    by_releases (Refused k) e = not_refused e
-    by_releases (Accepted d) e = lent_result g o w d c e
+    by_releases : (a : Result Compared Numbers) → and_then a (lent g o w) ≡ Ok c → c.names ≤ o
+    by_releases (Err k) e = absurd (cc)
+    by_releases (Ok d) e = let enough = lent_enough g o w d c e in rw (← enough.0) enough.1.result
 
-answer_fitted : (a : Comparison) (bs o : List ℕ) → ((c : Compared) → a ≡ Accepted c → c.names ≤ length bs) → answer_to a bs o ≡ fitted (answer_text a bs) o
+answer_fitted : (a : Result Compared Numbers) (bs o : List ℕ) → ((c : Compared) → a ≡ Ok c → c.names ≤ length bs) → answer_to a bs o ≡ fitted (answer_text a bs) o
 unfolding answer_to answer_text report_answer
-answer_fitted (Refused k) bs o f = refl
-answer_fitted (Accepted c) bs o f = rw (le-ltb (length bs) c.names (f c refl))
+answer_fitted (Err k) bs o f = refl
+answer_fitted (Ok c) bs o f = rw (le-ltb (length bs) c.names (f c refl))
 
 -- the station
-module _ {s t g b bs w v o p : List ℕ} {a : Comparison} {d : Written} {r : ℕ} where
+module _ {s t g b bs w v o p : List ℕ} {a : Result Compared CompareRefusal} {d : Result ℕ ReportRefusal} {r : Option ℕ} where
   pub station_prints : length b ≡ most_names → length bs ≡ length b → Says s t g b bs w v a
-      → WrittenAs (answer_to a bs o) (answer_text a bs) o p d → r ≡ text_length d → StationPrints s t g w v o p r
+      → WrittenAs (answer_to (told compare_refusal a) bs o) (answer_text (told compare_refusal a) bs) o p d → r ≡ result_ok d → StationPrints s t g w v o p r
   station_prints h i says writes e =
-      let fitting : answer_to a bs o ≡ fitted (answer_text a bs) o = answer_fitted a bs o (λ c f. rw i (result_long s t g (length b) (length w) c (sym says.answer ∙ f))) in
+      let fitting : answer_to (told compare_refusal a) bs o ≡ fitted (answer_text (told compare_refusal a) bs) o =
+      answer_fitted (told compare_refusal a) bs o (λ c f. rw i (result_long s t g (length b) (length w) c (sym says.answer ∙ f))) in
       record { lent = b; result = bs; answer = a; long = h; says = says; prints = prints (rw fitting at writes) e }
 
 -- the sheet
-module _ {s t gs w v o p : List ℕ} {ys zs : List Row} {a : Comparison} {d : Written} {q r : ℕ} where
+module _ {s t gs w v o p : List ℕ} {ys zs : List Row} {a : Result Compared SheetRefusal} {d : Result ℕ ReportRefusal} {q : ℕ} {r : Option ℕ} where
   pub sheet_prints : length ys ≡ most_branches → q ≡ signature_count (checked s) (length gs) → branches.Says s t gs q ys zs w v a
-      → SheetWritten a q zs o p d → r ≡ text_length d → SheetPrints s t gs w v o p r
+      → SheetWritten (told sheet_refusal a) q zs o p d → r ≡ result_ok d → SheetPrints s t gs w v o p r
   sheet_prints h i says writes e = record {
     lent = ys;
     rows = zs;
     answer = a;
     long = h;
     says = rw i at says;
-    prints = rw i at (prints {text = sheet_text a q zs} writes e);
+    prints = rw i at (prints {text = sheet_text (told sheet_refusal a) q zs} writes e);
   }
 
 -- how many signatures there are
-module _ (c : Checked) (bytes : ℕ) where
-  pub count_refused : {r : ℕ} (k : Refusal) → c ≡ Check.Refused k → r ≡ 0 → r ≡ signature_count c bytes
-  unfolding signature_count
-  count_refused k e h = h ∙ rw e
+pub count_refused : (c : Result Counts Numbers) (bytes : ℕ) {k : Numbers} → Err k ≡ c → 0 ≡ signature_count c bytes
+unfolding signature_count
+count_refused c bytes e = rw (← e) refl
 
-  pub count_none : {r : ℕ} (a : Counts) → c ≡ Check.Accepted a → a.names + a.roles ≡ 0 → r ≡ 0 → r ≡ signature_count c bytes
-  unfolding signature_count
-  count_none a e z h = h ∙ rw (e, signature_count, eq-eqb _ _ z)
-
-  pub count_some : {r : ℕ} (a : Counts) → c ≡ Check.Accepted a → (a.names + a.roles ≡ 0 → ⊥) → r ≡ bytes / (a.names + a.roles) → r ≡ signature_count c bytes
-  unfolding signature_count
-  count_some a e z h = h ∙ rw (e, signature_count, ne_eqb _ _ z)
+pub count_divided : (c : Result Counts Numbers) (bytes : ℕ) (a : Counts) → Ok a ≡ c → (d : Option ℕ) → SomeIff d (0 < a.names + a.roles) (bytes / (a.names + a.roles))
+    → unwrap_or d 0 ≡ signature_count c bytes
+unfolding signature_count
+count_divided c bytes a e None h = let none : a.names + a.roles ≡ 0 = omega arith in rw (← e, signature_count) (simp (eq-eqb _ 0 none))
+count_divided c bytes a e (Some q) (some, is) = rw (← e, signature_count) (simp (ne_eqb (a.names + a.roles) 0 (λ z. omega arith)) is)

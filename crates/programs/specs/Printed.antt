@@ -1,54 +1,52 @@
 -- What the programs print, by what the calls that they make promise.
---   text_length a                     the length of a text that was written, 0 where it was not
 --   Prints text o p r                the text stands at the start of the output, o before and p after it, and r is its length; where it
---                                    does not fit, the output is unchanged and r is 0
+--                                    does not fit, the output is unchanged and r is none
 --   signature_count c k               how many signatures k bytes hold, by the counts of a release that was checked
 --   StationPrints s t g w v o p r    the station, for the releases s and t and the signature g, with the work memory w, v after it: what
 --                                    Compare says, with a result of as many bytes as there can be names, is what is printed
 --   SheetPrints s t gs w v o p r     the same of the sheet, for all signatures that gs holds
-use Rattle.std.specs.Prelude.{◌≡◌, List, ◌++◌, ℕ, ◌+◌, ◌/◌, ◌≤◌, ◌<◌, eqb, length, drop}
+use Rattle.std.specs.Prelude.{◌≡◌, List, ◌++◌, ℕ, ◌+◌, ◌/◌, ◌≤◌, ◌<◌, eqb, length, drop, Option, Some, None, Result, Ok, Err}
 use Rattle.el.specs.Lists.{pick}
 use Rattle.release.specs.Files.{most_names}
 use Rattle.release.specs.Readings.{checked}
-use Rattle.release.specs.declared.Checked.{Checked}
-use Rattle.release.specs.declared.Checked.TheVariants as Check
-use Rattle.meanings.specs.declared.Comparison.{Comparison}
+use Rattle.release.specs.Refusals.{Numbers, told}
+use Rattle.release.specs.declared.Counts.{Counts}
+use Rattle.meanings.specs.declared.Compared.{Compared}
+use Rattle.meanings.specs.declared.refusals.CompareRefusal.{CompareRefusal}
 use Rattle.meanings.specs.Comparing as meanings
+use Rattle.meanings.specs.Refusals.{compare_refusal}
 use Rattle.branches.specs.declared.row.Row.{Row}
+use Rattle.branches.specs.declared.refusals.SheetRefusal.{SheetRefusal}
+use Rattle.branches.specs.Refusals.{sheet_refusal}
 use Rattle.branches.specs.Sheets as branches
 use Rattle.branches.specs.Sheets.{most_branches}
-use Rattle.report.specs.declared.Written.{Written}
-use Rattle.report.specs.declared.Written.TheVariants.{Length, Refused}
+use Rattle.report.specs.declared.refusals.ReportRefusal.{ReportRefusal}
 use Rattle.report.specs.Written.{fitted, WrittenAs}
 use Rattle.report.specs.Answered.{answer_text}
 use Rattle.report.specs.Sheets.{sheet_text}
 
-unfoldable pub text_length : Written → ℕ
-text_length (Length k) = k
-text_length (Refused f) = 0
-
-pub record Prints (text o p : List ℕ) (r : ℕ) : Type 0 where
-  pub written : Written
+pub record Prints (text o p : List ℕ) (r : Option ℕ) : Type 0 where
+  pub written : Result ℕ ReportRefusal
   pub writes : WrittenAs (fitted text o) text o p written
-  pub whole : length text ≤ length o → (r ≡ length text) × (p ≡ text ++ drop (length text) o)
-  pub short : length o < length text → (r ≡ 0) × (p ≡ o)
+  pub whole : length text ≤ length o → (r ≡ Some (length text)) × (p ≡ text ++ drop (length text) o)
+  pub short : length o < length text → (r ≡ None) × (p ≡ o)
 
-unfoldable pub signature_count : Checked → ℕ → ℕ
-signature_count (Check.Refused k) bytes = 0
-signature_count (Check.Accepted c) bytes = pick (eqb (c.names + c.roles) 0) 0 (bytes / (c.names + c.roles))
+unfoldable pub signature_count : Result Counts Numbers → ℕ → ℕ
+signature_count (Err k) bytes = 0
+signature_count (Ok c) bytes = pick (eqb (c.names + c.roles) 0) 0 (bytes / (c.names + c.roles))
 
-pub record StationPrints (s t g w v o p : List ℕ) (r : ℕ) : Type 0 where
+pub record StationPrints (s t g w v o p : List ℕ) (r : Option ℕ) : Type 0 where
   pub lent : List ℕ
   pub result : List ℕ
-  pub answer : Comparison
+  pub answer : Result Compared CompareRefusal
   pub long : length lent ≡ most_names
   pub says : meanings.Says s t g lent result w v answer
-  pub prints : Prints (answer_text answer result) o p r
+  pub prints : Prints (answer_text (told compare_refusal answer) result) o p r
 
-pub record SheetPrints (s t gs w v o p : List ℕ) (r : ℕ) : Type 0 where
+pub record SheetPrints (s t gs w v o p : List ℕ) (r : Option ℕ) : Type 0 where
   pub lent : List Row
   pub rows : List Row
-  pub answer : Comparison
+  pub answer : Result Compared SheetRefusal
   pub long : length lent ≡ most_branches
   pub says : branches.Says s t gs (signature_count (checked s) (length gs)) lent rows w v answer
-  pub prints : Prints (sheet_text answer (signature_count (checked s) (length gs)) rows) o p r
+  pub prints : Prints (sheet_text (told sheet_refusal answer) (signature_count (checked s) (length gs)) rows) o p r

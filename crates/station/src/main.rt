@@ -16,19 +16,19 @@ const TEXT_BYTES: usize = 4096;
 
 fn main(rt: HostRuntime) -> io::Result<()> {
     let mut first = [0u8; RELEASE_BYTES];
-    let first_length = read_file(&rt, b"first.elt", &mut first);
     let mut second = [0u8; RELEASE_BYTES];
-    let second_length = read_file(&rt, b"second.elt", &mut second);
     let mut chosen = [0u8; SIGNATURE_BYTES];
-    let chosen_length = read_file(&rt, b"chosen.sig", &mut chosen);
     let mut work = [0u8; WORK_BYTES];
     let mut text = [0u8; TEXT_BYTES];
-    let length = station(
-        &first[..first_length],
-        &second[..second_length],
-        &chosen[..chosen_length],
+    let written = station(
+        read_file(&rt, b"first.elt", &mut first),
+        read_file(&rt, b"second.elt", &mut second),
+        read_file(&rt, b"chosen.sig", &mut chosen),
         &mut work,
         &mut text,
     );
+    let Some(length) = written else {
+        return Ok(());
+    };
     rt.write_all(&text[..length])
 }
