@@ -1,32 +1,35 @@
--- What a call answers Fits32 a lent number of 32 bits.
+-- What a call answers fits a lent number of 32 bits.
 --   counts_fit          the counts of an accepted release
 --   shown_fits          the place of an axiom shown: an accepted file is short
 --   rewriting_short     the length of a rewritten file
-use mathlib.Core.Path.{◌≡◌, refl, sym, ap, ◌∙◌}
+use mathlib.Core.Path.{◌≡◌, refl}
 use mathlib.Core.Bool.{Bool, true, false}
 use mathlib.Core.List.{List}
-use Prim.Native.Nat.{ℕ, zero, suc, ◌+◌, ◌*◌, ◌-◌, ◌/◌, ◌%◌, ◌≤◌, ◌<◌}
+use Prim.Native.Nat.{ℕ, ◌+◌, ◌*◌, ◌-◌, ◌/◌, ◌%◌, ◌≤◌, ◌<◌}
 use native.Mathlib.Nat.{div-add-mod', mod-lt}
 use native.Mathlib.Omega.{arith}
 use borrow.Author.Tests.{eqb-true}
 use lib.Dec.{eqb}
 use lib.ListN.{length}
 use Rattle.el.specs.Lists.{pick}
-use Rattle.release.specs.Files.{width_of, names_of, roles_of, count_of, fault, accepted}
-use Rattle.release.specs.Readings.{checked, checked_by}
+use Rattle.release.specs.Files.{width_of, count_of, fault, accepted}
+use Rattle.release.specs.Readings.{checked, counts_in}
+use Rattle.release.specs.Refusals.{told}
 use Rattle.release.specs.Shown.{shown_place, holder}
 use Rattle.release.specs.declared.Counts.{Counts}
-use Rattle.release.specs.declared.Checked.TheVariants.{Accepted}
 use Rattle.release.specs.declared.show.Place.{Place}
 use Rattle.release.proofs.Checks.{header_sound}
 use Rattle.release.proofs.Linked.{no_header_fault}
 use Rattle.release.proofs.Numbers.{is_width}
 use Rattle.release.proofs.Places.{shown_within}
+use Rattle.release.proofs.Refusing.{is_accepted}
+use Rattle.std.specs.Prelude.{Result, Ok, Err, IfOk}
 use Rattle.rewriting.specs.Rewriting.{Rewrites}
-use Rattle.rewriting.specs.declared.Rewriting.{Rewriting}
+use Rattle.rewriting.specs.Refusals.{rewrite_refusal}
+use Rattle.rewriting.specs.declared.refusals.RewriteRefusal.{RewriteRefusal}
 use Rattle.rewriting.proofs.Lengths.{length_found, length_few, count_few}
 use Rattle.rewriting.proofs.RoundTrip.{wrote}
-use Rattle.exported.specs.Codes.{Fits32, ShortRewriting}
+use Rattle.exported.specs.Codes.{Fits32}
 
 -- counts
 pub record CountsFit (a : Counts) : Type 0 where
@@ -34,19 +37,12 @@ pub record CountsFit (a : Counts) : Type 0 where
   pub roles : Fits32 a.roles
   pub axioms : Fits32 a.axioms
 
-pub counts_fit : (s : List ℕ) (a : Counts) → checked s ≡ Accepted a → CountsFit a
+pub counts_fit : (s : List ℕ) (a : Counts) → Ok a ≡ checked s → CountsFit a
 unfolding checked
-counts_fit s a h = by_fault (fault s) refl h
-  where
-    by_fault : (x : ℕ) → fault s ≡ x → checked_by x s ≡ Accepted a → CountsFit a
-    by_fault (suc x) e z = let y : ◌≡◌ {A = ℕ} 0 1 = cc in absurd (omega arith)
-    by_fault zero e z =
-        let y : record { names = names_of s; roles = roles_of s; axioms = count_of s } ≡ a = cc in
-        let header = header_sound s (no_header_fault s e) in
-        let names : names_of s ≡ a.names = ap (λ (k : Counts). k.names) y in
-        let roles : roles_of s ≡ a.roles = ap (λ (k : Counts). k.roles) y in
-        let axioms : count_of s ≡ a.axioms = ap (λ (k : Counts). k.axioms) y in
-        record { names = omega (arith, header.names); roles = omega (arith, header.roles); axioms = omega (arith, header.names, header.count) }
+counts_fit s a h =
+    let v = is_accepted 1 (fault s) (counts_in s) a h in
+    let header = header_sound s (no_header_fault s v.0) in
+    rw v.1 (record { names = omega (arith, header.names); roles = omega (arith, header.roles); axioms = omega (arith, header.names, header.count) })
 
 -- an accepted file is short: its numbers, each of the width of a name, are few
 file_short : (s : List ℕ) → fault s ≡ 0 → length s ≤ 100000
@@ -80,12 +76,11 @@ shown_fits s t side x p e = rw e (by_files (accepted s) (accepted t) refl refl)
     by_files true true f g = part_fits s t (file_short s (eqb-true _ _ f)) (file_short t (eqb-true _ _ g)) (shown_place s t side x) (shown_within s t side x)
 
 -- a rewritten file
-pub rewriting_short : {w : ℕ} {s o p : List ℕ} {a : Rewriting} → w ≤ 2 → Rewrites w s o p a → ShortRewriting a
-rewriting_short {w} {s} {o} {p} {a} h does = record {
-  short = λ {k} e.
-      let found = wrote w s o k (sym e ∙ does.answers) in
-      let ok = found.accepted in
-      let long = length_found s ok (count_of s) (width_of s) refl refl w in
-      let few = length_few s ok (count_of s) (width_of s) refl refl w h in
-      omega (arith, found.long, long, few, count_few s ok);
-}
+pub rewriting_short : {w : ℕ} {s o p : List ℕ} (a : Result ℕ RewriteRefusal) → Rewrites w s o p (told rewrite_refusal a) → w ≤ 2 → IfOk a Fits32
+rewriting_short {w} {s} {o} {p} (Ok k) does h =
+    let found = wrote w s o k does.answers in
+    let ok = found.accepted in
+    let long = length_found s ok (count_of s) (width_of s) refl refl w in
+    let few = length_few s ok (count_of s) (width_of s) refl refl w h in
+    omega (arith, found.long, long, few, count_few s ok)
+rewriting_short (Err e) does h = tt

@@ -2,9 +2,9 @@
 --   report_short          the length of a report
 --   text_short            what writing it answers fits a lent number
 --   reported, not_compared, no_room     the promise, where the report is written, the comparison refused, the output too short
-use mathlib.Core.Path.{◌≡◌, refl, sym, ap, subst, ◌∙◌}
+use mathlib.Core.Path.{◌≡◌, refl, sym, ap, ◌∙◌}
 use mathlib.Core.Bool.{Bool, true, false}
-use mathlib.Core.List.{List, [], ◌∷◌}
+use mathlib.Core.List.{List, [], ◌∷◌, ◌++◌}
 use Prim.Native.Nat.{ℕ, suc, ◌+◌, ◌*◌, ◌-◌, ◌/◌, ◌%◌, ◌≤◌, ◌<◌}
 use native.Mathlib.Nat.{div-lt_iff_lt-mul}
 use native.Mathlib.Omega.{arith}
@@ -15,26 +15,24 @@ use Rattle.el.specs.Lists.{pick, count}
 use Rattle.el.specs.Comparison.{on_left, on_right, is_reported}
 use Rattle.release.specs.Files.{most_names, most_roles}
 use Rattle.release.specs.Readings.{checked}
-use Rattle.release.specs.declared.Refusal.{Refusal}
 use Rattle.signature.specs.Bytes.{signature_fault}
 use Rattle.meanings.specs.Comparing.{work_length, agreed, lent, and_then, judged, comparison, Says}
 use Rattle.meanings.specs.Comparing.{refused as comparison_refused}
 use Rattle.meanings.specs.declared.Compared.{Compared}
-use Rattle.meanings.specs.declared.Comparison.{Comparison}
-use Rattle.meanings.specs.declared.Comparison.TheVariants.{Accepted, Refused}
-use Rattle.meanings.proofs.Judging.{not_refused}
 use Rattle.meanings.proofs.Promise.{agree, few_counts}
 use Rattle.report.specs.Numbers.{digit, decimal, three_digits}
-use Rattle.report.specs.Texts.{newline, space, letter, entry, lines, names_word, roles_word, left_word, right_word, report}
+use Rattle.report.specs.Texts.{newline, space, letter, entry, lines, two_numbers, names_word, roles_word, left_word, right_word, report, report_with}
 use Rattle.report.specs.Written.{fitted, report_text, report_answer, output_after, WrittenAs}
-use Rattle.report.specs.declared.Written.{Written}
-use Rattle.report.specs.declared.Written.TheVariants.{Length}
+use Rattle.report.specs.Refusals.{report_refusal}
+use Rattle.report.specs.declared.refusals.ReportRefusal.{ReportRefusal}
+use Rattle.report.specs.declared.refusals.ReportRefusal.TheVariants.{ShortOutput}
+use Rattle.meanings.specs.Refusals.{compare_refusal}
+use Rattle.meanings.specs.declared.refusals.CompareRefusal.{CompareRefusal}
+use Rattle.release.specs.Refusals.{Numbers, told}
+use Rattle.std.specs.Prelude.{Result, Ok, Err, IfOk}
+use Rattle.exported.specs.Codes.{Fits32, Returns, refusal_code, longest_report, ReportReturns}
 use Rattle.report.proofs.Decimals.{decimal_one, decimal_more, three_of_one, three_of_two, three_of_more}
 use Rattle.report.proofs.Entries.{entry_line, entry_nothing}
-use Rattle.report.proofs.Pieces.{two_numbers_length, report_length}
-use Rattle.exported.specs.Codes.{Outcome, Returns, refusal_code, comparison_code}
-use Rattle.exported.specs.Codes.{longest_report, report_outcome, report_after, ReportReturns, written_outcome, ShortText}
-use Rattle.exported.proofs.Outcomes.{refuses}
 
 -- a number below a limit has few digits
 one_digit : (x : ℕ) → x < 10 → length (decimal x) ≤ 1
@@ -99,17 +97,23 @@ count_few p (b ∷ bs) = by_test (p b) (count_few p bs)
     by_test true h = omega arith
     by_test false h = omega arith
 
+two_numbers_length : (v : List ℕ) (x : ℕ) (w : List ℕ) (y : ℕ) → length (two_numbers v x w y) ≡ length v + (length (decimal x) + (length w + (length (decimal y) + 1)))
+unfolding two_numbers
+two_numbers_length v x w y = simp length-append
+
 pub report_short : (n m : ℕ) (result : List ℕ) → n ≤ most_names → m ≤ most_roles → length (report_text n m result) ≤ longest_report
-unfolding report
+unfolding report report_with
 report_short n m result names roles =
     let bs : List ℕ = take n result in
     let few : length bs ≤ n = simp length-take (omega arith) in
     let left : ℕ = count on_left bs in
     let right : ℕ = count on_right bs in
-    let whole = report_length n m left right bs _ _ _ refl refl refl in
+    let first : List ℕ = two_numbers names_word n roles_word m in
+    let last : List ℕ = two_numbers left_word left right_word right in
     omega (
       arith,
-      whole,
+      length-append first (lines 0 bs ++ last),
+      length-append (lines 0 bs) last,
       two_numbers_length names_word n roles_word m,
       two_numbers_length left_word left right_word right,
       four_digits n (omega arith),
@@ -120,86 +124,82 @@ report_short n m result names roles =
     )
 
 -- an accepted comparison has few names and roles
-lent_keeps : (g : List ℕ) (o w : ℕ) (d c : Compared) → lent g o w d ≡ Accepted c → d ≡ c
+abbrev accepted : Compared → Result Compared Numbers
+accepted c = Ok c
+
+lent_keeps : (g : List ℕ) (o w : ℕ) (d c : Compared) → lent g o w d ≡ accepted c → d ≡ c
 unfolding lent
 lent_keeps g o w d c h = by_tests (eqb (signature_fault d.names d.roles g) 0) (leb d.names o) (leb (work_length d.names) w) h
   where
-    by_tests : (q u v : Bool) → pick q (pick u (pick v (Accepted d) (comparison_refused 32 0)) (comparison_refused 31 0))
-        (comparison_refused (signature_fault d.names d.roles g) 0) ≡ Accepted c → d ≡ c
-    by_tests false u v z = not_refused z
-    by_tests true false v z = not_refused z
-    by_tests true true false z = not_refused z
+    by_tests : (q u v : Bool) → pick q (pick u (pick v (accepted d) (comparison_refused 32 0)) (comparison_refused 31 0))
+        (comparison_refused (signature_fault d.names d.roles g) 0) ≡ accepted c → d ≡ c
+    by_tests false u v z = absurd (cc)
+    by_tests true false v z = absurd (cc)
+    by_tests true true false z = absurd (cc)
     by_tests true true true z = cc
 
-compared_few : (s t g : List ℕ) (o w : ℕ) (c : Compared) → comparison s t g o w ≡ Accepted c → (c.names ≤ most_names) × (c.roles ≤ most_roles)
+compared_few : (s t g : List ℕ) (o w : ℕ) (c : Compared) → comparison s t g o w ≡ accepted c → (c.names ≤ most_names) × (c.roles ≤ most_roles)
 unfolding judged
 compared_few s t g o w c h = by_releases (agreed (checked s) (checked t)) refl h
   where
-    by_releases : (a : Comparison) → agreed (checked s) (checked t) ≡ a → and_then a (lent g o w) ≡ Accepted c → (c.names ≤ most_names) × (c.roles ≤ most_roles)
-    by_releases (Refused k) e z = not_refused z
-    by_releases (Accepted d) e z = few_counts (agree s t c (e ∙ ap Accepted (lent_keeps g o w d c z)))
+    by_releases : (a : Result Compared Numbers) → agreed (checked s) (checked t) ≡ a → and_then a (lent g o w) ≡ accepted c → (c.names ≤ most_names) × (c.roles ≤ most_roles)
+    by_releases (Err k) e z = absurd (cc)
+    by_releases (Ok d) e z = few_counts (agree s t c (e ∙ ap accepted (lent_keeps g o w d c z)))
 
 -- writing the report of an accepted comparison
-module _ (n m : ℕ) (result o : List ℕ) where
-  written_whole : n ≤ length result → length (report_text n m result) ≤ length o → report_answer n m result o ≡ Length (length (report_text n m result))
-  unfolding report_answer fitted
-  written_whole h l = rw (le-ltb _ _ h, le-ltb _ _ l)
+written_whole : (n m : ℕ) (result o : List ℕ) → n ≤ length result → length (report_text n m result) ≤ length o → report_answer n m result o ≡ Ok (length (report_text n m result))
+unfolding report_answer fitted
+written_whole n m result o h l = rw (le-ltb _ _ h, le-ltb _ _ l)
 
 -- a comparison that was made, with a result of as many bytes as there can be names
-module _ {s t g b bs w v : List ℕ} {answer : Comparison} (o : List ℕ) (long : longest_report ≤ length o)
-    (says : Says s t g b bs w v answer) (all : length b ≡ most_names) (same : length bs ≡ length b) where
-  pub not_compared : {x y r : ℕ} (k : Refusal) → answer ≡ Refused k → y ≡ x → r ≡ comparison_code answer → ReportReturns s t g o o x y w v r
-  not_compared k e f h = record {
+module _ {s t g b bs w v : List ℕ} (o : List ℕ) (long : longest_report ≤ length o) (all : length b ≡ most_names) (same : length bs ≡ length b) where
+  pub not_compared : {e : CompareRefusal} → Says s t g b bs w v (Err e) → {x r : ℕ} → r ≡ refusal_code (compare_refusal e) → ReportReturns s t g o o x x w v r
+  not_compared {e} says h = record {
     lent = b;
     result = bs;
-    answer = answer;
+    answer = Err (compare_refusal e);
     names = all;
-    room = λ _. says;
+    room = λ _. record { answer = Err e; says = says; told_of = refl };
     no_room = λ l. absurd (omega arith);
-    output = sym (ap (λ (z : Comparison). report_after z bs o) e);
-    returns = refuses (ap (λ (z : Comparison). report_outcome z bs) e) f (h ∙ ap comparison_code e);
+    output = refl;
+    returns = record { code = h; lent = refl };
   }
 
-  module _ (c : Compared) (e : answer ≡ Accepted c) where
+  module _ {c : Compared} (says : Says s t g b bs w v (Ok c)) where
     abbrev text : List ℕ
     text = report_text c.names c.roles bs
 
     few : (c.names ≤ most_names) × (c.roles ≤ most_roles)
-    few = compared_few s t g (length b) (length w) c (sym says.answer ∙ e)
+    few = compared_few s t g (length b) (length w) c (sym says.answer)
 
     short : length text ≤ longest_report
     short = report_short c.names c.roles bs few.0 few.1
 
-    whole : report_answer c.names c.roles bs o ≡ Length (length text)
+    whole : report_answer c.names c.roles bs o ≡ Ok (length text)
     whole = written_whole c.names c.roles bs o (omega (arith, few.0)) (omega (arith, short))
 
-    module _ {p : List ℕ} {a : Written} (writes : WrittenAs (report_answer c.names c.roles bs o) (report_text c.names c.roles bs) o p a) where
-      is_length : a ≡ Length (length text)
+    module _ {p : List ℕ} {a : Result ℕ ReportRefusal} (writes : WrittenAs (report_answer c.names c.roles bs o) (report_text c.names c.roles bs) o p a) where
+      is_length : a ≡ Ok (length text)
       is_length = writes.answers ∙ whole
 
-      pub text_short : ShortText a
-      text_short = record {
-        short = λ {k} z.
-            let l : Length (length text) ≡ Length k = sym is_length ∙ z in
-            let j : length text ≡ k = cc in
-            omega (arith, short);
-      }
+      pub text_short : IfOk a Fits32
+      text_short = rw is_length (omega (arith, short))
 
-      pub reported : {x y r : ℕ} → Returns (written_outcome a) x y r → ReportReturns s t g o p x y w v r
+      pub reported : {x y r : ℕ} → Returns (told report_refusal a) x y r → ReportReturns s t g o p x y w v r
       reported {x} {y} {r} gave = record {
         lent = b;
         result = bs;
-        answer = answer;
+        answer = Ok c;
         names = all;
-        room = λ _. says;
+        room = λ _. record { answer = Ok c; says = says; told_of = refl };
         no_room = λ l. absurd (omega arith);
-        output = writes.leaves ∙ (ap (λ (z : Written). output_after z text o) whole ∙ sym (ap (λ (z : Comparison). report_after z bs o) e));
-        returns = subst (λ (z : Outcome ℕ). Returns z x y r) (ap written_outcome is_length ∙ sym (ap (λ (z : Comparison). report_outcome z bs) e)) gave;
+        output = writes.leaves ∙ ap (λ (z : Result ℕ ReportRefusal). output_after z text o) whole;
+        returns = rw is_length at gave;
       }
 
 -- an output that is too short
-pub no_room : {s t g o w : List ℕ} {x y r : ℕ} → length o < longest_report → y ≡ x → r ≡ refusal_code (record { number = 33; side = 0 }) → ReportReturns s t g o o x y w w r
-no_room h e f = record {
+pub no_room : {s t g o w : List ℕ} {x r : ℕ} → length o < longest_report → r ≡ refusal_code (report_refusal ShortOutput) → ReportReturns s t g o o x x w w r
+no_room h f = record {
   lent = replicate most_names 0;
   result = replicate most_names 0;
   answer = comparison_refused 33 0;
@@ -207,5 +207,5 @@ no_room h e f = record {
   room = λ l. absurd (omega arith);
   no_room = λ _. (refl, refl);
   output = refl;
-  returns = refuses refl e f;
+  returns = record { code = f; lent = refl };
 }

@@ -2,66 +2,55 @@
 // numbers, which a refusal leaves as they were. The crate exported_c gives them their names for C.
 #![tactic(auto)]
 
-ghost use Rattle.std.specs.Prelude.{◌≡◌};
-ghost use Rattle.exported.specs.Codes.{refusal_code, comparison_code, rewriting_outcome, written_outcome};
-ghost use Rattle.exported.specs.Codes.{Fits32, ShortRewriting, ShortText, Returns};
+ghost use Rattle.std.specs.Prelude.{◌≡◌, IfOk};
+ghost use Rattle.release.specs.Refusals.{told};
+ghost use Rattle.exported.specs.Codes.{refusal_code, code_of, Fits32, Returns};
 ghost use Rattle.exported.specs.Codes.{CheckReturns, AskReturns, ShowReturns, CompareReturns, SheetReturns};
 ghost use Rattle.exported.specs.Codes.{RewriteReturns, ReportReturns, WorkLengthReturns};
 
+use crate::refusals::NumberRefusal;
 use branches::compare_branches;
 use branches::row::Row;
-use meanings::{Comparison, compare_releases};
-use question::{Asked, ask_inclusion};
+use meanings::compare_releases;
+use question::ask_inclusion;
+use release::number::Version;
 use release::show::axiom_place;
-use release::{Checked, ConceptName, Refusal, Release, check_release};
-use report::{SHORT_OUTPUT, Written, write_report};
-use rewriting::{Rewriting, rewrite_as_1, rewrite_as_2};
+use release::{ConceptName, Refusal, Release, check_release};
+use report::{ReportRefusal, write_report};
+use rewriting::rewrite;
 
-// Refusals of numbers that a caller passes, with side 0: a wanted version that is neither 1 nor 2; more names than there can be.
-const NO_VERSION: u8 = 3;
-
-const MANY_NAMES: u8 = 4;
+mod refusals;
 
 // The length of the longest report there can be: 1,023 names, each with a line.
 const REPORT: usize = 6202;
 
-fn wide(x: u8) -> u32
-    ensures { result ≡ x }
+fn refusal_code<R: Refusal>(refusal: R) -> u32
+    ensures { result ≡ refusal_code (R.numbers refusal) }
 {
-    x as u32
+    u32::from(refusal.number()) * 256 + u32::from(refusal.side())
 }
 
-fn narrow(x: usize) -> u32
-    requires { Fits32 x }
-    ensures { result ≡ x }
-{
-    x as u32
-}
-
-fn refusal_code(refusal: Refusal) -> u32
-    ensures { result ≡ refusal_code refusal }
-{
-    let number = refusal.number;
-    let side = refusal.side;
-    wide(number) * 256 + wide(side)
-}
-
-// The code of a refusal that concerns neither release.
-fn refused_code(number: u8) -> u32
-    ensures { result ≡ refusal_code (record { number = number; side = 0 }) }
-{
-    refusal_code(Refusal {
-        number: number,
-        side: 0,
-    })
-}
-
-fn comparison_code(answer: Comparison) -> u32
-    ensures { result ≡ comparison_code answer }
+// The code of a call that lends no number.
+fn code_of<A: Copy, R: Refusal>(answer: Result<A, R>) -> u32
+    ensures { result ≡ code_of (told R.numbers answer) }
 {
     match answer {
-        Comparison::Accepted(_) => 0,
-        Comparison::Refused(refusal) => refusal_code(refusal),
+        Ok(_) => 0,
+        Err(refusal) => refusal_code(refusal),
+    }
+}
+
+// Gives the length of what was written. Here and below `as` is proved to keep the number; `try_from` would test it once more.
+fn give_length<R: Refusal>(answer: Result<usize, R>, length: &mut u32) -> u32
+    requires { IfOk answer Fits32 }
+    ensures { Returns (told R.numbers answer) length.old length.new result }
+{
+    match answer {
+        Ok(written) => {
+            *length = written as u32;
+            0
+        }
+        Err(refusal) => refusal_code(refusal),
     }
 }
 
@@ -69,17 +58,12 @@ fn comparison_code(answer: Comparison) -> u32
 pub fn berrytick_check(file: &[u8], counts: &mut [u32; 3]) -> u32
     ensures { CheckReturns file.now counts.old counts.new result }
 {
-    let checked = check_release(file);
-    match checked {
-        Checked::Accepted(found) => {
-            *counts = [
-                narrow(found.names),
-                narrow(found.roles),
-                narrow(found.axioms),
-            ];
+    match check_release(file) {
+        Ok(found) => {
+            *counts = [found.names as u32, found.roles as u32, found.axioms as u32];
             0
         }
-        Checked::Refused(refusal) => refusal_code(refusal),
+        Err(refusal) => refusal_code(refusal),
     }
 }
 
@@ -94,13 +78,12 @@ pub fn berrytick_ask(
     ensures { AskReturns file.now below.now above.now
         answer.old answer.new work.old work.new result }
 {
-    let asked = ask_inclusion(file, below, above, work);
-    match asked {
-        Asked::Answer(value) => {
-            *answer = wide(value);
+    match ask_inclusion(file, below, above, work) {
+        Ok(value) => {
+            *answer = u32::from(value);
             0
         }
-        Asked::Refused(refusal) => refusal_code(refusal),
+        Err(refusal) => refusal_code(refusal),
     }
 }
 
@@ -117,7 +100,11 @@ pub fn berrytick_show(
         place.old place.new result }
 {
     let shown = axiom_place(first, second, side, ConceptName(name));
-    *place = [wide(shown.side), narrow(shown.start), narrow(shown.length)];
+    *place = [
+        u32::from(shown.side),
+        shown.start as u32,
+        shown.length as u32,
+    ];
     0
 }
 
@@ -132,14 +119,14 @@ pub fn berrytick_compare(
     ensures { CompareReturns first.now second.now signature.now
         result_bytes.old result_bytes.new work.old work.new result }
 {
-    comparison_code(compare_releases(first, second, signature, result_bytes, work))
+    code_of(compare_releases(first, second, signature, result_bytes, work))
 }
 
 // Compares two releases over `count` signatures: a row for each.
-pub fn berrytick_compare_branches<'a>(
-    first: &'a [u8],
-    second: &'a [u8],
-    signatures: &'a [u8],
+pub fn berrytick_compare_branches(
+    first: &[u8],
+    second: &[u8],
+    signatures: &[u8],
     count: usize,
     work: &mut [u8],
     rows: &mut [Row],
@@ -147,21 +134,7 @@ pub fn berrytick_compare_branches<'a>(
     ensures { SheetReturns first.now second.now signatures.now count
         rows.old rows.new work.old work.new result }
 {
-    let answer = compare_branches(first, second, signatures, count, work, rows);
-    comparison_code(answer)
-}
-
-fn give_rewriting(answer: Rewriting, length: &mut u32) -> u32
-    requires { ShortRewriting answer }
-    ensures { Returns (rewriting_outcome answer) length.old length.new result }
-{
-    match answer {
-        Rewriting::Written(written) => {
-            *length = narrow(written);
-            0
-        }
-        Rewriting::Refused(refusal) => refusal_code(refusal),
-    }
+    code_of(compare_branches(first, second, signatures, count, work, rows))
 }
 
 // Writes a release as a file of a wanted version, 1 or 2, to the start of the output: its length. Another version is refused 3, side 0,
@@ -170,26 +143,10 @@ pub fn berrytick_rewrite(file: &[u8], wanted: usize, output: &mut [u8], length: 
     ensures { RewriteReturns wanted file.now output.old output.new
         length.old length.new result }
 {
-    if wanted == Release::VERSION_1 {
-        return give_rewriting(rewrite_as_1(file, output), length);
-    }
-    if wanted == Release::VERSION_2 {
-        return give_rewriting(rewrite_as_2(file, output), length);
-    }
-    refused_code(NO_VERSION)
-}
-
-fn give_text(answer: Written, length: &mut u32) -> u32
-    requires { ShortText answer }
-    ensures { Returns (written_outcome answer) length.old length.new result }
-{
-    match answer {
-        Written::Length(written) => {
-            *length = narrow(written);
-            0
-        }
-        Written::Refused(refusal) => refusal_code(refusal),
-    }
+    let Ok(version) = Version::try_from(wanted) else {
+        return refusal_code(NumberRefusal::NoVersion);
+    };
+    give_length(rewrite(file, output, version), length)
 }
 
 // Compares two releases and writes the report to the start of the output: its length. An output that is shorter than the longest report is
@@ -206,15 +163,16 @@ pub fn berrytick_report(
         output.old output.new length.old length.new work.old work.new result }
 {
     if output.len() < REPORT {
-        return refused_code(SHORT_OUTPUT);
+        return refusal_code(ReportRefusal::ShortOutput);
     }
     let mut result = [0u8; Release::NAMES];
-    let answer = compare_releases(first, second, signature, &mut result, work);
-    let Comparison::Accepted(counts) = answer else {
-        return comparison_code(answer);
-    };
-    let written = write_report(counts.names, counts.roles, &result, output);
-    give_text(written, length)
+    match compare_releases(first, second, signature, &mut result, work) {
+        Ok(counts) => give_length(
+            write_report(counts.names, counts.roles, &result, output),
+            length,
+        ),
+        Err(refusal) => refusal_code(refusal),
+    }
 }
 
 // The bytes of work memory that releases of this many names need. More names than there can be are refused 4, side 0.
@@ -222,8 +180,8 @@ pub fn berrytick_work_length(names: usize, length: &mut u32) -> u32
     ensures { WorkLengthReturns names length.old length.new result }
 {
     if Release::NAMES < names {
-        return refused_code(MANY_NAMES);
+        return refusal_code(NumberRefusal::ManyNames);
     }
-    *length = narrow(4 * ((names + 1) * (names + 1)));
+    *length = (4 * ((names + 1) * (names + 1))) as u32;
     0
 }
