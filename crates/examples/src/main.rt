@@ -8,36 +8,38 @@
 mod cases;
 mod check;
 mod compare;
-mod lines;
 mod memory;
-mod print;
+mod printed;
 mod questions;
 mod rewrite;
 mod run;
 mod sheets;
 mod show;
 mod signatures;
-mod station;
 mod verdict;
 
-use run::Call;
+use run::family;
 use std::io;
 
 fn main(rt: HostRuntime) -> io::Result<()> {
-    run::family(&rt, Call::Check, "check")?;
-    run::family(&rt, Call::Show, "show")?;
-    run::family(&rt, Call::Check, "refusals")?;
-    run::family(&rt, Call::Show, "shows")?;
-    run::family(&rt, Call::Signatures, "signatures")?;
-    run::family(&rt, Call::Question, "question")?;
-    run::family(&rt, Call::Question, "questions")?;
-    run::family(&rt, Call::Question, "deep")?;
-    run::family(&rt, Call::Compare, "compare")?;
-    run::family(&rt, Call::Compare, "comparisons")?;
-    run::family(&rt, Call::Station, "station")?;
-    run::family(&rt, Call::Rewrite, "rewrite")?;
-    run::family(&rt, Call::Rewrite, "rewrites")?;
-    run::family(&rt, Call::Sheet, "sheet")?;
-    run::family(&rt, Call::Sheet, "sheets")?;
-    run::family(&rt, Call::Lines, "lines")
+    family(&rt, "check", check::FIELDS, check::judge)?;
+    family(&rt, "show", show::FIELDS, show::judge)?;
+    family(&rt, "refusals", check::FIELDS, check::judge)?;
+    family(&rt, "shows", show::FIELDS, show::judge)?;
+    family(&rt, "signatures", signatures::FIELDS, signatures::judge)?;
+    family(&rt, "question", questions::FIELDS, questions::judge)?;
+    family(&rt, "questions", questions::FIELDS, questions::judge)?;
+    family(&rt, "deep", questions::FIELDS, questions::judge)?;
+    family(&rt, "compare", compare::FIELDS, compare::judge)?;
+    family(&rt, "comparisons", compare::FIELDS, compare::judge)?;
+    family(&rt, "station", printed::FIELDS, |case| {
+        printed::judge(case, programs::station)
+    })?;
+    family(&rt, "rewrite", rewrite::FIELDS, rewrite::judge)?;
+    family(&rt, "rewrites", rewrite::FIELDS, rewrite::judge)?;
+    family(&rt, "sheet", sheets::FIELDS, sheets::judge)?;
+    family(&rt, "sheets", sheets::FIELDS, sheets::judge)?;
+    family(&rt, "lines", printed::FIELDS, |case| {
+        printed::judge(case, programs::sheet)
+    })
 }

@@ -1,6 +1,6 @@
 // What comes of a case: the answer is the expected one, or the first thing that differs.
-use crate::cases::wide;
 use release::Refusal;
+use std::fmt;
 
 // What an answer tells, and by which a difference is named.
 #[derive(Clone, Copy)]
@@ -21,55 +21,70 @@ pub enum What {
     Row(usize),
 }
 
-// `Differs` holds what was got and what was expected, in this order.
-#[derive(Clone, Copy)]
-pub enum Verdict {
-    Same,
-    Differs(What, usize, usize),
-}
-
-impl Verdict {
-    // The first difference of the two.
-    pub(crate) fn and(self, other: Verdict) -> Verdict {
+impl fmt::Display for What {
+    fn fmt<W: fmt::Write>(&self, f: &mut fmt::Formatter<W>) -> fmt::Result {
         match self {
-            Verdict::Same => other,
-            Verdict::Differs(_, _, _) => self,
+            What::Fields => write!(f, "fields"),
+            What::Accepted => write!(f, "accepted"),
+            What::Number => write!(f, "number"),
+            What::Side => write!(f, "side"),
+            What::Names => write!(f, "names"),
+            What::Roles => write!(f, "roles"),
+            What::Axioms => write!(f, "axioms"),
+            What::File => write!(f, "file"),
+            What::Start => write!(f, "start"),
+            What::Length => write!(f, "length"),
+            What::Value => write!(f, "value"),
+            What::Byte(place) => write!(f, "byte {place}"),
+            What::Work(place) => write!(f, "work byte {place}"),
+            What::Row(place) => write!(f, "row {place}"),
         }
     }
 }
 
+#[derive(Clone, Copy)]
+pub struct Difference {
+    pub what: What,
+    pub got: usize,
+    pub expected: usize,
+}
+
+impl fmt::Display for Difference {
+    fn fmt<W: fmt::Write>(&self, f: &mut fmt::Formatter<W>) -> fmt::Result {
+        write!(f, "{} {}, expected {}", self.what, self.got, self.expected)
+    }
+}
+
+pub type Verdict = Result<(), Difference>;
+
 pub(crate) fn same(what: What, got: usize, expected: usize) -> Verdict {
     if got == expected {
-        return Verdict::Same;
+        return Ok(());
     }
-    Verdict::Differs(what, got, expected)
+    Err(Difference {
+        what,
+        got,
+        expected,
+    })
 }
 
 // Compares a refusal with the expected number, 0 where none is expected, and side.
-pub(crate) fn same_refusal(refusal: Refusal, number: usize, side: usize) -> Verdict {
-    same(What::Accepted, 0, truth(number == 0))
-        .and(same(What::Number, wide(refusal.number), number))
-        .and(same(What::Side, wide(refusal.side), side))
+pub(crate) fn same_refusal<R: Refusal>(refusal: R, number: usize, side: usize) -> Verdict {
+    same(What::Accepted, 0, usize::from(number == 0))?;
+    same(What::Number, usize::from(refusal.number()), number)?;
+    same(What::Side, usize::from(refusal.side()), side)
+}
+
+// Compares the bytes at a place of an answer and of what is expected.
+pub(crate) fn same_byte(what: What, got: u8, expected: u8) -> Verdict {
+    same(what, usize::from(got), usize::from(expected))
 }
 
 // Compares the lengths, and then byte by byte.
 pub(crate) fn same_bytes(got: &[u8], expected: &[u8]) -> Verdict {
-    if got.len() != expected.len() {
-        return Verdict::Differs(What::Length, got.len(), expected.len());
+    same(What::Length, got.len(), expected.len())?;
+    for (place, (left, right)) in got.iter().zip(expected.iter()).enumerate() {
+        same_byte(What::Byte(place), *left, *right)?;
     }
-    let mut i: usize = 0;
-    while i < got.len() {
-        let left = wide(got[i]);
-        let right = wide(expected[i]);
-        if left != right {
-            return Verdict::Differs(What::Byte(i), left, right);
-        }
-        i += 1;
-    }
-    Verdict::Same
-}
-
-// 1 for true and 0 for false.
-pub(crate) fn truth(x: bool) -> usize {
-    if x { 1 } else { 0 }
+    Ok(())
 }

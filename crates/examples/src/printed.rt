@@ -1,0 +1,30 @@
+// Cases of the programs `station` and `sheet`: first, second, the signature or the signatures one after
+// another; the text that the program prints.
+use crate::cases::field;
+use crate::memory::MARK;
+use crate::verdict::{Verdict, same_bytes};
+
+pub const FIELDS: usize = 4;
+
+// As much work memory, and as much room for the text, as the programs lend.
+const WORK: usize = 65536;
+
+const OUTPUT: usize = 4096;
+
+pub(crate) fn judge<P>(case: &[u8], program: P) -> Verdict
+where
+    P: Fn(&[u8], &[u8], &[u8], &mut [u8], &mut [u8]) -> Option<usize>,
+    requires { P.IsAlwaysCallable program }
+{
+    let mut work = [MARK; WORK];
+    let mut output = [0u8; OUTPUT];
+    let written = program(
+        field(case, 0),
+        field(case, 1),
+        field(case, 2),
+        &mut work,
+        &mut output,
+    );
+    let printed = written.and_then(|length| output.get(..length));
+    same_bytes(printed.unwrap_or(&[]), field(case, 3))
+}
