@@ -55,8 +55,8 @@ module _ (w : ℕ) (s : List ℕ) (p : ℕ) where
   pub number_narrow : w ≡ 1 → (x : ℕ) → x ≡ get_or s p 0 → x ≡ number w s p
   number_narrow e x h = rw e (h ∙ sym (one_byte s p))
 
-  pub number_wide : w ≡ 2 → (x y : ℕ) → x ≡ get_or s p 0 → y ≡ get_or s (p + 1) 0 → x + 256 * y ≡ number w s p
-  number_wide h x y e f = rw h (omega (arith, two_bytes s p))
+  pub number_wide : w ≡ 2 → (x : ℕ) → x ≡ get_or s p 0 + 256 * get_or s (p + 1) 0 → x ≡ number w s p
+  number_wide h x e = rw h (omega (arith, two_bytes s p))
 
 -- the width by the version
 pub version_1_width : (s : List ℕ) → version_of s ≡ 1 → width_of s ≡ 1

@@ -1,3 +1,4 @@
+// One axiom read at a place of the file, with the refusals that it may meet.
 ghost use Rattle.std.specs.Prelude.{◌≡◌, ◌≤◌, length, true};
 ghost use Rattle.release.specs.Files.{parts_fault, joins, restricts, filler_node};
 ghost use Rattle.release.specs.Entries.{tail_reading, reading_at, node_number};
@@ -38,6 +39,7 @@ fn check_parts(
     requires { at ≤ length file.now }
     ensures { told file_refusal result ≡ answer 1 (parts_fault (width version) n count 0 file.now at) tt }
 {
+    // The place stands beside the count: the file may end within a name, which `chunks_exact` would leave out without a refusal.
     let mut p = at;
     let mut least: usize = 0;
     for _part in 0..count {
@@ -162,9 +164,12 @@ pub fn read_axiom(
         return Err(FileRefusal::ShortAxiom);
     }
     let kind = Kind::try_from(file[after])?;
-    if kind.is_conjunction() {
-        read_conjunction(file, version, after + 1, left, kind, counts)
-    } else {
-        read_restriction(file, version, after + 1, left, kind, counts)
+    match kind {
+        Kind::PrimitiveConjunction | Kind::DefinedConjunction => {
+            read_conjunction(file, version, after + 1, left, kind, counts)
+        }
+        Kind::PrimitiveRestriction | Kind::DefinedRestriction => {
+            read_restriction(file, version, after + 1, left, kind, counts)
+        }
     }
 }

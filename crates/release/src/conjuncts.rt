@@ -1,3 +1,4 @@
+// The last check of a release: that no conjunct is itself defined by a conjunction.
 ghost use Rattle.el.proofs.Tests.{Tells};
 ghost use Rattle.release.specs.Tables.{Shaped, Conjunctive, PartDefined, SomePartDefined};
 

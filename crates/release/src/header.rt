@@ -1,3 +1,4 @@
+// The start of the file: its mark, its version and its counts.
 ghost use Rattle.std.specs.Prelude.{◌≡◌};
 ghost use Rattle.release.specs.Files.{header_fault};
 ghost use Rattle.release.specs.Readings.{counts_in};

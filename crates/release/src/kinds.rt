@@ -1,6 +1,6 @@
 // The kinds of an axiom.
 ghost use Rattle.std.specs.Prelude.{◌≡◌};
-ghost use Rattle.release.specs.Files.{joins};
+ghost use Rattle.release.specs.Files.{joins, restricts};
 ghost use Rattle.release.specs.Kinds.{kind_number, HasKindNumber};
 
 use crate::refusals::FileRefusal;
@@ -22,6 +22,12 @@ impl Kind {
             Kind::PrimitiveConjunction | Kind::DefinedConjunction => true,
             Kind::PrimitiveRestriction | Kind::DefinedRestriction => false,
         }
+    }
+
+    pub fn is_restriction(self) -> bool
+        ensures { result ≡ restricts (kind_number self) }
+    {
+        !self.is_conjunction()
     }
 }
 

@@ -24,21 +24,24 @@ pub mod table;
 pub mod terminology;
 
 // A concept name's number and a role name's: two types, so that neither can be passed for the other.
-#[derive(Clone, Copy)]
+#[derive(Clone, Copy, Debug, PartialEq, Eq)]
 pub struct ConceptName(pub usize);
 
-#[derive(Clone, Copy)]
+#[derive(Clone, Copy, Debug, PartialEq, Eq)]
 pub struct RoleName(pub usize);
 
-// What belongs to release files as such: the mark at their start, and the limits of their numbers.
+// What belongs to release files as such: the mark at their start, and the limits of their numbers. It has no value: constants of the
+// module would be no plainer, since a caller reads `Release::NAMES`.
 #[derive(Clone, Copy)]
 pub struct Release {}
 
 impl Release {
     pub const MARK: [u8; 3] = *b"ELT";
 
-    // The most names of any release.
+    // The most names of any release, and of one in version 1.
     pub const NAMES: usize = 1023;
+
+    pub const NAMES_1: usize = 127;
 
     pub const ROLES: usize = 32;
 
@@ -46,7 +49,7 @@ impl Release {
 }
 
 // The counts of an accepted release.
-#[derive(Clone, Copy)]
+#[derive(Clone, Copy, Debug, PartialEq, Eq)]
 pub struct Counts {
     pub names: usize,
     pub roles: usize,

@@ -51,7 +51,7 @@ impl Version {
         ensures { result ≡ most_names_of (width self) }
     {
         match self {
-            Version::One => 127,
+            Version::One => Release::NAMES_1,
             Version::Two => Release::NAMES,
         }
     }
@@ -68,17 +68,13 @@ impl Version {
         requires { at + width self ≤ length file.now }
         ensures { result ≡ number (width self) file.now at }
     {
-        let low = usize::from(file[at]);
         match self {
-            Version::One => low,
-            Version::Two => {
-                let high = usize::from(file[at + 1]);
-                low + 256 * high
-            }
+            Version::One => usize::from(file[at]),
+            Version::Two => usize::from(u16::from_le_bytes([file[at], file[at + 1]])),
         }
     }
 
-    // n, m and a of a header.
+    // How many names a header says; below, how many roles and how many axioms.
     pub fn names(self, file: &[u8]) -> usize
         requires { HasHeader (width self) file.now }
         ensures { result ≡ names_of file.now }

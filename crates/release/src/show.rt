@@ -1,7 +1,8 @@
-ghost use Rattle.std.specs.Prelude.{◌≡◌};
+// Where the axiom of a name stands, and its bytes.
+ghost use Rattle.std.specs.Prelude.{◌≡◌, unwrap_or};
 ghost use Rattle.release.specs.Files.{names_of};
 ghost use Rattle.release.specs.Tables.{Release};
-ghost use Rattle.release.specs.Shown.{place_in, shown_place, Shown};
+ghost use Rattle.release.specs.Shown.{nowhere, place_in, shown_place, Shown};
 
 use crate::number::Version;
 use crate::table::{Row, Table};
@@ -9,7 +10,7 @@ use crate::terminology::Terminology;
 use crate::{ConceptName, read_release};
 
 // A part of one of two files: the file's side, where the part starts and how long it is.
-#[derive(Clone, Copy)]
+#[derive(Clone, Copy, Debug, PartialEq, Eq)]
 pub struct Place {
     pub side: u8,
     pub start: usize,
@@ -26,34 +27,33 @@ impl Place {
 }
 
 // Where a name's axiom stands in an accepted file, by its table. Its left name and its kind byte stand before its tail.
-fn place_in(terminology: &Terminology, side: u8, names: usize, name: usize) -> Place
+fn place_in(terminology: &Terminology, side: u8, names: usize, name: usize) -> Option<Place>
     requires accepted { Release terminology.now.file.now terminology.now.table.now }
     requires names { names ≡ names_of terminology.now.file.now }
-    ensures { result ≡ place_in side terminology.now.file.now name }
+    ensures { unwrap_or result nowhere ≡ place_in side terminology.now.file.now name }
 {
     if names <= name {
-        return Place::NOWHERE;
+        return None;
     }
-    let Some(kind) = terminology.kind(name) else {
-        return Place::NOWHERE;
-    };
+    let kind = terminology.kind(name)?;
     let width = Version::of(terminology.file).width();
     let start = terminology.tail(name) - 1 - width;
     if kind.is_conjunction() {
-        return Place {
+        return Some(Place {
             side,
             start,
             length: width + 1 + (1 + width * terminology.count(name)),
-        };
+        });
     }
-    Place {
+    Some(Place {
         side,
         start,
         length: width + 1 + (1 + width),
-    }
+    })
 }
 
-// Where the axiom that `show_axiom` shows stands.
+// Where the axiom that `show_axiom` shows stands. Where there is none, C is told a part of no bytes. The side is a number and any number is
+// answered, as C may pass any: a type would ask more of callers.
 pub fn axiom_place(first: &[u8], second: &[u8], side: usize, name: ConceptName) -> Place
     ensures { result ≡ shown_place first.now second.now side name.0 }
 {
@@ -65,21 +65,20 @@ pub fn axiom_place(first: &[u8], second: &[u8], side: usize, name: ConceptName) 
     let Ok(second_counts) = read_release(second, &mut second_table) else {
         return Place::NOWHERE;
     };
-    if side == 1 {
-        let terminology = Terminology {
-            file: first,
-            table: &first_table,
-        };
-        return place_in(&terminology, 1, first_counts.names, name.0);
-    }
-    if side == 2 {
-        let terminology = Terminology {
-            file: second,
-            table: &second_table,
-        };
-        return place_in(&terminology, 2, second_counts.names, name.0);
-    }
-    Place::NOWHERE
+    let first = Terminology {
+        file: first,
+        table: &first_table,
+    };
+    let second = Terminology {
+        file: second,
+        table: &second_table,
+    };
+    let place = match side {
+        1 => place_in(&first, 1, first_counts.names, name.0),
+        2 => place_in(&second, 2, second_counts.names, name.0),
+        _ => None,
+    };
+    place.unwrap_or(Place::NOWHERE)
 }
 
 // The axiom of a name, as a part of whichever of the two files holds it.

@@ -1,3 +1,4 @@
+// The table by name, and the axioms of a file read into it.
 ghost use Rattle.release.specs.Tables.{Fits, Put, Ready, AxiomsRead};
 
 use crate::axiom::{Entry, read_axiom};
@@ -6,7 +7,8 @@ use crate::number::Version;
 use crate::refusals::FileRefusal;
 use crate::{Counts, Release};
 
-// A table has one row for each name that there can be.
+// A table has one row for each name that there can be. Its owners keep it as a local array of this length, since there is no heap; the
+// constant has a type of its own so that they read `Table::LENGTH`, which a constant of the module would not make plainer.
 #[derive(Clone, Copy)]
 pub struct Table {}
 
@@ -15,7 +17,7 @@ impl Table {
 }
 
 // What a name's axiom says, as far as it has one: its kind, its role, its filler as a node and the place of its tail in the file.
-#[derive(Clone, Copy)]
+#[derive(Clone, Copy, Debug, PartialEq, Eq)]
 pub struct Row {
     pub kind: Option<Kind>,
     pub role: u16,
@@ -52,10 +54,15 @@ pub fn read_axioms(file: &[u8], table: &mut [Row], counts: Counts) -> Result<(),
     ensures { AxiomsRead counts.names counts.roles counts.axioms file.now table.new result }
 {
     let version = Version::of(file);
+    // The place stands beside the count: where the next axiom starts is known only when this one is read, so no iterator gives it.
     let mut at = version.header_length();
     let mut least: usize = 0;
     for _read in 0..counts.axioms {
-        let (entry, next) = read_axiom(file, version, at, counts, least)?;
+        // by `let .. else` and not by `?`: what the reader yields is looked for here (docs/DECISIONS.md, "Forms")
+        let read = read_axiom(file, version, at, counts, least);
+        let Ok((entry, next)) = read else {
+            return read.and(Ok(()));
+        };
         put_row(table, entry);
         least = entry.left.0 + 1;
         at = next.at;

@@ -35,10 +35,7 @@ impl<'a> Terminology<'a> {
         requires { HasRow self.now.table.now x }
         ensures { result ≡ joins (kind_at self.now.table.now x) }
     {
-        matches!(
-            self.kind(x),
-            Some(Kind::PrimitiveConjunction | Kind::DefinedConjunction)
-        )
+        self.kind(x).is_some_and(Kind::is_conjunction)
     }
 
     // Whether a name's axiom is a restriction ∃r.B.
@@ -46,10 +43,7 @@ impl<'a> Terminology<'a> {
         requires { HasRow self.now.table.now x }
         ensures { result ≡ restricts (kind_at self.now.table.now x) }
     {
-        matches!(
-            self.kind(x),
-            Some(Kind::PrimitiveRestriction | Kind::DefinedRestriction)
-        )
+        self.kind(x).is_some_and(Kind::is_restriction)
     }
 
     pub fn role(&self, x: usize) -> usize
@@ -83,7 +77,7 @@ impl<'a> Terminology<'a> {
         usize::from(self.file[self.tail(x)])
     }
 
-    // Its conjunct i: the only place that knows how wide a name is in the file.
+    // Conjunct i of a conjunction: it stands i names after the byte of their count.
     pub fn part(&self, x: usize, i: usize) -> usize
         requires { HasPart self.now.file.now self.now.table.now x i }
         ensures { result ≡ part_at self.now.file.now self.now.table.now x i }

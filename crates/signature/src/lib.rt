@@ -1,4 +1,4 @@
-// A signature's bytes: lent by a caller, or built a name or a role at a time.
+// A signature's bytes: lent by a caller, or built a name or a role at a time. Yes and no are the bytes 1 and 0, since C lends them so.
 #![tactic(auto)]
 
 ghost use Rattle.std.specs.Prelude.{◌≡◌};
@@ -8,8 +8,9 @@ ghost use Rattle.signature.specs.Building.{empty_signature, with_name, with_role
 
 use release::{ConceptName, Refusal, Release, RoleName};
 
-// A signature that a caller builds: its numbers of names and roles, and its bytes, names first, then roles.
-#[derive(Clone, Copy)]
+// A signature that a caller builds: its numbers of names and roles, and its bytes, names first, then roles. The bytes are an array with the
+// numbers beside it, since it is built and handed over by value and there is no heap.
+#[derive(Clone, Copy, Debug, PartialEq, Eq)]
 pub struct Signature {
     pub names: u16,
     pub roles: u8,

@@ -1,3 +1,4 @@
+-- A table of blank rows is what reading asks for.
 use Rattle.release.proofs.Rows.{blank_table}
 use Rattle.release.proofs.check_release.Goals as goal
 

@@ -1,3 +1,4 @@
+-- Header, axioms and conjuncts are checked in this order: the first refusal among them is the one of the definition.
 use Rattle.release.proofs.Checks.{ready, refuses_header, refuses_axioms, read_shaped, refuses_15, accepts_file}
 use Rattle.release.proofs.Refusing.{is_accepted, passed}
 use Rattle.release.proofs.read_release.Goals as goal

@@ -1,3 +1,4 @@
+-- Each test that fails is the fault of the conjunct it is made at; where none is left, there is no fault.
 use mathlib.Core.Path.{◌∙◌}
 use Rattle.std.proofs.Math.Nat.{sub-zero}
 use native.Mathlib.Omega.{arith}

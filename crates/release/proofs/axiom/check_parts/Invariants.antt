@@ -1,3 +1,4 @@
+-- The fault of all conjuncts is the fault of those that are left, from the place and the least name reached.
 use Prim.Native.Nat.{◌-◌, ◌≤◌}
 use mathlib.Core.Path.{◌≡◌}
 use lib.ListN.{length}

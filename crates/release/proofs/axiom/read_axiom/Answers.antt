@@ -1,6 +1,7 @@
-use mathlib.Core.Path.{◌∙◌, sym}
+-- The tests before the tail, in the order of the definition; then the kind says which tail is read.
+use mathlib.Core.Path.{refl, ◌∙◌}
+use mathlib.Core.Logic.{inl, inr}
 use Rattle.release.proofs.Readings.{axiom_7, axiom_9, axiom_10, axiom_short, axiom_8, axiom_as_tail}
-use Rattle.release.proofs.KindNumbers.{restricts_else}
 use Rattle.release.proofs.Refusing.{passed}
 use Rattle.release.proofs.axiom.read_axiom.Goals as goal
 
@@ -23,14 +24,17 @@ returns-in_err-kind c = rw (passed _ c.in_err-kind.field-0.0 c.from_residual.ens
     c.in_err-kind.ensures.1.0 c.in_err-kind.ensures.1.1)
 
 pub read_restriction-requires-clause-kind : goal.read_restriction-requires-clause-kind
-read_restriction-requires-clause-kind c = restricts_else c.in_ok-kind.kind (sym c.is_conjunction.ensures ∙ c.if-is_conjunction.false)
+read_restriction-requires-clause-kind c = elim c.in-PrimitiveRestriction.is [ inl e ↦ rw e refl | inr e ↦ rw e refl ]
 
-pub returns-then-is_conjunction : goal.returns-then-is_conjunction
-returns-then-is_conjunction c = (rw c.width.ensures at c.read_conjunction.ensures) ∙
+pub read_conjunction-requires-clause-kind : goal.read_conjunction-requires-clause-kind
+read_conjunction-requires-clause-kind c = elim c.in-PrimitiveConjunction.is [ inl e ↦ rw e refl | inr e ↦ rw e refl ]
+
+pub returns-in-PrimitiveConjunction : goal.returns-in-PrimitiveConjunction
+returns-in-PrimitiveConjunction c = (rw c.width.ensures at c.read_conjunction.ensures) ∙
     axiom_as_tail _ _ _ _ _ _ (rw c.width.ensures at c.if-file-after.false) _ c.number-left.ensures c.if-counts-left.false c.if-left-least.false
     (rw c.width.ensures at c.if-file-after-2.false) c.in_ok-kind.kind (rw c.width.ensures at c.in_ok-kind.ensures)
 
-pub returns-else-is_conjunction : goal.returns-else-is_conjunction
-returns-else-is_conjunction c = (rw c.width.ensures at c.read_restriction.ensures) ∙
+pub returns-in-PrimitiveRestriction : goal.returns-in-PrimitiveRestriction
+returns-in-PrimitiveRestriction c = (rw c.width.ensures at c.read_restriction.ensures) ∙
     axiom_as_tail _ _ _ _ _ _ (rw c.width.ensures at c.if-file-after.false) _ c.number-left.ensures c.if-counts-left.false c.if-left-least.false
     (rw c.width.ensures at c.if-file-after-2.false) c.in_ok-kind.kind (rw c.width.ensures at c.in_ok-kind.ensures)

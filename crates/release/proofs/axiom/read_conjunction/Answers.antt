@@ -1,3 +1,4 @@
+-- The tests of a count and its conjuncts, in the order of the definition: each return is one of its cases.
 use mathlib.Core.Path.{◌∙◌}
 use native.Mathlib.Omega.{arith}
 use Rattle.release.proofs.Faults.{conjunction_7, conjunction_many, conjunction_parts}

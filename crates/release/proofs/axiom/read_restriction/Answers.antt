@@ -1,3 +1,4 @@
+-- The tests of a role and a filler, in the order of the definition: each return is one of its cases.
 use mathlib.Core.Path.{◌∙◌, sym}
 use mathlib.Core.Logic.{inl, inr}
 use native.Mathlib.Omega.{arith}

@@ -1,3 +1,4 @@
+-- The conjuncts of x looked at so far are not defined by a conjunction.
 use Rattle.release.proofs.DefinedParts.{NoneDefined}
 use Rattle.release.proofs.conjuncts.part_defined.Given as goal
 

@@ -1,3 +1,4 @@
+-- The names looked at so far have no conjunct that is defined by a conjunction.
 use Rattle.release.proofs.DefinedParts.{NoName}
 use Rattle.release.proofs.conjuncts.some_part_defined.Given as goal
 

@@ -1,3 +1,4 @@
+-- Each test of the header refuses what the definition refuses there, given that the tests before it passed.
 use native.Mathlib.Omega.{arith}
 use Rattle.release.proofs.Headers.{marked, started, has_header, header_1, header_2, header_3, header_short, header_4, header_5, header_6, header_none}
 use Rattle.release.proofs.Refusing.{refuses, accepts, passed}

@@ -1,3 +1,4 @@
+-- By the row of a name its axiom starts before the tail and is as long as the kind and the count say.
 use mathlib.Core.Path.{sym, ◌∙◌}
 use native.Mathlib.Omega.{arith}
 use Rattle.release.proofs.Numbers.{is_width}
@@ -8,15 +9,15 @@ use Rattle.release.proofs.show.place_in.Goals as goal
 pub returns-then-names-name : goal.returns-then-names-name
 returns-then-names-name c = place_outside c.requires.accepted _ _ (omega (arith, c.if-names-name.true, c.requires.names))
 
-pub returns-in_default : goal.returns-in_default
-returns-in_default c = place_blank c.requires.accepted _ _ (omega (arith, c.if-names-name.false, c.requires.names)) (sym c.in_default.ensures)
+pub returns-in_err-kind : goal.returns-in_err-kind
+returns-in_err-kind c = rw c.from_residual.ensures (place_blank c.requires.accepted _ _ (omega (arith, c.if-names-name.false, c.requires.names)) (sym c.in_err-kind.ensures))
 
 pub of-requires : goal.of-requires
 of-requires c = version_within c.requires.accepted
 
 pub overflow_sub-start : goal.overflow_sub-start
 overflow_sub-start c = omega
-    (arith, c.tail.ensures, tail_far c.requires.accepted 1 _ (omega (arith, c.if-names-name.false, c.requires.names)) (some_kind c.in-Some.kind c.in-Some.ensures))
+    (arith, c.tail.ensures, tail_far c.requires.accepted 1 _ (omega (arith, c.if-names-name.false, c.requires.names)) (some_kind c.in_ok-kind.kind c.in_ok-kind.ensures))
 
 pub overflow_sub-start-2 : goal.overflow_sub-start-2
 overflow_sub-start-2 c = omega (
@@ -24,35 +25,35 @@ overflow_sub-start-2 c = omega (
   c.tail.ensures,
   c.width-width.ensures,
   c.of.ensures,
-  tail_far c.requires.accepted 1 _ (omega (arith, c.if-names-name.false, c.requires.names)) (some_kind c.in-Some.kind c.in-Some.ensures),
+  tail_far c.requires.accepted 1 _ (omega (arith, c.if-names-name.false, c.requires.names)) (some_kind c.in_ok-kind.kind c.in_ok-kind.ensures),
 )
 
 pub count-requires : goal.count-requires
-count-requires c = place_count c.requires.accepted 1 _ (omega (arith, c.if-names-name.false, c.requires.names)) (some_kind c.in-Some.kind c.in-Some.ensures)
-    (rw c.in-Some.ensures at (sym c.is_conjunction.ensures ∙ c.if-is_conjunction.true))
+count-requires c = place_count c.requires.accepted 1 _ (omega (arith, c.if-names-name.false, c.requires.names)) (some_kind c.in_ok-kind.kind c.in_ok-kind.ensures)
+    (rw c.in_ok-kind.ensures at (sym c.is_conjunction.ensures ∙ c.if-is_conjunction.true))
 
 pub overflow_mul-result : goal.overflow_mul-result
 overflow_mul-result c =
-    let few = count_few c.requires.accepted 1 _ (omega (arith, c.if-names-name.false, c.requires.names)) (some_kind c.in-Some.kind c.in-Some.ensures)
-    (rw c.in-Some.ensures at (sym c.is_conjunction.ensures ∙ c.if-is_conjunction.true)) in
+    let few = count_few c.requires.accepted 1 _ (omega (arith, c.if-names-name.false, c.requires.names)) (some_kind c.in_ok-kind.kind c.in_ok-kind.ensures)
+    (rw c.in_ok-kind.ensures at (sym c.is_conjunction.ensures ∙ c.if-is_conjunction.true)) in
     rw (c.width-width.ensures ∙ c.of.ensures, c.count.ensures) (omega (arith, few, (is_width c.args.terminology.now.file.now).few))
 
 pub overflow_add-result-then-is_conjunction : goal.overflow_add-result-then-is_conjunction
 overflow_add-result-then-is_conjunction c =
-    let few = count_few c.requires.accepted 1 _ (omega (arith, c.if-names-name.false, c.requires.names)) (some_kind c.in-Some.kind c.in-Some.ensures)
-    (rw c.in-Some.ensures at (sym c.is_conjunction.ensures ∙ c.if-is_conjunction.true)) in
+    let few = count_few c.requires.accepted 1 _ (omega (arith, c.if-names-name.false, c.requires.names)) (some_kind c.in_ok-kind.kind c.in_ok-kind.ensures)
+    (rw c.in_ok-kind.ensures at (sym c.is_conjunction.ensures ∙ c.if-is_conjunction.true)) in
     rw (c.width-width.ensures ∙ c.of.ensures, c.count.ensures) (omega (arith, few, (is_width c.args.terminology.now.file.now).few))
 
 pub overflow_add-result-then-is_conjunction-2 : goal.overflow_add-result-then-is_conjunction-2
 overflow_add-result-then-is_conjunction-2 c =
-    let few = count_few c.requires.accepted 1 _ (omega (arith, c.if-names-name.false, c.requires.names)) (some_kind c.in-Some.kind c.in-Some.ensures)
-    (rw c.in-Some.ensures at (sym c.is_conjunction.ensures ∙ c.if-is_conjunction.true)) in
+    let few = count_few c.requires.accepted 1 _ (omega (arith, c.if-names-name.false, c.requires.names)) (some_kind c.in_ok-kind.kind c.in_ok-kind.ensures)
+    (rw c.in_ok-kind.ensures at (sym c.is_conjunction.ensures ∙ c.if-is_conjunction.true)) in
     rw (c.width-width.ensures ∙ c.of.ensures, c.count.ensures) (omega (arith, few, (is_width c.args.terminology.now.file.now).few))
 
 pub returns-then-is_conjunction : goal.returns-then-is_conjunction
-returns-then-is_conjunction c = place_joined c.requires.accepted _ _ (omega (arith, c.if-names-name.false, c.requires.names)) (some_kind c.in-Some.kind c.in-Some.ensures) _ _
-    (c.width-width.ensures ∙ c.of.ensures) c.tail.ensures (rw c.in-Some.ensures at (sym c.is_conjunction.ensures ∙ c.if-is_conjunction.true)) _ c.count.ensures
+returns-then-is_conjunction c = place_joined c.requires.accepted _ _ (omega (arith, c.if-names-name.false, c.requires.names)) (some_kind c.in_ok-kind.kind c.in_ok-kind.ensures) _ _
+    (c.width-width.ensures ∙ c.of.ensures) c.tail.ensures (rw c.in_ok-kind.ensures at (sym c.is_conjunction.ensures ∙ c.if-is_conjunction.true)) _ c.count.ensures
 
 pub returns : goal.returns
-returns c = place_restricted c.requires.accepted _ _ (omega (arith, c.if-names-name.false, c.requires.names)) (some_kind c.in-Some.kind c.in-Some.ensures) _ _
-    (c.width-width.ensures ∙ c.of.ensures) c.tail.ensures (rw c.in-Some.ensures at (sym c.is_conjunction.ensures ∙ c.if-is_conjunction.false))
+returns c = place_restricted c.requires.accepted _ _ (omega (arith, c.if-names-name.false, c.requires.names)) (some_kind c.in_ok-kind.kind c.in_ok-kind.ensures) _ _
+    (c.width-width.ensures ∙ c.of.ensures) c.tail.ensures (rw c.in_ok-kind.ensures at (sym c.is_conjunction.ensures ∙ c.if-is_conjunction.false))

@@ -1,3 +1,4 @@
+-- The part lies inside the file that holds it, so its bytes, its block and its place are those of the definition.
 use mathlib.Core.Logic.{⊎_elim}
 use native.Mathlib.Omega.{arith}
 use Rattle.release.proofs.Places.{either_holds, second_holds, first_holds, part_bytes, part_block, part_place, holder_second, holder_first}

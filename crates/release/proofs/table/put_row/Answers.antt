@@ -1,3 +1,4 @@
+-- The new table is the old one with one row put in.
 use Rattle.release.proofs.Rows.{row_put}
 use Rattle.release.proofs.table.put_row.Goals as goal
 

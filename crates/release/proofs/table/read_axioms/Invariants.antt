@@ -1,3 +1,4 @@
+-- The axioms read so far stand in the table, and the fault of all is the fault of those that are left.
 use Prim.Native.Nat.{◌-◌}
 use Rattle.release.proofs.Scan.{Going}
 use Rattle.release.proofs.table.read_axioms.Given as goal

@@ -1,3 +1,4 @@
+-- `Signature::empty` meets its contract: its limits are those of the definition.
 use Rattle.signature.specs.Building.{empty_signature}
 use Rattle.signature.proofs.Signature.empty.Goals as goal
 

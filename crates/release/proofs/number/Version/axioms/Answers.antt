@@ -1,3 +1,4 @@
+-- The number of axioms stands after the names and the byte of the roles.
 use Rattle.release.specs.Files.{count_of}
 use Rattle.release.proofs.number.Version.axioms.Goals as goal
 

@@ -1,3 +1,4 @@
+-- The number of names stands at place 5.
 use mathlib.Core.Path.{◌∙◌}
 use Rattle.release.specs.Files.{names_of}
 use Rattle.release.proofs.number.Version.names.Goals as goal

@@ -1,3 +1,4 @@
+-- The byte at place 3 is 1 in version 1 alone.
 use Rattle.release.proofs.Numbers.{width_1, width_2}
 use Rattle.release.proofs.number.Version.of.Goals as goal
 

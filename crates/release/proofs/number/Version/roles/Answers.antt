@@ -1,3 +1,4 @@
+-- The number of roles is the byte after the number of names.
 use Rattle.release.specs.Files.{roles_of}
 use Rattle.release.proofs.number.Version.roles.Goals as goal
 

@@ -1,3 +1,4 @@
+-- The count of conjuncts is the byte at the tail.
 use mathlib.Core.Path.{◌∙◌}
 use Rattle.release.specs.Tables.{count_at}
 use Rattle.release.proofs.terminology.Terminology.count.Goals as goal
