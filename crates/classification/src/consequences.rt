@@ -1,5 +1,6 @@
 // What the new marks of a row give: marks put at the cells that depend on them, each as a rule allows. A row that gets one waits.
-// Where to look is read from hints and lines of which nothing is said, so each rule is tested at its cell.
+// Where to look is read from hints and lines of which nothing is said, so each rule is tested at its cell. The loops that ask `next_hint`
+// write the memory that it searches, so no iterator can hold it.
 ghost use Rattle.std.specs.Prelude.{◌≤◌};
 ghost use Rattle.el.proofs.Tests.{Tells};
 ghost use Rattle.release.specs.Tables.{HasRow};
@@ -53,7 +54,7 @@ impl<'a> Classification<'a> {
         }
     }
 
-    // So for all y of the line.
+    // What x ⊑ y gives in row x, for all y of the line.
     fn put_above(&self, work: &mut [u8], waiting: &mut Waiting, line: &[u8; Line::LENGTH], x: usize)
         requires setting { Of Setting self.now work.old }
         requires x_le_names { x ≤ self.now.square.names }
@@ -94,7 +95,7 @@ impl<'a> Classification<'a> {
         }
     }
 
-    // So for all y of the line that the filler x of b lies below.
+    // The defined restrictions that lie above b by an inclusion of its filler x in a y of the line.
     fn put_filled(
         &self,
         work: &mut [u8],
@@ -113,7 +114,7 @@ impl<'a> Classification<'a> {
         }
     }
 
-    // So for all restrictions b with the filler x.
+    // What `put_filled` puts, for all restrictions b with the filler x.
     fn put_by_fillers(
         &self,
         work: &mut [u8],

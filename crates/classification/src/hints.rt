@@ -10,7 +10,7 @@ use crate::Classification;
 use marks::Square;
 use release::Kind;
 
-// Which of the four squares behind the rows holds what; the first is for what was seen of a row.
+// Which of the four squares behind the rows holds what; the first is for what was seen of a row. Numbers, as crate marks asks for.
 #[derive(Clone, Copy)]
 pub struct Hints {}
 

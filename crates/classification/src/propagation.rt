@@ -20,7 +20,7 @@ impl<'a> Classification<'a> {
         }
     }
 
-    // So for all x.
+    // x ⊑ x, x ⊑ ⊤, and the conjuncts of x, for all x.
     fn start(&self, work: &mut [u8])
         requires { Of Setting self.now work.old }
         ensures { Grows (Of Step self.now) self.now.square work.old work.new }
@@ -60,16 +60,13 @@ impl<'a> Classification<'a> {
         }
     }
 
-    // So for all conjunctions, one after the other: then all is marked that follows by conjuncts alone (Warshall). This holds for any
+    // Hands on the rows of all conjunctions, one after the other: then all is marked that follows by conjuncts alone (Warshall). This holds for any
     // order; in one in which conjuncts come first, a row is complete before it is handed on, and few have to be.
     fn hand_on_rows(&self, work: &mut [u8], order: &Order)
         requires { Of Setting self.now work.old }
         ensures { Grows (Of Step self.now) self.now.square work.old work.new }
     {
-        for place in 0..self.nodes() {
-            let Some(name) = order.at(place) else {
-                continue;
-            };
+        for name in order.nodes(self.square.names) {
             if name < self.square.names && self.terminology.is_conjunction(name) {
                 self.hand_on_row(work, name);
             }

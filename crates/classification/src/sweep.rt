@@ -71,7 +71,7 @@ impl<'a> Classification<'a> {
     }
 
     // Marks what the axiom of x gives: its conjuncts in its row, and its column where it defines x. Whether a mark is new.
-    fn axiom(&self, work: &mut [u8], x: usize) -> bool
+    fn mark_axiom(&self, work: &mut [u8], x: usize) -> bool
         requires seeded_setting { Of SeededSetting self.now work.old }
         requires x_lt_names { x < self.now.square.names }
         ensures { Pass (Of Step self.now) self.now.square (Of AxiomSettled self.now x) work.old work.new result }
@@ -89,14 +89,14 @@ impl<'a> Classification<'a> {
         }
     }
 
-    // Does so for all axioms. Whether a mark is new.
-    fn axioms(&self, work: &mut [u8]) -> bool
+    // Marks what all axioms give. Whether a mark is new.
+    fn mark_axioms(&self, work: &mut [u8]) -> bool
         requires { Of SeededSetting self.now work.old }
         ensures { Pass (Of Step self.now) self.now.square (Below (Of AxiomSettled self.now) self.now.square.names) work.old work.new result }
     {
         let mut changed = false;
         for x in 0..self.square.names {
-            let new = self.axiom(work, x);
+            let new = self.mark_axiom(work, x);
             changed |= new;
         }
         changed
@@ -153,7 +153,7 @@ impl<'a> Rules for Classification<'a> {
         if self.seed_all(work) {
             return true;
         }
-        if self.axioms(work) {
+        if self.mark_axioms(work) {
             return true;
         }
         let handing = Handing {

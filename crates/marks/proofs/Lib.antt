@@ -5,6 +5,7 @@ pub mod WordBits
 pub mod Squares
 pub mod Passes
 pub mod Lines
+pub mod Orders
 pub mod Scans
 pub mod Turning
 pub mod Handing

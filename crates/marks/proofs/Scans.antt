@@ -1,6 +1,7 @@
 -- Laws of looking through a row block after block.
 --   row_at_lem                             the bytes of a row are in the memory;  line_at: those of a line
---   next_found, next_block             the next mark of a row: found in a block; none in it
+--   next_start .. next_found           the next bit of a row: none before the first column, in a block, in the row; found in a block
+--   next_of_row, column_found          the next mark of a row, and the next column of a line, by it
 --   out_found, out_block               the next mark of a row that a line has not
 --   seen_none, seen_more, seen_within  a row looked through for marks that another row has not
 -- Not here: reading a block (WordBits).
@@ -13,14 +14,14 @@ use borrow.Author.Tests.{le-leb, lt-leb}
 use lib.Bits.{bit_or, bit_xor}
 use lib.ListN.{length, get_or}
 use Rattle.std.specs.Bool.{then_some}
-use Rattle.std.specs.Prelude.{Option, leb}
+use Rattle.std.specs.Prelude.{Option, None, Some, leb}
 use Rattle.std.specs.Option.{IfSome}
 use Rattle.marks.specs.declared.Square.{Square}
 use Rattle.marks.specs.Squares.{bit, place, farthest, most_cells, Place, Room, Marked, Within, NextMarked}
 use Rattle.marks.specs.Lines.{Has, Spans, NextOutside}
-use Rattle.marks.specs.Words.{ReadBits, block_end, Rest, FirstBit, InRow}
+use Rattle.marks.specs.Words.{ReadBits, block_end, Rest, FirstBit, InRow, RowLies, HasBit, NextBit}
 use Rattle.marks.proofs.Bits.{bit_of_zero, both_zero, outside_bit, not_outside, not_within, within_byte}
-use Rattle.marks.proofs.Squares.{NoneBefore, place_column, row_inside}
+use Rattle.marks.proofs.Squares.{place_column, row_inside}
 use Rattle.marks.proofs.Lines.{InBefore}
 use Rattle.marks.proofs.WordBits.{bit_few, end_after}
 
@@ -30,13 +31,79 @@ row_at_lem {q} room h l p = let b = row_inside {i = q.names / 8} room h (omega a
 pub line_at : {n y : ℕ} {k : List ℕ} → n ≤ 65535 → y ≤ n → Spans n k → InRow n k 0 y
 line_at few l s = record { column = l; inside = omega (arith, s.inside); near = omega arith }
 
--- a column that was found, and that is told where it is one of the line
-pub within_line : {from y : ℕ} {r : Option ℕ} (t n : ℕ) → from ≤ y → r ≡ then_some (leb (y + t) n) (y + t) → IfSome r (λ z. (from ≤ z) × (z ≤ n))
-within_line {from} {y} t n h e = rw e (by_order (dec_le (y + t) n))
-  where
-    by_order : Dec (y + t ≤ n) → IfSome (then_some (leb (y + t) n) (y + t)) (λ z. (from ≤ z) × (z ≤ n))
-    by_order (yes l) = rw (le-leb _ _ l) (omega arith, l)
-    by_order (no l) = let g : n < y + t = omega arith in rw (lt-leb _ _ g) tt
+-- no bit of a row so far
+pub record NoneBefore (n : ℕ) (s : List ℕ) (row from y : ℕ) : Type 0 where
+  pub after : from ≤ y
+  pub none : (z : ℕ) → from ≤ z → z < y → z ≤ n → HasBit s row z → ⊥
+
+-- the next bit of a row
+module _ {n : ℕ} {s : List ℕ} {row from : ℕ} where
+  pub next_start : (y : ℕ) → y ≡ from → NoneBefore n s row from y
+  next_start y e = record { after = omega arith; none = λ z h l k m. absurd (omega arith) }
+
+  pub next_none : {y : ℕ} → NoneBefore n s row from y → n < y → NextBit n s row from None
+  next_none b l = record { each = λ z h k m. b.none z h (omega arith) k m }
+
+module _ {n : ℕ} {s : List ℕ} {row y r : ℕ} (rest : Rest n s row y r) where
+  bit_rest : (z : ℕ) → y ≤ z → z < block_end n y → HasBit s row z → bit r (z - y) ≡ 1
+  bit_rest z h l m = rest.bits z h l ∙ m.is
+
+  module _ {from : ℕ} (b : NoneBefore n s row from y) where
+    pub next_block : {end : ℕ} → end ≡ block_end n y → r ≤ 0 → NoneBefore n s row from end
+    next_block {end} f e = rw f (record { after = omega (arith, b.after, end_after n y); none = λ z h l k m. by_order z h l k m (dec_lt z y) })
+      where
+        nothing : r ≡ 0
+        nothing = omega arith
+
+        by_order : (z : ℕ) → from ≤ z → z < block_end n y → z ≤ n → HasBit s row z → Dec (z < y) → ⊥
+        by_order z h l k m (yes g) = b.none z h g k m
+        by_order z h l k m (no g) =
+            let b : bit 0 (z - y) ≡ 1 = rw nothing at (bit_rest z (omega arith) l m) in
+            omega (arith, bit_of_zero (z - y))
+
+    module _ {t : ℕ} (first : FirstBit r t) where
+      inside_block : y + t < block_end n y
+      inside_block = let b = bit_few rest.small first.is in omega (arith, end_after n y)
+
+      before : (z : ℕ) → from ≤ z → z < y + t → z ≤ n → HasBit s row z → ⊥
+      before z h l k m = by_order (dec_lt z y)
+        where
+          by_order : Dec (z < y) → ⊥
+          by_order (yes g) = b.none z h g k m
+          by_order (no g) = omega (arith, bit_rest z (omega arith) (omega (arith, inside_block)) m, first.none (z - y) (omega arith))
+
+      pub next_found : {o : Option ℕ} → o ≡ then_some (leb (y + t) n) (y + t) → NextBit n s row from o
+      next_found e = rw e (by_order (dec_le (y + t) n))
+        where
+          is : bit r (y + t - y) ≡ 1
+          is = let e : y + t - y ≡ t = omega arith in rw e first.is
+
+          by_order : Dec (y + t ≤ n) → NextBit n s row from (then_some (leb (y + t) n) (y + t))
+          by_order (yes l) = rw (le-leb _ _ l)
+              (record { after = omega (arith, b.after); inside = l; there = record { is = sym (rest.bits (y + t) (omega arith) inside_block) ∙ is }; before = λ z h k m. before z h k (omega arith) m })
+          by_order (no l) = let g : n < y + t = omega arith in rw (lt-leb _ _ g) (record { each = λ z h k m. before z h (omega arith) k m })
+
+-- the bits of a row of a square are its marks
+module _ {q : Square} {x row : ℕ} (at : Place q x 0 row) where
+  bit_place : (z : ℕ) → row + z / 8 ≡ place q x z
+  bit_place z = ap (λ (i : ℕ). i + z / 8) at.is ∙ place_column q x z
+
+  pub next_of_row : (w : List ℕ) (from : ℕ) (r : Option ℕ) → NextBit q.names w row from r → NextMarked q w x from r
+  next_of_row w from None f = record { each = λ z h k m. f.each z h k (record { is = rw (bit_place z) m.is }) }
+  next_of_row w from (Some y) f = record {
+    after = f.after;
+    inside = f.inside;
+    there = record { is = rw (← bit_place y) f.there.is };
+    before = λ z h k m. f.before z h k (record { is = rw (bit_place z) m.is });
+  }
+
+pub row_lies : {q : Square} {w : List ℕ} {x row : ℕ} → Room q w → x ≤ q.names → Place q x 0 row → RowLies q.names w row
+row_lies {q} room h p = let b = row_inside {i = q.names / 8} room h (omega arith) p in record { few = omega (arith, room.small.few); inside = b.0; near = omega (arith, b.1) }
+
+-- a column of a line that was found
+pub column_found : (n : ℕ) (s : List ℕ) (row from : ℕ) (r : Option ℕ) → NextBit n s row from r → IfSome r (λ y. (from ≤ y) × (y ≤ n))
+column_found n s row from None f = tt
+column_found n s row from (Some y) f = (f.after, f.inside)
 
 -- a block of a row
 module _ {q : Square} {w : List ℕ} {x row y r : ℕ} (at : Place q x 0 row) (rest : Rest q.names w row y r) where
@@ -48,41 +115,6 @@ module _ {q : Square} {w : List ℕ} {x row y r : ℕ} (at : Place q x 0 row) (r
 
   pub marked_rest : (z : ℕ) → y ≤ z → z < block_end q.names y → Marked q w x z → bit r (z - y) ≡ 1
   marked_rest z h l m = rest.bits z h l ∙ rw (cell z) m.is
-
-  module _ {from : ℕ} (n : NoneBefore q w x from y) where
-    pub next_block : {end : ℕ} → end ≡ block_end q.names y → r ≤ 0 → NoneBefore q w x from end
-    next_block {end} f e = rw f (record { after = omega (arith, n.after, end_after q.names y); none = λ z h l k m. by_order z h l k m (dec_lt z y) })
-      where
-        nothing : r ≡ 0
-        nothing = omega arith
-
-        by_order : (z : ℕ) → from ≤ z → z < block_end q.names y → z ≤ q.names → Marked q w x z → Dec (z < y) → ⊥
-        by_order z h l k m (yes g) = n.none z h g k m
-        by_order z h l k m (no g) =
-            let b : bit 0 (z - y) ≡ 1 = rw nothing at (marked_rest z (omega arith) l m) in
-            omega (arith, bit_of_zero (z - y))
-
-    module _ {t : ℕ} (first : FirstBit r t) where
-      inside_block : y + t < block_end q.names y
-      inside_block = let b = bit_few rest.small first.is in omega (arith, end_after q.names y)
-
-      before : (z : ℕ) → from ≤ z → z < y + t → z ≤ q.names → Marked q w x z → ⊥
-      before z h l k m = by_order (dec_lt z y)
-        where
-          by_order : Dec (z < y) → ⊥
-          by_order (yes g) = n.none z h g k m
-          by_order (no g) = omega (arith, marked_rest z (omega arith) (omega (arith, inside_block)) m, first.none (z - y) (omega arith))
-
-      pub next_found : {r : Option ℕ} → r ≡ then_some (leb (y + t) q.names) (y + t) → NextMarked q w x from r
-      next_found e = rw e (by_order (dec_le (y + t) q.names))
-        where
-          is : bit r (y + t - y) ≡ 1
-          is = let e : y + t - y ≡ t = omega arith in rw e first.is
-
-          by_order : Dec (y + t ≤ q.names) → NextMarked q w x from (then_some (leb (y + t) q.names) (y + t))
-          by_order (yes l) = rw (le-leb _ _ l)
-              (record { after = omega (arith, n.after); inside = l; there = rest_marked (y + t) (omega arith) inside_block is; before = λ z h k m. before z h k (omega arith) m })
-          by_order (no l) = let g : q.names < y + t = omega arith in rw (lt-leb _ _ g) (record { each = λ z h k m. before z h (omega arith) k m })
 
 -- a block of a row without the columns of a line
 module _ {q : Square} {w k : List ℕ} {x row y r o : ℕ} (at : Place q x 0 row) (rest : Rest q.names w row y r) (line : Rest q.names k 0 y o) where

@@ -27,7 +27,7 @@ use Rattle.el.proofs.Tests.{Tells}
 use Rattle.std.specs.Prelude.{Some, None}
 use Rattle.marks.specs.declared.Square.{Square}
 use Rattle.marks.specs.Squares.{bit, width, span, place, behind, Area, Lent, Small, most_names, most_cells, farthest, Place, Room, Marked, Unmarked, Apart, Behind, Touches}
-use Rattle.marks.specs.Squares.{Frame, Extends, Put, Hints, Kept, NextMarked, NextUnmarked}
+use Rattle.marks.specs.Squares.{Frame, Extends, Put, Hints, Kept, NextUnmarked}
 use Rattle.marks.specs.Memory.{size, Zeroed}
 use Rattle.marks.proofs.Bits.{bit_same, bit_other, high_bits, bit_of_zero, or_at, or_stays, or_has, or_only, or_fewer, or_less}
 
@@ -247,23 +247,10 @@ row_bytes n e = e
 pub byte_inside : {q : Square} {w : List ℕ} {x r i e : ℕ} (n : ℕ) → Room q w → q.names ≡ n → x ≤ n → e ≡ width n → i < e → Place q x 0 r → r + i < length w
 byte_inside {i = i} n room s h e l p = (row_inside {i = i} room (omega arith) (omega (arith, row_bytes n e)) p).0
 
--- no mark so far
-pub record NoneBefore (q : Square) (w : List ℕ) (x from y : ℕ) : Type 0 where
-  pub after : from ≤ y
-  pub none : (z : ℕ) → from ≤ z → z < y → z ≤ q.names → Marked q w x z → ⊥
-
 -- all marked so far
 pub record AllBefore (q : Square) (w : List ℕ) (x from y : ℕ) : Type 0 where
   pub after : from ≤ y
   pub all : (z : ℕ) → from ≤ z → z < y → z ≤ q.names → Marked q w x z
-
--- the next mark of a row
-module _ {q : Square} {w : List ℕ} {x from : ℕ} where
-  pub next_start : (y : ℕ) → y ≡ from → NoneBefore q w x from y
-  next_start y e = record { after = omega arith; none = λ z h l k m. absurd (omega arith) }
-
-  pub next_none : {y : ℕ} → NoneBefore q w x from y → q.names < y → NextMarked q w x from None
-  next_none n l = record { each = λ z h k m. n.none z h (omega arith) k m }
 
 -- the next cell of a row that is not marked
 module _ {q : Square} {w : List ℕ} {x from : ℕ} where

@@ -3,9 +3,12 @@
 --   placed o k x            the order o with the node x at place k; unchanged where one of the two is out of range
 --   Stands n p k            at place k of the order p a node stands of a square of n names
 --   NodesPlaced n o p       each place of the order p has what it has in o, or such a node
-use Rattle.std.specs.Prelude.{◌≡◌, ◌&&◌, ◌⊎◌, ℕ, ◌≤◌, ltb, Option, Some, None, get_or, set}
+--   Walking n s             s is a walk of the nodes of an order that belong to a square of n names
+--   NodeGiven s r t         r is a node of the square that s goes along, or none; t goes on along the same square
+use Rattle.std.specs.Prelude.{◌≡◌, ◌&&◌, ◌⊎◌, ℕ, ◌≤◌, ltb, Option, Some, None, IfSome, get_or, set}
 use Rattle.el.specs.Lists.{pick}
 use Rattle.marks.specs.declared.order.Order.{Order}
+use Rattle.marks.specs.declared.order.Nodes.{Nodes}
 
 -- how many nodes an order has
 abbrev pub most_nodes : ℕ
@@ -24,3 +27,11 @@ pub record Stands (n : ℕ) (p : Order) (k : ℕ) : Type 0 where
 
 pub record NodesPlaced (n : ℕ) (o p : Order) : Type 0 where
   pub at : (k : ℕ) → (node_at p k ≡ node_at o k) ⊎ Stands n p k
+
+pub record Walking (n : ℕ) (s : Nodes) : Type 0 where
+  pub names : s.names ≡ n
+  pub few : n ≤ 65535
+
+pub record NodeGiven (s : Nodes) (r : Option ℕ) (t : Nodes) : Type 0 where
+  pub names : t.names ≡ s.names
+  pub node : IfSome r (λ x. x ≤ s.names)

@@ -1,5 +1,6 @@
 // Hints where to look, in the memory that is lent for a square, behind its rows: up to four squares of bits. Nothing is said of what they
-// hold, so whoever reads one tests what it asks of it. Where there is no room for them nothing is kept, and nothing is found.
+// hold, so whoever reads one tests what it asks of it. Where there is no room for them nothing is kept, and nothing is found. A square is
+// chosen by its number k and not by an enum: the number is what its place is reckoned with, and its meaning belongs to the crate above.
 ghost use Rattle.std.specs.Prelude.{◌≡◌, ◌≤◌, ◌<◌};
 ghost use Rattle.std.specs.Option.{IfSome};
 ghost use Rattle.marks.specs.Squares.{Room, Area, Hints, Kept};
@@ -57,7 +58,7 @@ impl Square {
     }
 
     // Puts into the line what is new in row x since it was seen, and sees it. How many bytes have something new: counted in a byte, so that
-    // the machine can count many at a time.
+    // the machine can count many at a time. Both rows lie in one slice, one of them written, which no iterator can hold: so too in `see_row`.
     fn see_behind(
         self,
         work: &mut [u8],
@@ -98,7 +99,7 @@ impl Square {
         }
     }
 
-    // Sees all rows.
+    // Sees all rows, in the square that is given.
     fn see_all_behind(self, work: &mut [u8], seen: Square)
         requires room { Room self work.old × Room seen work.old }
         requires names_value { seen.names ≡ self.names }
@@ -125,7 +126,7 @@ impl Square {
         0 < new
     }
 
-    // Lets each row wait that is not as it was seen.
+    // Lets each row wait that is not as it was seen in the square that is given.
     fn wait_behind(self, work: &[u8], seen: Square, waiting: &mut Waiting)
         requires room { Room self work.now × Room seen work.now }
         requires names_value { seen.names ≡ self.names }
@@ -138,7 +139,8 @@ impl Square {
         }
     }
 
-    // The same in the first square. Where there is no room for it, all of a row is new each time.
+    // Puts into the line what is new in row x since it was seen, and sees it in the first square. How many bytes have something new. Where
+    // there is no room for that square, all of a row is new each time.
     pub fn see(self, work: &mut [u8], x: usize, line: &mut [u8; Line::LENGTH]) -> usize
         requires area { Area self work.old }
         requires x_le_names { (x ≤ self.names) × (self.names ≤ 1023) }
@@ -152,7 +154,7 @@ impl Square {
         Line::LENGTH
     }
 
-    // Sees all rows.
+    // Sees all rows, in the first square.
     pub fn see_all(self, work: &mut [u8])
         requires { Area self work.old }
         ensures { Kept self work.old work.new }

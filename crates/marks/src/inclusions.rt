@@ -10,14 +10,16 @@ use crate::line::Line;
 use crate::order::Order;
 use crate::{Square, line};
 
-// Whether a row takes the marks of the rows above it, or gives its own to them.
-#[derive(Clone, Copy)]
+// Whether a row takes the marks of the rows above it, or gives its own to them. An enum and no closure: so one theorem says both directions,
+// and it is asked once a row.
+#[derive(Clone, Copy, Debug, PartialEq, Eq)]
 pub enum Direction {
     Down,
     Up,
 }
 
-// The square of the inclusions along which marks are handed, the square of the marks, and the direction.
+// The square of the inclusions along which marks are handed, the square of the marks, and the direction. The lines `done` and `covered` stay
+// parameters: the one is read and the other written, each in a call of its own.
 #[derive(Clone, Copy)]
 pub struct Handing {
     pub inclusions: Square,
@@ -52,7 +54,7 @@ impl Handing {
         }
     }
 
-    // The same, and what lies above c needs no look if c is done.
+    // Marks what `absorb` does, and what lies above c needs no look if c is done. Whether a mark is new.
     fn hand_one(self, work: &mut [u8], done: &[u8], covered: &mut [u8], x: usize, c: usize) -> bool
         requires room { Room self.inclusions work.old × Room self.marks work.old }
         requires spans { Spans self.inclusions.names done.now × Spans self.inclusions.names covered.old }
@@ -66,7 +68,7 @@ impl Handing {
         new
     }
 
-    // The same for a row that need not lie above, if there is one.
+    // Does what `hand_one` does with a row that need not lie above, if there is one and it does. Whether a mark is new.
     fn hand_near(
         self,
         work: &mut [u8],
@@ -78,7 +80,8 @@ impl Handing {
         requires room { Room self.inclusions work.old × Room self.marks work.old }
         requires spans { Spans self.inclusions.names done.now × Spans self.inclusions.names covered.old }
         requires x_le_names { x ≤ self.inclusions.names }
-        ensures { Pass (Handed self.direction self.inclusions self.marks) self.marks (Near (Reaches self.direction self.marks) self.inclusions done.now covered.old covered.new x) work.old work.new result }
+        ensures { Pass (Handed self.direction self.inclusions self.marks) self.marks
+            (Near (Reaches self.direction self.marks) self.inclusions done.now covered.old covered.new x) work.old work.new result }
     {
         match near {
             Some(c) if c <= self.inclusions.names && self.inclusions.is_marked(work, x, c) => {
@@ -88,7 +91,8 @@ impl Handing {
         }
     }
 
-    // Looks at all rows above row x that the line does not have. Whether a mark is new.
+    // Looks at all rows above row x that the line does not have. Whether a mark is new. The loop writes the line and the memory that it
+    // searches, so no iterator can hold them.
     fn hand_others(self, work: &mut [u8], done: &[u8], covered: &mut [u8], x: usize) -> bool
         requires room { Room self.inclusions work.old × Room self.marks work.old }
         requires spans { Spans self.inclusions.names done.now × Spans self.inclusions.names covered.old }
@@ -110,7 +114,8 @@ impl Handing {
         requires room { Room self.inclusions work.old × Room self.marks work.old }
         requires spans { Spans self.inclusions.names done.now }
         requires x_le_names { x ≤ self.inclusions.names }
-        ensures { Pass (Handed self.direction self.inclusions self.marks) self.marks (Given self.inclusions.names done.now (Hands self.direction self.inclusions self.marks) x) work.old work.new result }
+        ensures { Pass (Handed self.direction self.inclusions self.marks) self.marks
+            (Given self.inclusions.names done.now (Hands self.direction self.inclusions self.marks) x) work.old work.new result }
     {
         let mut covered = [0u8; Line::LENGTH];
         let first = self.hand_near(work, done, &mut covered, x, near);
@@ -118,7 +123,7 @@ impl Handing {
         first | others
     }
 
-    // Does so for the rows of the order, one after the other, each of which is done then. Whether a mark is new.
+    // Hands the marks of the rows of the order, one after the other, each of which is done then. Whether a mark is new.
     fn hand_in_order(self, work: &mut [u8], done: &mut [u8], order: &Order) -> bool
         requires room { Room self.inclusions work.old × Room self.marks work.old }
         requires spans { Spans self.inclusions.names done.old × Empty done.old }
@@ -126,13 +131,7 @@ impl Handing {
     {
         let mut changed = false;
         let mut near = None;
-        for place in 0..=self.inclusions.names {
-            let Some(x) = order.at(place) else {
-                continue;
-            };
-            if self.inclusions.names < x {
-                continue;
-            }
+        for x in order.nodes(self.inclusions.names) {
             let new = self.hand(work, done, x, near);
             changed |= new;
             line::add(done, x);
@@ -141,7 +140,7 @@ impl Handing {
         changed
     }
 
-    // Does so for all rows that are not done. Whether a mark is new.
+    // Hands the marks of all rows that are not done. Whether a mark is new.
     fn hand_rest(self, work: &mut [u8], done: &[u8]) -> bool
         requires room { Room self.inclusions work.old × Room self.marks work.old }
         requires spans { Spans self.inclusions.names done.now }
@@ -158,7 +157,7 @@ impl Handing {
         changed
     }
 
-    // Does so for all rows, those of the order first. Whether a mark is new.
+    // Hands the marks of all rows, those of the order first. Whether a mark is new.
     pub fn hand_all(self, work: &mut [u8], order: &Order) -> bool
         requires { Room self.inclusions work.old × Room self.marks work.old }
         ensures { Pass (Handed self.direction self.inclusions self.marks) self.marks (Below (Hands self.direction self.inclusions self.marks) (suc self.inclusions.names)) work.old work.new result }

@@ -19,7 +19,7 @@ pub mod waiting;
 pub mod words;
 
 // The place of a square: names + 1 rows and as many columns, row after row from `base` on. A row begins with a byte of its own.
-#[derive(Clone, Copy)]
+#[derive(Clone, Copy, Debug, PartialEq, Eq)]
 pub struct Square {
     pub base: usize,
     pub names: usize,

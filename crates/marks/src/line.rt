@@ -1,4 +1,6 @@
-// Lines: rows of bits in memory of their own, column after column from the first byte on.
+// Lines: rows of bits in memory of their own, column after column from the first byte on. A line is a slice and no struct of an array, so
+// `Spans` stands in the contracts: points keeps the rows of a grid, which are more than 128 bytes, as one line. `255 ^ b` stands for `!b`, since the
+// laws of bits are proved for `^`, and in a proof `!b` is 255 - b: tried.
 ghost use Rattle.std.specs.Prelude.{◌≡◌, true, ◌≤◌, ◌<◌};
 ghost use Rattle.std.specs.Option.{IfSome};
 ghost use Rattle.el.proofs.Tests.{Tells};
@@ -6,10 +8,11 @@ ghost use Rattle.marks.specs.Squares.{Room};
 ghost use Rattle.marks.specs.Passes.{Grows, Pass};
 ghost use Rattle.marks.specs.Lines.{Has, Spans, Added, Joined, NextOutside, Missing, Full};
 
-use crate::words::{block_end, first_bit, rest};
+use crate::words::{block_end, first_bit, next_bit, rest};
 use crate::{Square, width};
 
-// The bytes of a line for all nodes that there can be.
+// The bytes of a line for all nodes that there can be. Whoever fills a line has an array of this length, since there is no heap. The name
+// stands at a type, so that a caller reads `Line::LENGTH` and not a bare `LENGTH`.
 #[derive(Clone, Copy)]
 pub struct Line {}
 
@@ -41,17 +44,7 @@ pub fn next(line: &[u8], names: usize, from: usize) -> Option<usize>
     requires names_bound { names ≤ 65535 }
     ensures { IfSome result (λ y. (from ≤ y) × (y ≤ names)) }
 {
-    // a step is a word or a byte, so there is no range to go over
-    let mut y = from;
-    while y <= names {
-        let rest = rest(line, 0, names, y);
-        if 0 < rest {
-            let found = y + first_bit(rest);
-            return (found <= names).then_some(found);
-        }
-        y = block_end(names, y);
-    }
-    None
+    next_bit(line, 0, names, from)
 }
 
 impl Square {
@@ -68,7 +61,7 @@ impl Square {
         }
     }
 
-    // The first column of row x from `from` on that is marked and not in the line.
+    // The first column of row x from `from` on that is marked and not in the line. Not by `next_bit`, since each word is made of two.
     pub fn next_outside(self, work: &[u8], x: usize, line: &[u8], from: usize) -> Option<usize>
         requires room { Room self work.now }
         requires x_le_names { x ≤ self.names }
@@ -122,7 +115,7 @@ impl Square {
         missing == 0
     }
 
-    // Marks in row x the columns that are not in the line. Whether a mark is new.
+    // Marks in row x the columns that are not in the line, and tells whether a mark is new.
     pub fn absorb_missing(self, work: &mut [u8], x: usize, line: &[u8]) -> bool
         requires room { Room self work.old }
         requires x_le_names { x ≤ self.names }

@@ -1,12 +1,14 @@
 // An order of the nodes in which each one comes after those that are marked in its row, as far as that can be had. It is only a
 // hint: no more is promised than that nodes stand in it, so whoever goes by it looks whether a node is left.
-ghost use Rattle.std.specs.Prelude.{◌≡◌, None, ◌+◌, ◌*◌, ◌≤◌};
+ghost use Rattle.std.specs.Prelude.{◌≡◌, None, suc, ◌+◌, ◌-◌, ◌*◌, ◌≤◌};
+ghost use Rattle.std.specs.Iterator.{at_most};
 ghost use Rattle.marks.specs.Squares.{Room};
-ghost use Rattle.marks.specs.Orders.{node_at, placed, NodesPlaced};
+ghost use Rattle.marks.specs.Orders.{node_at, placed, NodesPlaced, Walking, NodeGiven};
 
 use crate::Square;
 use crate::path::Path;
 
+// The nodes by their places. An array, since there is no heap.
 #[derive(Drop)]
 pub struct Order {
     nodes: [Option<u16>; Path::NODES],
@@ -33,6 +35,18 @@ impl Order {
             return self.nodes[place].map(usize::from);
         }
         None
+    }
+
+    // The nodes that stand in it and belong to a square of so many names, one after the other.
+    pub fn nodes<'a>(&'a self, names: usize) -> Nodes<'a>
+        requires { names ≤ 65535 }
+        ensures { Walking names result }
+    {
+        Nodes {
+            order: self,
+            names: names,
+            place: 0,
+        }
     }
 
     // Puts a node at a place. Out of range nothing happens.
@@ -92,6 +106,36 @@ impl Order {
             }
         }
         count
+    }
+}
+
+// What is left of an order: the nodes from `place` on, of a square of so many names.
+#[derive(Drop)]
+pub struct Nodes<'a> {
+    order: &'a Order,
+    names: usize,
+    place: usize,
+}
+
+impl<'a> Iterator for Nodes<'a> {
+    type Item = usize;
+
+    ghost can_next = { λ s. Walking s.names s };
+
+    ghost next_gives = { NodeGiven };
+
+    ghost remaining = { λ s. at_most (suc s.names - s.place) };
+
+    fn next(&mut self) -> Option<usize> {
+        while self.place <= self.names {
+            let node = self.order.at(self.place);
+            self.place += 1;
+            match node {
+                Some(x) if x <= self.names => return Some(x),
+                _ => {}
+            }
+        }
+        None
     }
 }
 

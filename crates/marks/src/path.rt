@@ -6,12 +6,13 @@ use crate::line::Line;
 use crate::{Square, line};
 
 // A node of the path, and the column of its row from which on the search has not looked.
-#[derive(Clone, Copy)]
+#[derive(Clone, Copy, Debug, PartialEq, Eq)]
 pub struct Step {
     pub node: u16,
     pub column: u16,
 }
 
+// The steps are an array with its length beside it, since there is no heap.
 #[derive(Drop)]
 pub struct Path {
     steps: [Step; Path::NODES],
@@ -80,7 +81,7 @@ impl Path {
         let column = usize::from(self.steps[last].column);
         match square.next_outside(work, x, &self.met, column) {
             Some(node) => {
-                // as above
+                // no `From` leads to u16, and `try_from` has an arm that is never taken
                 self.steps[last].column = node as u16;
                 self.enter(node);
                 true

@@ -1,9 +1,10 @@
-// Whole rows of marks, eight cells at a time.
+// Whole rows of marks, a word or a byte at a time. `a & !b` is written `(a | b) ^ b`:
+// that has no width, so one law of bits holds of bytes and of words.
 ghost use Rattle.std.specs.Prelude.{◌≡◌, true, ◌%◌, ◌≤◌};
 ghost use Rattle.marks.specs.Squares.{Room, Within, NextMarked, NextUnmarked};
 ghost use Rattle.marks.specs.Passes.{Grows, Pass, FromRow};
 
-use crate::words::{block_end, first_bit, rest, word};
+use crate::words::{next_bit, word};
 use crate::{Square, width};
 
 impl Square {
@@ -24,7 +25,7 @@ impl Square {
         missing == 0
     }
 
-    // The same by bytes. No byte is skipped, so that the machine can look at many at a time.
+    // Whether row `to` has the marks of row `from`, by bytes, for a row without a whole number of words. No byte is skipped, so that the machine can look at many at a time.
     fn bytes_within(self, work: &[u8], from: usize, to: usize) -> bool
         requires room { Room self work.now }
         requires from_le_names { (from ≤ self.names) × (to ≤ self.names) }
@@ -41,7 +42,7 @@ impl Square {
         missing == 0
     }
 
-    // The same for any row.
+    // Whether row `to` has the marks of row `from`. Where it says no, nothing is said.
     pub fn seems_within(self, work: &[u8], from: usize, to: usize) -> bool
         requires room { Room self work.now }
         requires from_le_names { (from ≤ self.names) × (to ≤ self.names) }
@@ -59,18 +60,7 @@ impl Square {
         requires x_le_names { x ≤ self.names }
         ensures { NextMarked self work.now x from result }
     {
-        let row = self.place(x, 0);
-        // a step is a word or a byte, so there is no range to go over
-        let mut y = from;
-        while y <= self.names {
-            let rest = rest(work, row, self.names, y);
-            if 0 < rest {
-                let found = y + first_bit(rest);
-                return (found <= self.names).then_some(found);
-            }
-            y = block_end(self.names, y);
-        }
-        None
+        next_bit(work, self.place(x, 0), self.names, from)
     }
 
     // The first column of row x from `from` on that is not marked. Bytes full of marks are skipped.
@@ -96,7 +86,7 @@ impl Square {
         None
     }
 
-    // Hands the marks of row `from` on to row `to`.
+    // Hands the marks of row `from` on to row `to`. Both lie in one slice, which no iterator can lend twice.
     pub fn hand_on(self, work: &mut [u8], from: usize, to: usize)
         requires room { Room self work.old }
         requires from_le_names { (from ≤ self.names) × (to ≤ self.names) }
@@ -109,7 +99,7 @@ impl Square {
         }
     }
 
-    // Marks in row `to` what row `from` has. Whether a mark is new.
+    // Marks in row `to` what row `from` has. Whether a mark is new. The loop writes the memory that it searches, so no iterator can hold it.
     pub fn absorb(self, work: &mut [u8], from: usize, to: usize) -> bool
         requires room { Room self work.old }
         requires from_le_names { (from ≤ self.names) × (to ≤ self.names) }

@@ -6,7 +6,7 @@ ghost use Rattle.marks.specs.Inclusions.{Turned, TurnedBelow};
 use crate::Square;
 
 impl Square {
-    // Row x becomes a column.
+    // Row x becomes a column. The loop writes the memory that it searches, so no iterator can hold it.
     fn turn_row(self, work: &mut [u8], turned: Square, x: usize)
         requires room { Room self work.old × Room turned work.old }
         requires names_value { (self.names ≡ turned.names) × (self.base + span self.names ≤ turned.base) × (x ≤ self.names) }
@@ -20,7 +20,7 @@ impl Square {
         }
     }
 
-    // All rows do. The turned square lies behind the other one, and keeps what it had.
+    // All rows become columns. The turned square lies behind the other one, and keeps what it had.
     pub fn turn(self, work: &mut [u8], turned: Square)
         requires room { Room self work.old × Room turned work.old }
         requires names_value { (self.names ≡ turned.names) × (self.base + span self.names ≤ turned.base) }

@@ -1,12 +1,13 @@
 // Rows with new marks, which wait to be dealt with. All of this is only a hint: nothing is said of the marks of a row that waits, so whoever
-// takes a row or a column from it looks at its marks.
+// takes a row from it looks at its marks.
 ghost use Rattle.std.specs.Prelude.{◌≤◌};
 ghost use Rattle.marks.specs.Waits.{NoneWaits, StillWaiting, Taken};
 
 // How many rows can wait.
 const ROWS: usize = 1024;
 
-// The rows that wait, in a ring; whether a row waits; where the ring begins, and how many wait.
+// The rows that wait, in a ring; whether a row waits, so that none is there twice; where the ring begins, and how many wait. Arrays, since
+// there is no heap.
 #[derive(Drop)]
 pub struct Waiting {
     ring: [u16; ROWS],

@@ -1,8 +1,9 @@
 // Eight bytes read as one number, a word, so that 64 cells are looked at at once. The compiler makes one read of it.
 ghost use Rattle.std.specs.Prelude.{◌≡◌, ◌+◌, ◌≤◌, ◌<◌, length};
-ghost use Rattle.marks.specs.Words.{Reads, block_end, Rest, FirstBit, InRow};
+ghost use Rattle.marks.specs.Words.{Reads, block_end, Rest, FirstBit, InRow, RowLies, NextBit};
 
-// The word of the eight bytes from `at` on, low byte first.
+// The word of the eight bytes from `at` on, low byte first. `from_le_bytes` is no plainer: it takes an array, so all eight bytes would be
+// written out, and the proof of the word's bits goes byte by byte.
 pub fn word(memory: &[u8], at: usize) -> u64
     requires { at + 8 ≤ length memory.now }
     ensures { Reads 64 memory.now at result }
@@ -43,4 +44,23 @@ pub fn block_end(names: usize, y: usize) -> usize
         return 64 * (y / 64) + 64;
     }
     8 * (y / 8) + 8
+}
+
+// The first bit of a row from column `from` on that is 1. Words without one are skipped.
+#[inline(always)]
+pub(crate) fn next_bit(memory: &[u8], row: usize, names: usize, from: usize) -> Option<usize>
+    requires { RowLies names memory.now row }
+    ensures { NextBit names memory.now row from result }
+{
+    // a step is a word or a byte, so there is no range to go over
+    let mut y = from;
+    while y <= names {
+        let rest = rest(memory, row, names, y);
+        if 0 < rest {
+            let found = y + first_bit(rest);
+            return (found <= names).then_some(found);
+        }
+        y = block_end(names, y);
+    }
+    None
 }

@@ -1,7 +1,8 @@
 -- The marks are put by the rules.
 use Rattle.marks.specs.Passes.{Grows}
+use Rattle.marks.specs.Orders.{Walking}
 use Rattle.classification.specs.Steps.{Of, Step}
 use Rattle.classification.proofs.Classification.hand_on_rows.Given as goal
 
-abbrev pub invariant-loop-place : goal.invariant-loop-place
-invariant-loop-place l = Grows (Of Step l.self) l.self.square l.initial.work l.work
+abbrev pub invariant-loop-name : goal.invariant-loop-name
+invariant-loop-name l = Walking l.self.square.names l.name-iterator × Grows (Of Step l.self) l.self.square l.initial.work l.work

@@ -9,7 +9,10 @@ pub loop-y-init : goal.loop-y-init
 loop-y-init c = (search rules, kept_same)
 
 pub put_hint-requires : goal.put_hint-requires
-put_hint-requires c = record { area = frame_area c.loop-y.invariant.1.extends.frame c.requires.area.0; le_k = (omega arith, omega arith, (column_few c.loop-y.invariant.0 c.in-Some.ensures.steps), c.requires.x_le_names) }
+put_hint-requires c = record {
+  area = frame_area c.loop-y.invariant.1.extends.frame c.requires.area.0;
+  le_k = (omega arith, omega arith, (column_few c.loop-y.invariant.0 c.in-Some.ensures.steps), c.requires.x_le_names);
+}
 
 pub loop-y-preserved : goal.loop-y-preserved
 loop-y-preserved c = (walk_on c.loop-y.invariant.0 c.in-Some.ensures.steps, kept_further c.loop-y.invariant.1 c.put_hint.ensures)

@@ -10,7 +10,9 @@ pub loop-y-init : goal.loop-y-init
 loop-y-init c = (search rules, none)
 
 pub is_marked-requires : goal.is_marked-requires
-is_marked-requires c = let h = restriction_stays c.loop-y.invariant.1 c.requires in record { room = h.setting.room; x_le_names = (filler_small h, (column_few c.loop-y.invariant.0 c.in-Some.ensures.steps)) }
+is_marked-requires c =
+    let h = restriction_stays c.loop-y.invariant.1 c.requires in
+    record { room = h.setting.room; x_le_names = (filler_small h, (column_few c.loop-y.invariant.0 c.in-Some.ensures.steps)) }
 
 pub put_over-requires : goal.put_over-requires
 put_over-requires c = over_of (restriction_stays c.loop-y.invariant.1 c.requires) (c.is_marked.ensures.sound c.if-is_marked.true) (column_few c.loop-y.invariant.0 c.in-Some.ensures.steps)

@@ -1,34 +1,9 @@
--- No mark stands before the block that is looked at.
-use mathlib.Core.Path.{refl}
-use native.Mathlib.Omega.{arith}
-use Rattle.marks.proofs.Squares.{next_start, next_none}
-use Rattle.marks.proofs.Scans.{row_at_lem, next_found, next_block}
-use Rattle.marks.proofs.WordBits.{end_after}
+-- The bits of the row are its marks.
+use Rattle.marks.proofs.Scans.{row_lies, next_of_row}
 use Rattle.marks.proofs.Square.next_marked.Goals as goal
 
-pub loop-y-init : goal.loop-y-init
-loop-y-init c = next_start _ refl
-
-pub rest-rest-requires : goal.rest-rest-requires
-rest-rest-requires c = row_at_lem c.requires.room c.requires.x_le_names c.loop-y-test.true c.place-row.ensures
-
-pub first_bit-requires : goal.first_bit-requires
-first_bit-requires c = c.if-rest-gt0.true
-
-pub overflow_add-found : goal.overflow_add-found
-overflow_add-found c = omega (arith, c.first_bit.ensures.few, c.loop-y-test.true, c.requires.room.small.few)
-
-pub returns-then-rest-gt0 : goal.returns-then-rest-gt0
-returns-then-rest-gt0 c = next_found c.place-row.ensures c.rest-rest.ensures c.loop-y.invariant c.first_bit.ensures c.then_some.ensures
-
-pub block_end-y-requires : goal.block_end-y-requires
-block_end-y-requires c = (c.loop-y-test.true, omega (arith, c.requires.room.small.few))
-
-pub loop-y-smaller : goal.loop-y-smaller
-loop-y-smaller c = omega (arith, c.loop-y-test.true, c.block_end-y.ensures, end_after c.args.self.names c.loop-y.y)
-
-pub loop-y-preserved : goal.loop-y-preserved
-loop-y-preserved c = next_block c.place-row.ensures c.rest-rest.ensures c.loop-y.invariant c.block_end-y.ensures c.if-rest-gt0.false
+pub next_bit-requires : goal.next_bit-requires
+next_bit-requires c = row_lies c.requires.room c.requires.x_le_names c.place.ensures
 
 pub returns : goal.returns
-returns c = next_none c.loop-y.invariant c.loop-y-test.false
+returns c = next_of_row c.place.ensures _ _ _ c.next_bit.ensures

@@ -8,17 +8,17 @@ use Rattle.classification.proofs.sweep.ClassificationRules.pass.Goals as goal
 pub returns-then-seed_all : goal.returns-then-seed_all
 returns-then-seed_all c = pass_found c.seed_all.ensures c.if-seed_all.true
 
-pub axioms-requires : goal.axioms-requires
-axioms-requires c = record { setting = setting_stays c.seed_all.ensures.grows c.requires; seeded = c.seed_all.ensures.done c.if-seed_all.false }
+pub mark_axioms-requires : goal.mark_axioms-requires
+mark_axioms-requires c = record { setting = setting_stays c.seed_all.ensures.grows c.requires; seeded = c.seed_all.ensures.done c.if-seed_all.false }
 
-pub returns-then-axioms : goal.returns-then-axioms
-returns-then-axioms c = pass_changed c.seed_all.ensures c.axioms.ensures c.if-axioms.true
+pub returns-then-mark_axioms : goal.returns-then-mark_axioms
+returns-then-mark_axioms c = pass_changed c.seed_all.ensures c.mark_axioms.ensures c.if-mark_axioms.true
 
 pub invariant_of-handing : goal.invariant_of-handing
 invariant_of-handing c = record { alike = record { same = refl; few = c.requires.few } }
 
 pub hand_all-requires : goal.hand_all-requires
-hand_all-requires c = let h = setting_stays (grows_further c.seed_all.ensures.grows c.axioms.ensures.grows) c.requires in (h.room, h.room)
+hand_all-requires c = let h = setting_stays (grows_further c.seed_all.ensures.grows c.mark_axioms.ensures.grows) c.requires in (h.room, h.room)
 
 pub returns : goal.returns
-returns c = pass_settled c.seed_all.ensures c.if-seed_all.false c.axioms.ensures c.if-axioms.false c.hand_all.ensures
+returns c = pass_settled c.seed_all.ensures c.if-seed_all.false c.mark_axioms.ensures c.if-mark_axioms.false c.hand_all.ensures

@@ -3,18 +3,18 @@ use mathlib.Core.Path.{refl, ◌∙◌}
 use Rattle.marks.proofs.Passes.{pass_none, pass_both, grows_frame}
 use Rattle.marks.proofs.Squares.{frame_room}
 use Rattle.marks.proofs.Handing.{done_none, done_more}
+use Rattle.marks.proofs.Orders.{nodes_on}
+use borrow.Author.Rules.{rules}
 use Rattle.marks.proofs.inclusions.Handing.hand_in_order.Goals as goal
 
-pub loop-place-init : goal.loop-place-init
-loop-place-init c = (c.requires.room, (refl, refl), pass_none (done_none c.requires.spans.1))
+pub loop-x-init : goal.loop-x-init
+loop-x-init c = (search rules, c.requires.room, (refl, refl), pass_none (done_none c.requires.spans.1))
 
-pub loop-place-preserved : goal.loop-place-preserved
-loop-place-preserved c =
+pub loop-x-preserved : goal.loop-x-preserved
+loop-x-preserved c =
     let frame = grows_frame c.hand-new.ensures.grows in (
-      (frame_room frame c.loop-place.invariant.0.0, frame_room frame c.loop-place.invariant.0.1),
-      (frame.long ∙ c.loop-place.invariant.1.0, c.add.auto.line ∙ c.loop-place.invariant.1.1),
-      pass_both (done_more c.add.ensures) c.loop-place.invariant.2 c.hand-new.ensures,
+      nodes_on c.loop-x.invariant.0 c.in-Some.ensures.steps,
+      (frame_room frame c.loop-x.invariant.1.0, frame_room frame c.loop-x.invariant.1.1),
+      (frame.long ∙ c.loop-x.invariant.2.0, c.add.auto.line ∙ c.loop-x.invariant.2.1),
+      pass_both (done_more c.add.ensures) c.loop-x.invariant.3 c.hand-new.ensures,
     )
-
-pub returns-else-self-x : goal.returns-else-self-x
-returns-else-self-x c = pass_both (done_more c.add.ensures) c.loop-place.invariant.2 c.hand-new.ensures

@@ -2,7 +2,7 @@
 use mathlib.Core.Path.{refl}
 use Rattle.marks.proofs.Passes.{pass_none, pass_both}
 use Rattle.classification.proofs.Marking.{shaped_row, seeded_stays, seeded_source, axiom_gathered, axiom_idle, axiom_absent}
-use Rattle.classification.proofs.Classification.«axiom».Goals as goal
+use Rattle.classification.proofs.Classification.mark_axiom.Goals as goal
 
 pub kind-requires : goal.kind-requires
 kind-requires c = shaped_row c.requires.seeded_setting.setting.shaped c.requires.x_lt_names
