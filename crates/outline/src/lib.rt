@@ -11,8 +11,9 @@ ghost use Rattle.outline.specs.Atoms.{atom, BeginsWith, child_of, Outlinable, Ou
 use concept::LONGEST;
 use release::number::Version;
 
-// A conjunct of a root: a name, or an ∃ with the root that is its filler.
-#[derive(Clone, Copy)]
+// A conjunct of a root: a name, or an ∃ with the root that is its filler. Three numbers and no enum, so that an outline is 768 bytes of a stack,
+// since there is no heap; `child` tells the two apart.
+#[derive(Clone, Copy, Debug, PartialEq, Eq)]
 pub struct Atom {
     // The name, or the role.
     pub value: u16,
@@ -73,7 +74,7 @@ impl Atom {
 }
 
 // How many atoms and roots an outline has.
-#[derive(Clone, Copy)]
+#[derive(Clone, Copy, Debug, PartialEq, Eq)]
 pub struct Extent {
     pub atoms: usize,
     pub roots: usize,
@@ -83,7 +84,7 @@ pub struct Extent {
 const ATOMS: usize = 128;
 
 // The atoms of a concept stand first in the array, as many as the extent says: there is no heap.
-#[derive(Clone, Copy)]
+#[derive(Clone, Copy, Debug, PartialEq, Eq)]
 pub struct Outline {
     pub atoms: [Atom; ATOMS],
     pub extent: Extent,
@@ -95,15 +96,14 @@ fn split_name(bytes: &[u8], version: Version) -> Option<(u16, &[u8])>
 {
     match (version, bytes) {
         (Version::One, [low, rest @ ..]) => Some((u16::from(*low), rest)),
-        (Version::Two, [low, high, rest @ ..]) => {
-            Some((u16::from(*low) + 256 * u16::from(*high), rest))
-        }
+        (Version::Two, [low, high, rest @ ..]) => Some((u16::from_le_bytes([*low, *high]), rest)),
         _ => None,
     }
 }
 
 // Whether the bytes are one concept and nothing else, at most 255 of them. One pass without recursion, so that
-// no bytes make the stack deep. `pending` counts the concepts still to be read.
+// no bytes make the stack deep. `pending` counts the concepts still to be read. The first byte of a concept is matched as a number, here and in `of`:
+// both match all of it, so an enum of its kinds would be no plainer.
 pub fn is_text(bytes: &[u8], version: Version, names: usize, roles: usize) -> bool
     ensures { result ≡ concept_ok (width version) names roles bytes.now }
 {
@@ -164,7 +164,8 @@ impl Outline {
     }
 
     // The outline of an accepted concept, in one pass over its bytes. A byte 2 makes two concepts of one, so there is a stack of those
-    // still to be read, an array since there is no heap: `owners` has the root of each, the next one last.
+    // still to be read, an array since there is no heap: `owners` has the root of each, the next one last. It is not one function with `is_text`, since
+    // both concepts of a question are tested before one is built: refusals have an order.
     pub fn of(bytes: &[u8], version: Version) -> Outline
         requires { Outlinable (width version) bytes.now }
         ensures { (n m : ℕ) (c : Concept) → IsTextOf (width version) n m c bytes.now → Outlined n c result.atoms result.extent }

@@ -23,7 +23,7 @@ const AREA: usize = 16384;
 
 // A row of marks for each root that a concept can have: its places are the nodes, or the roots of another concept. An
 // array, since there is no heap.
-#[derive(Clone, Copy)]
+#[derive(Clone, Copy, Debug, PartialEq, Eq)]
 pub struct Grid {
     rows: [u8; AREA],
 }

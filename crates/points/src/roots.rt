@@ -1,4 +1,5 @@
-// The roots of a concept C that do not lie below an atom of a concept D: its row loses them.
+// The roots of a concept C that do not lie below an atom of a concept D: its row loses them. The steps are those of nodes, but a root has an outline
+// to ask and a node a row of the square: one trait of both would have as many methods as these functions.
 ghost use Rattle.std.specs.Prelude.{◌<◌};
 ghost use Rattle.el.proofs.Tests.{Tells};
 ghost use Rattle.points.specs.Nodes.{IdleOf, IdleFor};
@@ -9,7 +10,8 @@ use marks::line::Line;
 use outline::Atom;
 
 impl Classified<'_> {
-    // Whether an atom of C lies below an ∃ of D: a name that does, or an ∃ of the role over a root that the row of D's root has not lost.
+    // Whether an atom of C lies below an ∃ of D: a name that does, or an ∃ of the role over a root that the row of D's root has not lost. `lost` is the
+    // grid of roots, and the restriction has that of nodes.
     fn atom_reaches(&self, atom: Atom, restriction: &Restriction, lost: &Grid) -> bool
         requires from_root { FromRoot self.now.terminology.table.now self.now.square self.now.work.now atom restriction.now.root }
         requires idle { IdleFor self.now.terminology.table.now self.now.square.names restriction.now }

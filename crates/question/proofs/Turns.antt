@@ -1,9 +1,12 @@
 -- The turns of the two loops over atoms, from the last to the first.
 --   fill_..      the rows of the names above the roots of C
 --   lose_..      the rows of the points that the roots of D have lost
-use mathlib.Core.Path.{◌≡◌, refl}
-use mathlib.Core.List.{List}
-use Prim.Native.Nat.{ℕ, suc, ◌-◌, ◌≤◌, ◌<◌}
+use mathlib.Core.Path.{◌≡◌, refl, ap, ◌∙◌}
+use mathlib.Core.List.{List, [], ◌∷◌, reverse}
+use lib.ListN.{length, get_or, take, length-reverse}
+use lib.Seq.{get_or-take, length-take-le}
+use Rattle.std.proofs.lemmas.List.{get_or-reverse}
+use Prim.Native.Nat.{ℕ, zero, suc, ◌-◌, ◌≤◌, ◌<◌}
 use native.Mathlib.Omega.{arith}
 use Rattle.release.specs.Files.{axioms_of}
 use Rattle.release.specs.declared.table.Row as table
@@ -11,7 +14,7 @@ use Rattle.marks.specs.declared.Square.{Square}
 use Rattle.classification.proofs.AxiomRows as rows
 use Rattle.outline.specs.declared.Atom.{Atom}
 use Rattle.outline.specs.declared.Extent.{Extent}
-use Rattle.outline.specs.Atoms.{atom_at, child_at, atoms_from, Shape}
+use Rattle.outline.specs.Atoms.{blank, atom_at, child_at, atoms_from, Shape}
 use Rattle.points.specs.declared.Grid.{Grid}
 use Rattle.points.specs.Grids.{most_roots}
 use Rattle.points.specs.Above.{Ranges, InRange, Risen}
@@ -20,7 +23,7 @@ use Rattle.points.specs.Nodes.{Inclusive, NodesLost}
 use Rattle.points.specs.Nodes as nodes
 use Rattle.points.specs.Roots.{RootsLost}
 use Rattle.points.specs.Roots as roots
-use Rattle.question.specs.Evaluation.{World, Above, Kept, node_point, root_point, ToFill, Filled, ToLose, Lost}
+use Rattle.question.specs.Evaluation.{World, Above, Kept, node_point, root_point, ToFill, ToLose}
 use Rattle.question.proofs.AboveRoots.{above_none, above_more}
 use Rattle.question.proofs.BelowAtoms.{kept_none, kept_more, node_below_sound, node_below_complete}
 use Rattle.question.proofs.BelowRoots.{root_under_sound, root_under_complete}
@@ -54,6 +57,23 @@ module _ {s : List ℕ} {t : List table.Row} {q : Square} {w : List ℕ} (world 
       atom = in_range;
     }
 
+-- the atoms from the last to the first
+default_free : (o : List Atom) (i : ℕ) (x y : Atom) → i < length o → get_or o i x ≡ get_or o i y
+default_free [] i x y h = absurd (omega arith)
+default_free (a ∷ o) zero x y h = refl
+default_free (a ∷ o) (suc i) x y h = default_free o i x y (omega arith)
+
+pub next_atom : (o : List Atom) {n j : ℕ} {x : Atom} → n ≤ length o → (j < length (reverse (take n o))) × (x ≡ get_or (reverse (take n o)) j x) → (j < n) × (x ≡ atom_at o (n - j - 1))
+next_atom o {n} {j} {x} h p =
+    let long : length (take n o) ≡ n = length-take-le n o h in
+    let inside : j < length (take n o) = omega (arith, p.0, length-reverse (take n o)) in
+    let place : length (take n o) - 1 - j ≡ n - j - 1 = omega (arith, long) in
+    let small : length (take n o) - 1 - j < n = omega (arith, long, inside) in (
+      omega (arith, inside, long),
+      p.1 ∙ get_or-reverse (take n o) j x inside ∙ get_or-take n o (length (take n o) - 1 - j) x small
+          ∙ default_free o (length (take n o) - 1 - j) x blank (omega (arith, small, h)) ∙ ap (λ i. atom_at o i) place,
+    )
+
 -- the rows above
 pub fill_start : {s : List ℕ} {t : List table.Row} {q : Square} {w : List ℕ} {o : List Atom} {r : Extent} {a : Grid} → ToFill s t q w o r a
     → Above s t a q.names (atoms_from o r.atoms (r.atoms - r.atoms))
@@ -65,13 +85,6 @@ fill_turn {r = r} {left = left} given some_left h above risen =
     let z : suc (left - 1) ≡ left = omega arith in
     let y : r.atoms - (left - 1) ≡ suc (r.atoms - left) = omega arith in
     rw y (above_more given.world given.shape (left - 1) (r.atoms - left) (omega arith) (rw z above) risen)
-
-pub fill_end : {s : List ℕ} {t : List table.Row} {q : Square} {w : List ℕ} {o : List Atom} {r : Extent} {a : Grid} {u : Grid} {left : ℕ} → ToFill s t q w o r a → left ≤ 0
-    → Above s t u q.names (atoms_from o left (r.atoms - left)) → Filled s t q o r u
-fill_end {r = r} {left = left} given none above =
-    let z : left ≡ 0 = omega arith in
-    let y : r.atoms - 0 ≡ r.atoms = omega arith in
-    record { above = rw (z, y) at above }
 
 -- the rows of lost points
 pub record Losing (s : List ℕ) (o : List Atom) (r : Extent) (n : ℕ) (p : List Atom) (left count : ℕ) (ln l : Grid) : Type 0 where
@@ -124,9 +137,3 @@ module _ {s : List ℕ} {t : List table.Row} {q : Square} {w : List ℕ} {o : Li
               (λ k m b. root_under_complete given.world given.from nodes_row roots_row given.filled.above refl (given.shape.named i inside) k (omega (arith, given.from.few)) b)
               roots_before roots_lost.adds);
         }
-
-  pub lose_end : {left : ℕ} {xn x : Grid} → left ≤ 0 → Losing s o r q.names p left u.atoms xn x → Lost s o r p u x
-  lose_end {left} none losing =
-      let z : left ≡ 0 = omega arith in
-      let y : u.atoms - 0 ≡ u.atoms = omega arith in
-      record { kept = rw (z, y) at losing.roots }

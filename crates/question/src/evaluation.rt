@@ -20,8 +20,8 @@ fn fill_above(classified: &Classified, outline: &Outline, above: &mut Grid)
     ensures { Filled classified.now.terminology.file.now classified.now.terminology.table.now classified.now.square
         outline.now.atoms outline.now.extent above.new }
 {
-    for left in (0..outline.extent.atoms).rev() {
-        classified.raise(outline.atoms[left], above);
+    for atom in outline.atoms().iter().rev() {
+        classified.raise(*atom, above);
     }
 }
 
@@ -38,10 +38,9 @@ fn lose_all(
     ensures { Lost classified.now.terminology.file.now subsumee.now.outline.now.atoms subsumee.now.outline.now.extent
         outline.now.atoms outline.now.extent roots.new }
 {
-    for left in (0..outline.extent.atoms).rev() {
-        let atom = outline.atoms[left];
-        classified.lose_roots(subsumee, atom, nodes, roots);
-        classified.lose_nodes(atom, nodes);
+    for atom in outline.atoms().iter().rev() {
+        classified.lose_roots(subsumee, *atom, nodes, roots);
+        classified.lose_nodes(*atom, nodes);
     }
 }
 

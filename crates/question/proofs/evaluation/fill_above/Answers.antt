@@ -1,19 +1,29 @@
--- `fill_above` meets its contract: the rows are those of the atoms from `left` on.
+-- `fill_above` meets its contract: the rows are those of the atoms from the next one on.
+use mathlib.Core.Path.{◌≡◌}
+use mathlib.Core.List.{[], ◌∷◌, ◌++◌}
+use Prim.Native.Nat.{◌-◌}
 use native.Mathlib.Omega.{arith}
-use Rattle.question.proofs.Turns.{fill_atom, fill_start, fill_turn, fill_end}
+use lib.ListN.{length, take}
+use Rattle.std.proofs.lemmas.List.{length_push}
+use Rattle.std.proofs.lemmas.Iterator.Adapters.{YieldsList-from_rev_slice}
+use Rattle.std.proofs.lemmas.Iterator.Consumers.{YieldsList-turn}
+use Rattle.question.proofs.Turns.{next_atom, fill_atom, fill_start, fill_turn}
 use Rattle.question.proofs.evaluation.fill_above.Goals as goal
 
-pub loop-left-init : goal.loop-left-init
-loop-left-init c = fill_start c.requires
+pub loop-atom-init : goal.loop-atom-init
+loop-atom-init c =
+    let z : c.args.outline.now.extent.atoms - 0 ≡ c.args.outline.now.extent.atoms = omega arith in rw z (fill_start c.requires)
 
 pub raise-requires : goal.raise-requires
-raise-requires c = fill_atom c.requires.world c.requires.shape (omega arith)
+raise-requires c =
+    let i = next_atom _ c.requires.shape.room (YieldsList-turn (YieldsList-from_rev_slice (take c.args.outline.now.extent.atoms c.args.outline.now.atoms) (cc))
+    c.loop-atom.yielded _ c.loop-atom.yielded_by _ _ c.in-Some.atom c.in-Some.is c.next.ensures.steps) in
+    rw i.1 (fill_atom c.requires.world c.requires.shape (omega (arith, i.0)))
 
-pub offset_bounds-outline-left : goal.offset_bounds-outline-left
-offset_bounds-outline-left c = omega (arith, c.requires.shape.few_atoms)
-
-pub loop-left-preserved : goal.loop-left-preserved
-loop-left-preserved c = fill_turn c.requires c.loop-left-test.true (omega arith) c.loop-left.invariant c.raise.ensures
-
-pub returns : goal.returns
-returns c = fill_end c.requires (omega arith) c.loop-left.invariant
+pub loop-atom-preserved : goal.loop-atom-preserved
+loop-atom-preserved c =
+    let i = next_atom _ c.requires.shape.room (YieldsList-turn (YieldsList-from_rev_slice (take c.args.outline.now.extent.atoms c.args.outline.now.atoms) (cc))
+    c.loop-atom.yielded _ c.loop-atom.yielded_by _ _ c.in-Some.atom c.in-Some.is c.next.ensures.steps) in
+    let n = c.args.outline.now.extent.atoms in
+    let e : n - length (c.loop-atom.yielded ++ c.in-Some.atom ∷ []) ≡ n - length c.loop-atom.yielded - 1 = omega (arith, length_push c.loop-atom.yielded c.in-Some.atom) in
+    rw e (fill_turn c.requires (omega (arith, i.0)) (omega arith) c.loop-atom.invariant (rw i.1 at c.raise.ensures))

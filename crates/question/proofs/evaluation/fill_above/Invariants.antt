@@ -1,10 +1,12 @@
--- `fill_above` meets its contract: the rows are those of the atoms from `left` on.
+-- `fill_above` meets its contract: the rows are those of the atoms from the next one on.
 use Prim.Native.Nat.{◌-◌}
+use lib.ListN.{length}
 use Rattle.outline.specs.Atoms.{atoms_from}
 use Rattle.question.specs.Evaluation.{Above}
 use Rattle.question.proofs.evaluation.fill_above.Given as goal
 
-abbrev pub invariant-loop-left : goal.invariant-loop-left
-invariant-loop-left l =
+abbrev pub invariant-loop-atom : goal.invariant-loop-atom
+invariant-loop-atom l =
     let g = l.classified in
-    Above g.terminology.file.now g.terminology.table.now l.above g.square.names (atoms_from l.outline.atoms l.left (l.outline.extent.atoms - l.left))
+    let left = l.outline.extent.atoms - length l.yielded in
+    Above g.terminology.file.now g.terminology.table.now l.above g.square.names (atoms_from l.outline.atoms left (l.outline.extent.atoms - left))
