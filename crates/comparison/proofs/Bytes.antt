@@ -1,15 +1,15 @@
 -- Laws of the result bytes.
 --   written_none, written_more, written_end      bytes written one after the other
 --   is_byte                                      the byte by the marks is the byte of the comparison
-use mathlib.Core.Path.{◌≡◌, refl, ◌∙◌}
+use mathlib.Core.Path.{◌≡◌, refl, ap, ◌∙◌}
 use mathlib.Core.Bool.{Bool, true, false}
-use mathlib.Core.List.{List}
+use mathlib.Core.List.{List, ◌++◌}
 use mathlib.Core.Logic.{inl, inr, ◌↔◌}
-use Prim.Native.Nat.{ℕ, ◌+◌, ◌≤◌, ◌<◌}
+use Prim.Native.Nat.{ℕ, ◌+◌, ◌-◌, ◌≤◌, ◌<◌}
 use native.Mathlib.Omega.{arith}
 use native.Mathlib.Decide.{ℕ_discrete}
-use lib.ListN.{length, get_or, set, length-set}
-use lib.Seq.{get_or-set_same, get_or-set_other}
+use lib.ListN.{length, get_or, set, take, drop, length-set, get_or-append}
+use lib.Seq.{get_or-set_same, get_or-set_other, get_or-drop, get_or-append_right, length_front}
 use Rattle.el.specs.Concepts.{named}
 use Rattle.el.specs.Signatures.{LeftWitness, RightWitness}
 use Rattle.el.specs.Comparison.{IsByte}
@@ -40,8 +40,15 @@ module _ {g : List ℕ} {f h : Layout} {w : List ℕ} where
       by_place a i (yes e) = rw (e, get_or-set_same p k b 0 l) y
       by_place a i (no e) = rw (get_or-set_other p k a b 0 e) (z.byte a (omega arith))
 
-  pub written_end : {i k : ℕ} {r p : List ℕ} → i ≤ k → k ≤ i → Written g f h w i r p → Written g f h w k r p
-  written_end {i} {k} l m z = let e : i ≡ k = omega arith in rw (← e) z
+  -- the first bytes of a memory were lent, and are all written
+  pub written_end : {i k : ℕ} {r p : List ℕ} → length p ≡ k → length (take k r) ≡ k → k ≤ i → Written g f h w i (take k r) p → Written g f h w k r (p ++ drop k r)
+  written_end {i} {k} {r} {p} l m o z = record {
+    long = length_front r p k z.long;
+    byte = λ a j. rw (get_or-append p (drop k r) 0 a (omega (arith, l))) (z.byte a (omega arith));
+    past = λ a j.
+        let e : k + (a - length p) ≡ a = omega (arith, l) in
+        get_or-append_right p (drop k r) a 0 (omega (arith, l)) ∙ get_or-drop k r (a - length p) 0 ∙ ap (λ x. get_or r x 0) e;
+  }
 
 -- the marks of the cell a, a tell of witnesses
 module _ {g s t : List ℕ} {f : Layout} {w : List ℕ} {a : ℕ} (a_in : a < f.names) where

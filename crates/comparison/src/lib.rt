@@ -26,8 +26,8 @@ pub struct Releases<'a> {
 }
 
 impl<'a> Releases<'a> {
-    // The work memory has four squares, one after the other: the inclusions of the first release, those of the second, forward marks and
-    // backward marks. These are where forward marks are read and written,
+    // Where forward marks are read and written. The work memory has four squares, one after the other: the inclusions of the first release,
+    // those of the second, forward marks and backward marks.
     fn forward_layout(&self) -> Layout
         requires { self.now.names ≤ most_names }
         ensures { result ≡ forward_layout self.now.names self.now.roles (size self.now.names) }
@@ -42,7 +42,7 @@ impl<'a> Releases<'a> {
         }
     }
 
-    // and these where backward marks are.
+    // Where backward marks are read and written: the layout of forward marks, but for one place.
     fn backward_layout(&self) -> Layout
         requires { self.now.names ≤ most_names }
         ensures { result ≡ backward_layout self.now.names self.now.roles (size self.now.names) }

@@ -5,7 +5,7 @@ ghost use Rattle.comparison.specs.Bytes.{Readable, ByteAt, Written};
 
 use layout::Layout;
 
-// The byte of a name of the signature: 1 for a left witness, 2 for a right one, 3 for both.
+// The byte of a name of the signature: 1 for a left witness, 2 for a right one, 3 for both. A number, since C reads the result bytes.
 fn byte(left: bool, right: bool) -> u8
     ensures { result ≡ byte_of left right }
 {
@@ -43,8 +43,7 @@ pub fn write_bytes(
     requires names_in_bounds { forward.names ≤ length result_bytes.old }
     ensures { Written signature.now forward backward work.now forward.names result_bytes.old result_bytes.new }
 {
-    for name in 0..forward.names {
-        let byte = byte_of(signature, work, forward, backward, name);
-        result_bytes[name] = byte;
+    for (name, byte) in result_bytes[..forward.names].iter_mut().enumerate() {
+        *byte = byte_of(signature, work, forward, backward, name);
     }
 }

@@ -4,12 +4,12 @@
 --   name_handed                            the names handed on are those of the signature
 use mathlib.Core.Path.{◌≡◌, refl}
 use mathlib.Core.Bool.{Bool, false}
-use mathlib.Core.List.{List}
+use mathlib.Core.List.{List, ◌++◌}
 use Prim.Native.Nat.{ℕ, ◌+◌, ◌≤◌, ◌<◌}
 use native.Mathlib.Omega.{arith}
 use native.Mathlib.Decide.{ℕ_discrete, dec_lt}
 use borrow.Author.Tests.{le-ltb}
-use lib.ListN.{length, set}
+use lib.ListN.{length, set, length-append, get_or-append}
 use lib.Seq.{get_or-set_same, get_or-set_other}
 use Rattle.el.proofs.Tests.{Tells}
 use Rattle.release.specs.declared.table.Row as table
@@ -32,8 +32,12 @@ module _ {g : List ℕ} {a : List table.Row} {n m : ℕ} where
       by_place x i (yes e) = rw (e, get_or-set_same edges k b false h) p
       by_place x i (no e) = rw (get_or-set_other edges k x b false e) (f.tells x (omega arith))
 
-  pub found_end : {k : ℕ} {edges : List Bool} → n ≤ length edges → n ≤ k → FoundTo g a n m k edges → Found g a n m edges
-  found_end h j f = record { long = h; tells = λ x i. f.tells x (omega arith) }
+  -- of edges that were lent, the first ones are told
+  pub found_end : {k : ℕ} {told : List Bool} (rest : List Bool) → n ≤ length told → n ≤ k → FoundTo g a n m k told → Found g a n m (told ++ rest)
+  found_end {told = told} rest h j f = record {
+    long = rw (length-append told rest) (omega (arith, h));
+    tells = λ x i. rw (get_or-append told rest false x (omega (arith, h))) (f.tells x (omega arith));
+  }
 
   pub found_edges : {edges : List Bool} → Found g a n m edges → Edges n a edges
   found_edges f = record { long = f.long; restriction = λ x h e. ((f.tells x h).sound e).is_restriction }

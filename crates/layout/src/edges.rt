@@ -8,7 +8,7 @@ ghost use Rattle.layout.specs.Findings.{RoleChosen, Found};
 
 use release::terminology::Terminology;
 
-// Whether a role is in the signature.
+// Whether a role is in the signature: it is bytes of 0 and 1, as C lends them.
 fn has_role(signature: &[u8], names: usize, roles: usize, role: usize) -> bool
     requires { names + roles ≤ length signature.now }
     ensures { result ≡ (signature_of names roles signature.now).has_role role }
@@ -45,7 +45,7 @@ pub fn find_edges(
     requires names_in_bounds { names ≤ length edges.old }
     ensures { Found signature.now first.now.table.now names roles edges.new }
 {
-    for x in 0..names {
-        edges[x] = has_chosen_role(signature, first, names, roles, x);
+    for (x, edge) in edges[..names].iter_mut().enumerate() {
+        *edge = has_chosen_role(signature, first, names, roles, x);
     }
 }

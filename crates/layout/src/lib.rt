@@ -11,8 +11,8 @@ use release::terminology::Terminology;
 pub mod edges;
 
 // The numbers of names and roles, and where three squares begin in the work memory: the inclusions of the first release, those
-// of the second, and the marks of the comparison.
-#[derive(Clone, Copy)]
+// of the second, and the marks of the comparison. Three places, since three squares would hold the number of names three times.
+#[derive(Clone, Copy, Debug, PartialEq, Eq)]
 pub struct Layout {
     pub names: usize,
     pub roles: usize,
@@ -52,7 +52,7 @@ impl Layout {
         }
     }
 
-    // Whether a name is in the signature, of which the bytes of the names are read.
+    // Whether a name is in the signature, of which the bytes of the names are read: 0 and 1, as C lends them.
     pub fn has_name(self, chosen_names: &[u8], name: usize) -> bool
         requires { self.names ≤ length chosen_names.now }
         ensures { result ≡ (chosen self chosen_names.now).has_name name }

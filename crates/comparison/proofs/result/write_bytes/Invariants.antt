@@ -3,4 +3,4 @@ use Rattle.comparison.specs.Bytes.{Written}
 use Rattle.comparison.proofs.result.write_bytes.Given as goal
 
 abbrev pub invariant-loop-name : goal.invariant-loop-name
-invariant-loop-name l = Written l.signature l.forward l.backward l.work l.name l.initial.result_bytes l.result_bytes
+invariant-loop-name l = Written l.signature l.forward l.backward l.work l.name l.initial.byte-items l.byte-items
