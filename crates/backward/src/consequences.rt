@@ -1,5 +1,6 @@
 // What new marks give: marks put at the pairs that depend on them, each as a rule allows. A row with a new mark waits, to be dealt with
 // in its turn. Where to look is read from hints and lines of which nothing is said, so each rule is tested at its pair.
+// Each `while let` here writes the memory that it searches, so no iterator can hold it; those over a line, which is not written, have one.
 ghost use Rattle.std.specs.Prelude.{◌≤◌, ◌<◌};
 ghost use Rattle.marks.specs.Squares.{Room, Put};
 ghost use Rattle.marks.specs.Passes.{Grows};
@@ -174,7 +175,7 @@ fn put_columns(given: &Given, work: &mut [u8], waiting: &mut Waiting, x: usize, 
     }
 }
 
-// The same for each column y of the line.
+// What is lost in row x, in the columns of the conjunctions of the second release with a conjunct in the line.
 fn put_all_columns(
     given: &Given,
     work: &mut [u8],

@@ -5,33 +5,19 @@ ghost use Rattle.marks.specs.Passes.{Grows};
 ghost use Rattle.layout.specs.Layouts.{mark_square};
 ghost use Rattle.backward.specs.Rules.{Named, Squares, NameLost, FromBelow};
 
+use crate::sweep::look_at_name;
 use layout::Given;
 use marks::inclusions::{Direction, Handing};
 use marks::line::Line;
 use marks::order::Order;
 
-// Marks x with all that it is not below by the second release, if it is a name of the signature.
-fn mark_name(given: &Given, work: &mut [u8], x: usize)
-    requires named { Named given.now work.old }
-    requires x_le_names { x ≤ given.now.layout.names }
-    ensures { Grows (NameLost given.now) (mark_square given.now.layout) work.old work.new }
-{
-    if given.layout.has_name(given.chosen_names, x) {
-        let marks = given.layout.mark_square();
-        let mut row = [0u8; Line::LENGTH];
-        given.layout.second_square().join(work, x, &mut row);
-        marks.mark_missing(work, x, &row);
-        marks.mark(work, x, given.layout.names);
-    }
-}
-
-// Does so for each name.
+// Marks each name of the signature with all that it is not below by the second release.
 pub fn mark_names(given: &Given, work: &mut [u8])
     requires { Named given.now work.old }
     ensures { Grows (NameLost given.now) (mark_square given.now.layout) work.old work.new }
 {
     for x in 0..given.layout.names {
-        mark_name(given, work, x);
+        look_at_name(given, work, x);
     }
 }
 
@@ -52,6 +38,7 @@ fn hand_up(
     requires x_le_names { x ≤ given.now.layout.names }
     ensures { Grows (FromBelow given.now.layout) (mark_square given.now.layout) work.old work.new }
 {
+    // crate marks adds columns to lines; here alone one is taken out, which a function with its contract would not make plainer
     left[x / 8] ^= 1 << (x % 8);
     let handing = Handing {
         inclusions: given.layout.first_square(),

@@ -18,13 +18,10 @@ pub fn some_part_lost(given: &Given, work: &[u8], x: usize, y: usize) -> bool
     ensures { Tells result (SomeBelow (ColumnPart given.now work.now x y) (count_at given.now.second.file.now given.now.second.table.now y)) }
 {
     let marks = given.layout.mark_square();
-    for i in 0..given.second.count(y) {
+    (0..given.second.count(y)).any(|i| {
         let part = given.second.part(y, i);
-        if marks.is_marked(work, x, part) {
-            return true;
-        }
-    }
-    false
+        marks.is_marked(work, x, part)
+    })
 }
 
 // Whether all conjuncts of the conjunction x of the first release are marked with y.
@@ -35,13 +32,10 @@ fn all_parts_lost(given: &Given, work: &[u8], x: usize, y: usize) -> bool
     ensures { Tells result (EachBelow (RowPart given.now work.now x y) (count_at given.now.first.file.now given.now.first.table.now x)) }
 {
     let marks = given.layout.mark_square();
-    for i in 0..given.first.count(x) {
+    (0..given.first.count(x)).all(|i| {
         let part = given.first.part(x, i);
-        if !marks.is_marked(work, part, y) {
-            return false;
-        }
-    }
-    true
+        marks.is_marked(work, part, y)
+    })
 }
 
 // Whether y is defined by a restriction with the role.

@@ -18,7 +18,7 @@ use marks::{Square, rules};
 use release::Kind;
 
 // Marks x with all that it is not below by the second release, if it is a name of the signature. Whether a mark is new.
-fn name(given: &Given, work: &mut [u8], x: usize) -> bool
+pub fn look_at_name(given: &Given, work: &mut [u8], x: usize) -> bool
     requires named { Named given.now work.old }
     requires x_le_names { x ≤ given.now.layout.names }
     ensures { Pass (NameLost given.now) (mark_square given.now.layout) (Row (NameLost given.now) given.now.layout x) work.old work.new result }
@@ -35,7 +35,7 @@ fn name(given: &Given, work: &mut [u8], x: usize) -> bool
 }
 
 // Marks the pair x, y if the definition of x allows it and y is not defined by a conjunction. Whether the mark is new.
-fn look(given: &Given, work: &mut [u8], x: usize, y: usize) -> bool
+fn look_at_pair(given: &Given, work: &mut [u8], x: usize, y: usize) -> bool
     requires rows { Rows given.now work.old }
     requires x_le_names { (x ≤ given.now.layout.names) × (y ≤ given.now.layout.names) }
     ensures { Pass (PlainLost given.now) (mark_square given.now.layout) (Cell (PlainLost given.now) given.now.layout x y) work.old work.new result }
@@ -49,8 +49,8 @@ fn look(given: &Given, work: &mut [u8], x: usize, y: usize) -> bool
     false
 }
 
-// Looks at all pairs of row x that are not marked. Whether a mark is new.
-fn row(given: &Given, work: &mut [u8], x: usize) -> bool
+// Looks at all pairs of row x that are not marked, in this way. Whether a mark is new.
+fn look_at_columns(given: &Given, work: &mut [u8], x: usize) -> bool
     requires rows { Rows given.now work.old }
     requires x_le_names { x ≤ given.now.layout.names }
     ensures { Pass (PlainLost given.now) (mark_square given.now.layout) (Row (PlainLost given.now) given.now.layout x) work.old work.new result }
@@ -58,22 +58,23 @@ fn row(given: &Given, work: &mut [u8], x: usize) -> bool
     let marks = given.layout.mark_square();
     let mut changed = false;
     let mut next = 0;
+    // the loop writes the memory that it searches, so no iterator can hold it
     while let Some(y) = marks.next_unmarked(work, x, next) {
         next = y + 1;
-        let new = look(given, work, x, y);
+        let new = look_at_pair(given, work, x, y);
         changed |= new;
     }
     changed
 }
 
-// The same, but a row is not looked at whose definition allows no mark.
-fn plain(given: &Given, work: &mut [u8], x: usize) -> bool
+// Looks at row x so, unless its definition allows no mark. Whether a mark is new.
+fn look_at_row(given: &Given, work: &mut [u8], x: usize) -> bool
     requires rows { Rows given.now work.old }
     requires x_le_names { x ≤ given.now.layout.names }
     ensures { Pass (PlainLost given.now) (mark_square given.now.layout) (Row (PlainLost given.now) given.now.layout x) work.old work.new result }
 {
     if may_be_lost(given, x) {
-        return row(given, work, x);
+        return look_at_columns(given, work, x);
     }
     false
 }
@@ -95,8 +96,8 @@ fn look_at_parts(given: &Given, work: &mut [u8], x: usize, y: usize) -> bool
     false
 }
 
-// Does so for all pairs of column y, if y is a conjunction. Whether a mark is new.
-fn joined(given: &Given, work: &mut [u8], y: usize) -> bool
+// Looks at all pairs of column y so, if y is a conjunction. Whether a mark is new.
+fn look_at_column(given: &Given, work: &mut [u8], y: usize) -> bool
     requires shaped { Shaped given.now.layout.names given.now.second.file.now given.now.second.table.now }
     requires room { Room (mark_square given.now.layout) work.old }
     requires y_lt_names { y < given.now.layout.names }
@@ -114,18 +115,18 @@ fn joined(given: &Given, work: &mut [u8], y: usize) -> bool
 }
 
 // One pass over all pairs: for each name its row and its column, and the row of ⊤. Whether a mark is new.
-fn names(given: &Given, work: &mut [u8]) -> bool
+fn look_at_names(given: &Given, work: &mut [u8]) -> bool
     requires { Setting given.now work.old }
     ensures { Pass (Own given.now) (mark_square given.now.layout) (Below (Row (Own given.now) given.now.layout) (suc given.now.layout.names)) work.old work.new result }
 {
     let mut changed = false;
     for x in 0..given.layout.names {
-        let by_row = plain(given, work, x);
-        let by_name = name(given, work, x);
-        let by_column = joined(given, work, x);
+        let by_row = look_at_row(given, work, x);
+        let by_name = look_at_name(given, work, x);
+        let by_column = look_at_column(given, work, x);
         changed |= by_row | (by_name | by_column);
     }
-    let top = plain(given, work, given.layout.names);
+    let top = look_at_row(given, work, given.layout.names);
     changed | top
 }
 
@@ -160,7 +161,7 @@ impl<'a> Rules for LostBelow<'a> {
 
     // Over all pairs, and if nothing is new there, over all rows with the rows above them.
     fn pass(&self, work: &mut [u8], order: &Order) -> bool {
-        if names(self.given, work) {
+        if look_at_names(self.given, work) {
             return true;
         }
         let handing = Handing {

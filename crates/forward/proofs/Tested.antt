@@ -4,7 +4,7 @@
 --   edge_by                               there is an edge
 --   no_partner_stays                      where there is no partner, marks put later give none
 --   seen_stays                            what is asked holds after marks are seen
---   names_lost, edges_lost                marks put where a line has nothing, as steps of the rules;  by_name_pass, by_edge_pass: as passes
+--   edges_lost                            marks put where a line has nothing, as steps of the rules;  by_name_pass, by_edge_pass: as passes
 --   row_quiet, row_lost                   what is answered of all nodes at once
 --   edge_lost, cell_kept, cell_lost, cells_to, cells_end     the edge of a name at one node, and at those that its line leaves open
 --   missing_start .. missing_none         the next node that a line leaves open
@@ -138,9 +138,6 @@ module _ {given : Given} {w : List ℕ} (s : Setting given w) {x : ℕ} {k i : L
         chosen_name = chosen_name;
         not_second = λ o. m.not_there (joined.has y y_in (marked_frame (grows_frame grows) (second_apart given.layout (s.below (omega arith)).apart) y_in (omega arith) o));
       })
-
-  pub names_lost : {v : List ℕ} → Grows (Missing k x) (mark_square given.layout) w v → Grows (NameLost given) (mark_square given.layout) w v
-  names_lost grows = grows_as name_missing grows
 
   pub by_name_pass : {v : List ℕ} {f : Bool} → Pass (Missing k x) (mark_square given.layout) (Full (mark_square given.layout) k x) w v f
       → Pass (NameLost given) (mark_square given.layout) (ByName given x) w v f

@@ -51,6 +51,7 @@ fn touch_by(given: &Given, work: &[u8], touched: &mut [u8], role: usize, filler:
     let second = given.second;
     let inclusions = given.layout.second_square();
     let mut next = 0;
+    // no plainer as an iterator over hints: a struct, an impl and their clauses, for this one loop, as the others write what they search
     while let Some(name) = inclusions.next_hint(work, Hints::FILLERS, filler, next) {
         next = name + 1;
         if name < inclusions.names && second.role(name) == role {
@@ -73,7 +74,7 @@ fn touch(given: &Given, work: &[u8], new: &[u8], touched: &mut [u8], role: usize
 }
 
 // Notes the nodes of the line that x is not marked with. How many they are; where more than a few, the rest is not looked for, and it is
-// not told.
+// not told. They are an array with a number beside it, since there is no heap.
 fn find_left(
     given: &Given,
     work: &[u8],
@@ -164,6 +165,7 @@ fn lose_edges(
 {
     let inclusions = given.layout.first_square();
     let mut next = 0;
+    // the loop writes the memory that it searches, so no iterator can hold it
     while let Some(x) = inclusions.next_hint(work, Hints::FILLERS, end, next) {
         next = x + 1;
         if inclusions.names <= x || !given.edges[x] {
@@ -184,6 +186,7 @@ fn hand_down(given: &Given, work: &mut [u8], waiting: &mut Waiting, x: usize)
     let marks = given.layout.mark_square();
     let inclusions = given.layout.first_square();
     let mut next = 0;
+    // the loop writes the memory that it searches, so no iterator can hold it
     while let Some(lower) = inclusions.next_hint(work, Hints::BELOW, x, next) {
         next = lower + 1;
         if marks.seems_within(work, x, lower) {

@@ -103,6 +103,7 @@ pub fn next_missing(marks: Square, work: &[u8], x: usize, kept: &[u8], from: usi
     ensures { NextMissing marks work.now x kept.now from result }
 {
     let mut next = from;
+    // no plainer as an iterator over unmarked columns: a struct, an impl and their clauses, for this one loop
     while let Some(y) = marks.next_unmarked(work, x, next) {
         if !line::has(kept, y) {
             return Some(y);

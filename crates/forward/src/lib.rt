@@ -19,7 +19,8 @@ mod partner;
 mod propagation;
 mod sweep;
 
-// Marks those pairs. The inclusions of the second release are there also with rows and columns exchanged. The locals are hints.
+// Marks those pairs. The inclusions of the second release are there also with rows and columns exchanged. The order, and what waits, are
+// hints.
 pub fn mark_lost_above(given: &Given, work: &mut [u8])
     requires names_in_bounds { given.now.layout.names ≤ length given.now.chosen_names.now }
     requires setting { Setting given.now work.old }

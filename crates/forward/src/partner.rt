@@ -44,6 +44,7 @@ fn has_partner(given: &Given, work: &[u8], end: usize, role: usize, y: usize) ->
     let marks = given.layout.mark_square();
     let mut found = false;
     let mut next = 0;
+    // a rule of the project: labelled nested loops, asked for as a form, stand here (docs/DECISIONS.md, Forms)
     'search: while let Some(candidate) = above.next_marked(work, y, next) {
         if above.names <= candidate {
             break;

@@ -10,7 +10,7 @@ ghost use Rattle.layout.specs.Layouts.{first_square, mark_square};
 ghost use Rattle.forward.specs.Rules.{Setting, NameLost, Follows, Step};
 
 use crate::consequences::lose_row;
-use crate::kept::join_below;
+use crate::sweep::look_at_name;
 use layout::Given;
 use marks::inclusions::{Direction, Handing};
 use marks::line;
@@ -34,27 +34,13 @@ fn sort(given: &Given, work: &[u8], order: &mut Order)
     });
 }
 
-// Marks the name x with all that it is not above by the second release, if it is in the signature.
-fn mark_name(given: &Given, work: &mut [u8], x: usize)
-    requires setting { Setting given.now work.old }
-    requires x_lt_names { x < given.now.layout.names }
-    ensures { Grows (NameLost given.now) (mark_square given.now.layout) work.old work.new }
-{
-    if given.layout.has_name(given.chosen_names, x) {
-        let mut kept = [0u8; Line::LENGTH];
-        join_below(given, work, &mut kept, x);
-        let marks = given.layout.mark_square();
-        marks.mark_missing(work, x, &kept);
-    }
-}
-
-// Marks each signature name so.
+// Marks each name of the signature with all that it is not above by the second release.
 fn mark_names(given: &Given, work: &mut [u8])
     requires { Setting given.now work.old }
     ensures { Grows (NameLost given.now) (mark_square given.now.layout) work.old work.new }
 {
     for x in 0..given.layout.names {
-        mark_name(given, work, x);
+        look_at_name(given, work, x);
     }
 }
 
@@ -66,6 +52,7 @@ fn wait_for_above(given: &Given, work: &[u8], waiting: &mut Waiting, done: &[u8]
 {
     let inclusions = given.layout.first_square();
     let mut next = 0;
+    // no plainer as an iterator over such columns: a struct, an impl and their clauses, for this one loop of the crate
     while let Some(later) = inclusions.next_outside(work, x, done, next) {
         next = later + 1;
         if later != x {

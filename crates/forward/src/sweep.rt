@@ -18,7 +18,7 @@ use marks::rules::Rules;
 use marks::waiting::Waiting;
 
 // Marks the name x with all that it is not above by the second release, if it is in the signature. Whether a mark is new.
-fn look_at_name(given: &Given, work: &mut [u8], x: usize) -> bool
+pub fn look_at_name(given: &Given, work: &mut [u8], x: usize) -> bool
     requires setting { Setting given.now work.old }
     requires x_lt_names { x < given.now.layout.names }
     ensures { Pass (NameLost given.now) (mark_square given.now.layout) (ByName given.now x) work.old work.new result }
@@ -44,6 +44,7 @@ fn look_at_missing(given: &Given, work: &mut [u8], kept: &[u8], x: usize) -> boo
     let marks = given.layout.mark_square();
     let mut changed = false;
     let mut next = 0;
+    // the loop writes the memory that it searches, so no iterator can hold it
     while let Some(y) = next_missing(marks, work, x, kept, next) {
         changed |= look_at_pair(given, work, x, y);
         next = y + 1;

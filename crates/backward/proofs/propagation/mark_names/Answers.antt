@@ -7,4 +7,4 @@ pub loop-x-init : goal.loop-x-init
 loop-x-init c = none
 
 pub loop-x-preserved : goal.loop-x-preserved
-loop-x-preserved c = grows_further c.loop-x.invariant c.mark_name.ensures
+loop-x-preserved c = grows_further c.loop-x.invariant c.look_at_name.ensures.grows

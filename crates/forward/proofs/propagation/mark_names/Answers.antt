@@ -8,4 +8,4 @@ pub loop-x-init : goal.loop-x-init
 loop-x-init c = (c.requires, none)
 
 pub loop-x-preserved : goal.loop-x-preserved
-loop-x-preserved c = (setting_stays c.mark_name.ensures c.loop-x.invariant.0, grows_further c.loop-x.invariant.1 c.mark_name.ensures)
+loop-x-preserved c = (setting_stays c.look_at_name.ensures.grows c.loop-x.invariant.0, grows_further c.loop-x.invariant.1 c.look_at_name.ensures.grows)

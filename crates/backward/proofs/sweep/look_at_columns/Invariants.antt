@@ -3,7 +3,7 @@ use Prim.Native.Nat.{suc, ◌-◌}
 use Rattle.marks.specs.Passes.{Pass, Below}
 use Rattle.layout.specs.Layouts.{mark_square}
 use Rattle.backward.specs.Rules.{PlainLost, Cell}
-use Rattle.backward.proofs.sweep.row.Given as goal
+use Rattle.backward.proofs.sweep.look_at_columns.Given as goal
 
 abbrev pub invariant-loop-y : goal.invariant-loop-y
 invariant-loop-y l = Pass (PlainLost l.given) (mark_square l.given.layout)

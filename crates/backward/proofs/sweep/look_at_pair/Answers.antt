@@ -1,7 +1,7 @@
 -- A pair is put where the rule allows it; elsewhere it asks nothing.
 use Rattle.marks.proofs.Squares.{refuted}
 use Rattle.backward.proofs.Tested.{cell_put, cell_none}
-use Rattle.backward.proofs.sweep.look.Goals as goal
+use Rattle.backward.proofs.sweep.look_at_pair.Goals as goal
 
 pub returns-then-column_lost : goal.returns-then-column_lost
 returns-then-column_lost c = cell_put

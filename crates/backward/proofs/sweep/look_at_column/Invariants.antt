@@ -2,7 +2,7 @@
 use Rattle.marks.specs.Passes.{Pass, Below}
 use Rattle.layout.specs.Layouts.{mark_square}
 use Rattle.backward.specs.Rules.{PartLost, Cell}
-use Rattle.backward.proofs.sweep.joined.Given as goal
+use Rattle.backward.proofs.sweep.look_at_column.Given as goal
 
 abbrev pub invariant-loop-x : goal.invariant-loop-x
 invariant-loop-x l = Pass (PartLost l.given) (mark_square l.given.layout)

@@ -3,7 +3,7 @@ use native.Mathlib.Omega.{arith}
 use Rattle.marks.proofs.Passes.{turns_none, turn_both, pass_as, pass_none, below_end}
 use Rattle.release.proofs.KindNumbers.{is_not_kind}
 use Rattle.backward.proofs.Tested.{not_joined_column}
-use Rattle.backward.proofs.sweep.joined.Goals as goal
+use Rattle.backward.proofs.sweep.look_at_column.Goals as goal
 
 pub returns-then-not-has_kind : goal.returns-then-not-has_kind
 returns-then-not-has_kind c = pass_none (not_joined_column (is_not_kind c.has_kind.ensures c.if-not-has_kind.true))

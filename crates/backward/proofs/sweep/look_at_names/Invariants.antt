@@ -3,7 +3,7 @@ use Rattle.marks.specs.Passes.{Pass, Below}
 use Rattle.layout.specs.Layouts.{mark_square}
 use Rattle.backward.specs.Rules.{Own}
 use Rattle.backward.proofs.Tested.{Looked}
-use Rattle.backward.proofs.sweep.names.Given as goal
+use Rattle.backward.proofs.sweep.look_at_names.Given as goal
 
 abbrev pub invariant-loop-x : goal.invariant-loop-x
 invariant-loop-x l = Pass (Own l.given) (mark_square l.given.layout)
