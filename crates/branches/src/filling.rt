@@ -35,10 +35,10 @@ pub fn fill(releases: &Releases, signatures: &[u8], work: &mut [u8], rows: &mut 
 {
     prepare(releases, work);
     let length = releases.names + releases.roles;
-    for branch in 0..rows.len() {
+    for (branch, row) in rows.iter_mut().enumerate() {
         let start = branch * length;
         let signature = &signatures[start..start + length];
-        rows[branch] = row_of(releases, signature, work);
+        *row = row_of(releases, signature, work);
     }
     marks::clear(work, 4 * marks::size(releases.names));
 }

@@ -9,8 +9,8 @@ use crate::refusals::SheetRefusal;
 use meanings::{CompareRefusal, Compared, lacks_work};
 use signature::signature_fault;
 
-// A sheet's limit.
-#[derive(Clone, Copy)]
+// A sheet's limit, by a name of its own: `Sheet::BRANCHES` says whose it is where it is used, and a constant alone is no shorter.
+#[derive(Clone, Copy, Debug, PartialEq, Eq)]
 pub struct Sheet {}
 
 impl Sheet {

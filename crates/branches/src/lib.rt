@@ -1,4 +1,5 @@
-// One sheet for many branches: the same two releases compared over one signature after another.
+// One sheet for many branches: the same two releases compared over one signature after another. What the call is lent stands in separate
+// parameters, as C lends it.
 #![tactic(auto)]
 
 ghost use Rattle.branches.specs.Sheets.{Says};
@@ -7,7 +8,6 @@ use crate::filling::fill;
 use crate::judging::judge;
 pub use crate::refusals::SheetRefusal;
 use crate::row::Row;
-use comparison::Releases;
 use meanings::{Compared, read_both};
 use release::table;
 use release::table::Table;
@@ -30,22 +30,20 @@ pub fn compare_branches(
 ) -> Result<Compared, SheetRefusal>
     ensures { Says first.now second.now signatures.now count rows.old rows.new work.old work.new result }
 {
+    // Local arrays, since there is no heap.
     let mut first_table = [table::Row::BLANK; Table::LENGTH];
     let mut second_table = [table::Row::BLANK; Table::LENGTH];
     let counts = read_both(first, second, &mut first_table, &mut second_table)?;
     judge(counts, signatures, count, rows.len(), work.len())?;
-    let releases = Releases {
-        first: Terminology {
-            file: first,
-            table: &first_table,
-        },
-        second: Terminology {
-            file: second,
-            table: &second_table,
-        },
-        names: usize::from(counts.names),
-        roles: usize::from(counts.roles),
+    let first = Terminology {
+        file: first,
+        table: &first_table,
     };
+    let second = Terminology {
+        file: second,
+        table: &second_table,
+    };
+    let releases = counts.releases(&first, &second);
     fill(&releases, signatures, work, &mut rows[..count]);
     Ok(counts)
 }

@@ -7,7 +7,7 @@ ghost use Rattle.branches.specs.Rows.{share, row_of};
 // How many names are chosen, how many have left and right witnesses, and how many in a thousand of those chosen are reported.
 // C lends such rows too.
 #[repr(C)]
-#[derive(Clone, Copy)]
+#[derive(Clone, Copy, Debug, PartialEq, Eq)]
 pub struct Row {
     pub chosen: u32,
     pub left: u32,
@@ -30,7 +30,7 @@ fn count(bytes: &[u8], value: u8) -> u32
     requires { length bytes.now ≤ most_names }
     ensures { (result ≡ count (λ b. eqb b value) bytes.now) × (result ≤ most_names) }
 {
-    // By `as`: there are no more than names, so it fits, and no From makes a number narrower.
+    // By `as`: there are no more than names, so it fits, and `try_from` has an arm that is never taken.
     bytes.iter().filter(|byte| **byte == value).count() as u32
 }
 
@@ -42,7 +42,8 @@ fn share(reported: u32, chosen: u32) -> u32
     (reported * 1000).checked_div(chosen).unwrap_or(0)
 }
 
-// Tells the row. A name with witnesses on both sides has a byte of its own, so it is counted once in the share.
+// Tells the row. A name with witnesses on both sides has a byte of its own, so it is counted once in the share. The bytes are numbers
+// here, not an enum: C reads them, and the report alone tells each name's.
 pub fn tell(names: &[u8], bytes: &[u8]) -> Row
     requires { (length names.now ≤ most_names) × (length bytes.now ≤ most_names) }
     ensures { result ≡ row_of names.now bytes.now }

@@ -9,7 +9,7 @@ use crate::{SheetRefusal, compare_branches};
 use meanings::Compared;
 
 // What a sheet answers, and its rows.
-#[derive(Clone, Copy)]
+#[derive(Clone, Copy, Debug, PartialEq, Eq)]
 pub struct Filled {
     pub answer: Result<Compared, SheetRefusal>,
     pub rows: [Row; Sheet::BRANCHES],
@@ -32,7 +32,7 @@ pub fn fill_part(
     Filled { answer, rows }
 }
 
-// Fills the rows given.
+// Fills all the rows given. A call of its own, since it asks nothing of its caller: `fill_part` asks that `lent` is in the array.
 pub fn fill_rows(
     first: &[u8],
     second: &[u8],

@@ -1,4 +1,4 @@
-// The meaning of releases compared.
+// The meaning of releases compared. What a call is lent stands in separate parameters, as C lends it.
 #![tactic(auto)]
 
 ghost use Rattle.std.specs.Prelude.{◌≡◌, ltb, ◌≤◌};
@@ -19,10 +19,25 @@ use signature::signature_fault;
 mod refusals;
 
 // What was compared: the counts of names and roles, which both releases have.
-#[derive(Clone, Copy)]
+#[derive(Clone, Copy, Debug, PartialEq, Eq)]
 pub struct Compared {
     pub names: u16,
     pub roles: u8,
+}
+
+impl Compared {
+    // The releases that have these counts, as they are compared.
+    pub fn releases<'a>(self, first: &Terminology<'a>, second: &Terminology<'a>) -> Releases<'a>
+        ensures terminologies { (result.first ≡ first.now) × (result.second ≡ second.now) }
+        ensures counts { (result.names ≡ self.names) × (result.roles ≡ self.roles) }
+    {
+        Releases {
+            first: *first,
+            second: *second,
+            names: usize::from(self.names),
+            roles: usize::from(self.roles),
+        }
+    }
 }
 
 // Whether work memory is shorter than a comparison of releases with this many names needs.
@@ -46,10 +61,11 @@ pub fn read_both(
 {
     let one = read_release(first, first_table).map_err(CompareRefusal::First)?;
     let two = read_release(second, second_table).map_err(CompareRefusal::Second)?;
+    // Field by field, since the numbers of axioms may differ.
     if one.names != two.names || one.roles != two.roles {
         return Err(CompareRefusal::DifferentCounts);
     }
-    // By `as`: an accepted release has few names and roles, so both fit, and no From makes a number narrower.
+    // By `as`: an accepted release has few names and roles, so both fit, and `try_from` has an arm that is never taken.
     Ok(Compared {
         names: one.names as u16,
         roles: one.roles as u8,
@@ -89,22 +105,20 @@ pub fn compare_releases(
 ) -> Result<Compared, CompareRefusal>
     ensures { Says first.now second.now signature.now result_bytes.old result_bytes.new work.old work.new result }
 {
+    // Local arrays, since there is no heap.
     let mut first_table = [Row::BLANK; Table::LENGTH];
     let mut second_table = [Row::BLANK; Table::LENGTH];
     let counts = read_both(first, second, &mut first_table, &mut second_table)?;
     judge(counts, signature, result_bytes.len(), work.len())?;
-    let releases = Releases {
-        first: Terminology {
-            file: first,
-            table: &first_table,
-        },
-        second: Terminology {
-            file: second,
-            table: &second_table,
-        },
-        names: usize::from(counts.names),
-        roles: usize::from(counts.roles),
+    let first = Terminology {
+        file: first,
+        table: &first_table,
     };
+    let second = Terminology {
+        file: second,
+        table: &second_table,
+    };
+    let releases = counts.releases(&first, &second);
     compare_tables(&releases, signature, result_bytes, work);
     Ok(counts)
 }

@@ -38,11 +38,17 @@ fill-requires c =
     let a = c.args in
     let read = c.in_ok-counts.ensures in
     let enough = lent a.signatures.now a.count a.rows.now a.work.now read c.in_ok-judge.ensures in
-    fits _ c.from.ensures c.from-2.ensures (read.first refl) (read.second refl) (both_agree read) enough (length-take-le a.count a.rows.now enough.rows_lent)
+    let built = c.releases-releases.ensures in
+    let first = built.terminologies.0 in
+    let second = built.terminologies.1 in
+    fits c.releases-releases.result built.counts.0 built.counts.1 (rw first (read.first refl)) (rw second (read.second refl)) (rw (first, second) (both_agree read)) enough (length-take-le a.count a.rows.now enough.rows_lent)
 
 pub returns : goal.returns
 returns c =
     let a = c.args in
     let read = c.in_ok-counts.ensures in
     let enough = lent a.signatures.now a.count a.rows.now a.work.now read c.in_ok-judge.ensures in
-    says _ _ _ _ read c.in_ok-judge.ensures c.fill.ensures (length-take-le a.count a.rows.now enough.rows_lent) refl refl c.from.ensures refl
+    let built = c.releases-releases.ensures in
+    let first = built.terminologies.0 in
+    let second = built.terminologies.1 in
+    says _ _ _ _ read c.in_ok-judge.ensures c.fill.ensures (length-take-le a.count a.rows.now enough.rows_lent) (rw first refl) (rw second refl) built.counts.0 refl

@@ -25,14 +25,20 @@ pub compare_tables-requires : goal.compare_tables-requires
 compare_tables-requires c =
     let read = c.in_ok-counts.ensures in
     let lends = enough c.args.signature.now c.args.result_bytes.now c.args.work.now read c.in_ok-judge.ensures in
+    let built = c.releases-releases.ensures in
+    let first = built.terminologies.0 in
+    let second = built.terminologies.1 in
     record {
-      given = given _ _ c.from.ensures c.from-2.ensures (read.first refl) (read.second refl) (both_agree read) lends;
+      given = given _ c.releases-releases.result built.counts.0 built.counts.1 (rw first (read.first refl)) (rw second (read.second refl)) (rw (first, second) (both_agree read)) lends;
       names_in_bounds = omega (arith, lends.result);
     }
 
 pub returns : goal.returns
 returns c =
     let read = c.in_ok-counts.ensures in
-    let names = c.from.ensures in
-    let roles = c.from-2.ensures in
-    compares _ _ _ read c.in_ok-judge.ensures _ _ c.compare_tables.auto.result_bytes c.compare_tables.auto.work (rw (names, roles) at c.compare_tables.ensures)
+    let built = c.releases-releases.ensures in
+    let names = built.counts.0 in
+    let roles = built.counts.1 in
+    let first = built.terminologies.0 in
+    let second = built.terminologies.1 in
+    compares _ _ _ read c.in_ok-judge.ensures _ _ c.compare_tables.auto.result_bytes c.compare_tables.auto.work (rw (names, roles, first, second) at c.compare_tables.ensures)
