@@ -9,7 +9,7 @@ use crate::numbers::{put_three_digits, put_two_numbers};
 use writing::put_or_count;
 
 // Where a name is reported: on the left only, on the right only, or on both sides.
-#[derive(Clone, Copy, PartialEq, Eq)]
+#[derive(Clone, Copy, Debug, PartialEq, Eq)]
 pub enum Side {
     Left,
     Right,
@@ -17,7 +17,7 @@ pub enum Side {
 }
 
 impl Side {
-    // By the name's result byte. A name with another byte is not reported.
+    // By the name's result byte, which C reads, too. A name with another byte is not reported.
     fn of(byte: u8) -> Option<Side>
         ensures { SideOf byte result }
     {
@@ -82,7 +82,7 @@ fn put_lines(output: &mut [u8], at: usize, bytes: &[u8]) -> usize
 }
 
 // A report: the numbers of names and roles, how many names are reported on the left and on the right, and the names' result bytes.
-#[derive(Clone, Copy)]
+#[derive(Clone, Copy, Debug, PartialEq, Eq)]
 pub struct Report<'a> {
     pub names: usize,
     pub roles: usize,

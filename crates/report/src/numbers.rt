@@ -5,11 +5,12 @@ ghost use Rattle.writing.specs.Places.{Put};
 
 use writing::{put_or_count, put_text};
 
-// A number in decimal: the digits of its tenth, and its last. By hand, since the standard library promises no bytes of what `write!` prints,
-// and a crate for it would be one more to trust. It calls itself once for each digit.
+// A number in decimal: the digits of its tenth, and its last. By hand: the library promises the bytes of `write!` for a `String` alone,
+// which needs a heap, and a further crate for it would be one more to trust. It calls itself once for each digit.
 pub fn put_decimal(output: &mut [u8], at: usize, number: usize) -> usize
     ensures { Put output.old at (decimal number) output.new result }
 {
+    // By `as`: a digit fits, and `try_from` has an arm that is never taken.
     let last = b'0' + (number % 10) as u8;
     if number < 10 {
         return put_or_count(output, at, last);
@@ -31,7 +32,7 @@ pub fn put_three_digits(output: &mut [u8], at: usize, number: usize) -> usize
     put_decimal(output, next, number)
 }
 
-// The line of a word, a number, a word and a number.
+// The line of a word, a number, a word and a number. The words are bytes, as all that is put: a `&str` would be made bytes here again.
 pub fn put_two_numbers(
     output: &mut [u8],
     at: usize,

@@ -11,7 +11,7 @@ use meanings::Compared;
 use release::Refusal;
 use writing::{put_or_count, put_text, put_whole};
 
-// A word and a number.
+// A word, as bytes, and a number.
 fn put_worded(output: &mut [u8], at: usize, word: &[u8], number: usize) -> usize
     ensures { Put output.old at (worded word.now number) output.new result }
 {
@@ -41,7 +41,8 @@ fn put_rows(output: &mut [u8], rows: &[Row]) -> usize
     next
 }
 
-// Writes the text of a sheet that was asked for `count` branches, by its answer and its rows.
+// Writes the text of a sheet that was asked for `count` branches, by its answer and its rows. The number stands beside the rows, since a
+// refused sheet may have been asked for more than there are rows.
 pub fn write_sheet<R: Refusal>(
     answer: Result<Compared, R>,
     rows: &[Row; Sheet::BRANCHES],

@@ -7,6 +7,7 @@ ghost use Rattle.rewriting.specs.Stands.{TailStands, AxiomStands};
 ghost use Rattle.writing.specs.Places.{Room, Put};
 
 use crate::numbers::put_number;
+use release::Kind;
 use release::number::Version;
 use writing::put_byte;
 
@@ -17,14 +18,14 @@ pub struct Source<'a> {
     pub version: Version,
 }
 
-// The kinds of a conjunction. Of a kind byte that was accepted the number tells it.
+// Whether a kind byte is that of a conjunction.
 fn is_conjunction(kind: u8) -> bool
     ensures { result ≡ joins kind }
 {
-    matches!(kind, 1 | 2)
+    Kind::try_from(kind).is_ok_and(Kind::is_conjunction)
 }
 
-// The bytes that the axiom at `from` takes in the file.
+// The bytes that the axiom at `from` takes in the file. `release::show` finds the same by its table, which is not built here.
 pub fn axiom_length(source: &Source, from: usize) -> usize
     requires { AxiomStands (width source.now.version) source.now.file.now from }
     ensures { result ≡ axiom_length (width source.now.version) source.now.file.now from }
@@ -47,7 +48,8 @@ fn filler_number(filler: usize, version: Version, wanted: Version) -> usize
     filler
 }
 
-// Names one after the other.
+// Names one after the other. Both places are kept by hand: a name is read at its place by the width of its version, and to cut the file into
+// chunks of that width first would be no plainer.
 fn put_names(
     source: &Source,
     from: usize,

@@ -13,7 +13,7 @@ use release::number::Version;
 use release::{Counts, Release};
 use writing::{put_byte, put_text};
 
-// All axioms of an accepted file.
+// All axioms of an accepted file. The place is kept by hand: an axiom says where the next one starts, so no iterator gives it.
 fn put_axioms(file: &[u8], output: &mut [u8], at: usize, wanted: Version) -> usize
     requires accepted { fault file.now ≡ 0 }
     requires room { Room output.old at (axioms_bytes (width wanted) (axioms_of file.now)) }
@@ -47,11 +47,11 @@ pub fn put_release(file: &[u8], output: &mut [u8], wanted: Version, counts: Coun
     requires room { Room output.old 0 (rewritten (width wanted) file.now) }
     ensures { Put output.old 0 (rewritten (width wanted) file.now) output.new result }
 {
-    let marked = put_text(output, 0, &Release::MARK);
-    let versioned = put_number(output, marked, Version::Two, wanted.width());
-    let named = put_number(output, versioned, wanted, counts.names);
+    let after_mark = put_text(output, 0, &Release::MARK);
+    let after_version = put_number(output, after_mark, Version::Two, wanted.width());
+    let after_names = put_number(output, after_version, wanted, counts.names);
     // `as` is proved to keep the number; `try_from` would test it once more.
-    let ruled = put_byte(output, named, counts.roles as u8);
-    let counted = put_number(output, ruled, wanted, counts.axioms);
-    put_axioms(file, output, counted, wanted)
+    let after_roles = put_byte(output, after_names, counts.roles as u8);
+    let after_counts = put_number(output, after_roles, wanted, counts.axioms);
+    put_axioms(file, output, after_counts, wanted)
 }

@@ -1,10 +1,12 @@
 // Bytes put one after the other into lent memory, from a place on. Each function answers the place after what it put. The place is not kept
-// in a struct with the lent bytes: after a call that is handed such a struct, the proof of what stands in the memory did not close.
+// in a struct with the lent bytes: after a call that is handed such a struct, the proof of what stands in the memory did not close. Neither
+// `Display` nor `write!` puts it: there is no heap, and an output that is too short has to stay as it was.
 #![tactic(auto)]
 
 ghost use Rattle.std.specs.Prelude.{◌∷◌, [], List, ℕ};
 ghost use Rattle.writing.specs.Places.{Room, Put, Whole};
 
+// Puts a byte where there is room for it. A caller that knows the length by a formula uses this, so that nothing is put twice.
 pub fn put_byte(output: &mut [u8], at: usize, byte: u8) -> usize
     requires { Room output.old at (byte ∷ []) }
     ensures { Put output.old at (byte ∷ []) output.new result }
@@ -23,7 +25,7 @@ pub fn put_or_count(output: &mut [u8], at: usize, byte: u8) -> usize
     at.saturating_add(1)
 }
 
-// The same for each byte of a text.
+// Puts or counts each byte of a text.
 pub fn put_text(output: &mut [u8], at: usize, text: &[u8]) -> usize
     ensures { Put output.old at text.now output.new result }
 {
