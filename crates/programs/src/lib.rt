@@ -1,5 +1,4 @@
-// What the programs do, from the bytes of their files to the bytes that they print. Each lends its work memory, 64 KiB: enough for 127
-// names, and more are refused 32.
+// What the programs do, from the bytes of their files to the bytes that they print.
 #![tactic(auto)]
 
 ghost use Rattle.std.specs.Prelude.{◌≡◌, ◌≤◌, length, IfSome};
@@ -13,6 +12,12 @@ use meanings::compare_releases;
 use release::{Release, check_release};
 use report::sheet::write_sheet;
 use report::write_answer;
+
+// The work memory that a program lends, 64 KiB: enough for 127 names, and more are refused 32.
+pub const WORK_BYTES: usize = 65536;
+
+// The room that a program lends for its text.
+pub const TEXT_BYTES: usize = 4096;
 
 // Compares, and writes the report or the refusal to the start of `output`. Answers the text's length, or none where the output is too
 // short for it. The longest report, 127 names with a line each, has 800 bytes.
@@ -45,7 +50,7 @@ fn signature_count(first: &[u8], length: usize) -> usize
 }
 
 // Compares over the signatures that stand one after another in `chosen`, and writes the lines or the refusal to the start of `output`.
-// Answers the text's length, or none where the output is too short for it. The longest text, 64 lines of 51 bytes, fits 4 KiB.
+// Answers the text's length, or none where the output is too short for it. The longest text, 64 lines of 51 bytes, fits `TEXT_BYTES`.
 pub fn sheet(
     first: &[u8],
     second: &[u8],

@@ -4,17 +4,12 @@
 #![tactic(auto)]
 
 use folder::{RELEASE_BYTES, read_file};
-use programs::sheet;
+use programs::{TEXT_BYTES, WORK_BYTES, sheet};
 use std::io;
 
 // 65 of the longest signatures, of 1,023 names and 32 roles. Of a longer file these bytes hold more than 64 signatures, whatever the
 // releases, and are refused 42 as all of it is.
 const SIGNATURES_BYTES: usize = 68575;
-
-// What is lent to the comparison: work memory for up to 127 names, and room for the text, whose longest has 64 lines of 51 bytes.
-const WORK_BYTES: usize = 65536;
-
-const TEXT_BYTES: usize = 4096;
 
 // As the program `station` but for the call and a size: one function for both could promise nothing, since no clause speaks of files.
 fn main(rt: HostRuntime) -> io::Result<()> {

@@ -3,16 +3,11 @@
 #![tactic(auto)]
 
 use folder::{RELEASE_BYTES, read_file};
-use programs::station;
+use programs::{TEXT_BYTES, WORK_BYTES, station};
 use std::io;
 
 // One byte more than the longest accepted signature, of 1,023 names and 32 roles: a longer one is refused 17 by its length.
 const SIGNATURE_BYTES: usize = 1056;
-
-// What is lent to the comparison: work memory for up to 127 names, and room for the text, whose longest has 800 bytes.
-const WORK_BYTES: usize = 65536;
-
-const TEXT_BYTES: usize = 4096;
 
 fn main(rt: HostRuntime) -> io::Result<()> {
     let mut first = [0u8; RELEASE_BYTES];
