@@ -24,6 +24,8 @@ mod refusals;
 // The length of the longest report there can be: 1,023 names, each with a line.
 const REPORT: usize = 6202;
 
+// The code of a refusal. Four calls below end in the same two arms, one that writes the answer and one that is this: a function over a closure
+// that writes would be no plainer, since its contract had to say what each closure writes and leaves.
 fn refusal_code<R: Refusal>(refusal: R) -> u32
     ensures { result ≡ refusal_code (R.numbers refusal) }
 {
@@ -54,7 +56,7 @@ fn give_length<R: Refusal>(answer: Result<usize, R>, length: &mut u32) -> u32
     }
 }
 
-// Checks a release: n, m and a, its counts of names, roles and axioms.
+// Checks a release: its counts of names, roles and axioms.
 pub fn berrytick_check(file: &[u8], counts: &mut [u32; 3]) -> u32
     ensures { CheckReturns file.now counts.old counts.new result }
 {
