@@ -11,18 +11,19 @@ fn split(case: &[u8]) -> Option<(&[u8], &[u8])>
     rest.split_at_checked(u32::from_le_bytes(*head) as usize)
 }
 
-// How many fields the case has; 0 where its bytes are not a whole number of fields.
-pub(crate) fn fields(case: &[u8]) -> usize {
+// How many fields the case has, if its bytes are a whole number of fields. Counted by hand, since each field tells how long it is: no
+// iterator of the library goes over such.
+pub(crate) fn fields(case: &[u8]) -> Option<usize> {
     let mut count: usize = 0;
     let mut rest = case;
     while let Some((_, after)) = split(rest) {
         rest = after;
         count += 1;
     }
-    if rest.is_empty() { count } else { 0 }
+    rest.is_empty().then_some(count)
 }
 
-// The bytes of the case's field of this number, counted from 0; none where there is no such field.
+// The bytes of the case's field of this number, counted from 0. A field that is missing counts as empty: `family` tells that it is missing.
 pub(crate) fn field(case: &[u8], number: usize) -> &[u8] {
     let mut rest = case;
     for _ in 0..number {

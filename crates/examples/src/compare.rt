@@ -3,7 +3,7 @@
 use crate::cases::{field, value};
 use crate::memory;
 use crate::memory::ROOM;
-use crate::verdict::{Verdict, What, same, same_refusal};
+use crate::verdict::{Verdict, same_outcome};
 use meanings::compare_releases;
 
 pub const FIELDS: usize = 9;
@@ -21,17 +21,14 @@ pub(crate) fn judge(case: &[u8]) -> Verdict {
 }
 
 fn compared(case: &[u8], result_bytes: &mut [u8], work: &mut [u8]) -> Verdict {
-    let number = value(case, 5);
-    match compare_releases(
+    let answer = compare_releases(
         field(case, 0),
         field(case, 1),
         field(case, 2),
         result_bytes,
         work,
-    ) {
-        Ok(_) => same(What::Number, 0, number)?,
-        Err(refusal) => same_refusal(refusal, number, value(case, 6))?,
-    }
+    );
+    same_outcome(answer, value(case, 5), value(case, 6))?;
     memory::same_start(result_bytes, field(case, 7))?;
     memory::zero_start(work, value(case, 8))
 }

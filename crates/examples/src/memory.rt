@@ -1,4 +1,4 @@
-// Memory that a case lends to a call: filled with a mark before, and looked at after.
+// Memory that a case lends to a call: filled with a mark before, and looked at after. It is an array, as in the programs, which have no heap.
 use crate::verdict::{Verdict, What, same, same_byte};
 
 // What lent memory holds before the call: neither 0 nor a byte of any answer.
@@ -32,7 +32,7 @@ pub(crate) fn same_start(memory: &[u8], expected: &[u8]) -> Verdict {
     Ok(())
 }
 
-// Whether the first `zeros` bytes are 0, and all later ones as they were.
+// Whether the first `zeros` bytes are 0, and all later ones as they were. One function for both would take two closures, and be no plainer.
 pub(crate) fn zero_start(memory: &[u8], zeros: usize) -> Verdict {
     for (place, byte) in memory.iter().enumerate() {
         let right = if place < zeros { 0 } else { MARK };

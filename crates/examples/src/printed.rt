@@ -3,21 +3,17 @@
 use crate::cases::field;
 use crate::memory::MARK;
 use crate::verdict::{Verdict, same_bytes};
+use programs::{TEXT_BYTES, WORK_BYTES};
 
 pub const FIELDS: usize = 4;
-
-// As much work memory, and as much room for the text, as the programs lend.
-const WORK: usize = 65536;
-
-const OUTPUT: usize = 4096;
 
 pub(crate) fn judge<P>(case: &[u8], program: P) -> Verdict
 where
     P: Fn(&[u8], &[u8], &[u8], &mut [u8], &mut [u8]) -> Option<usize>,
     requires { P.IsAlwaysCallable program }
 {
-    let mut work = [MARK; WORK];
-    let mut output = [0u8; OUTPUT];
+    let mut work = [MARK; WORK_BYTES];
+    let mut output = [0u8; TEXT_BYTES];
     let written = program(
         field(case, 0),
         field(case, 1),

@@ -3,7 +3,7 @@
 use crate::cases::{field, value};
 use crate::memory;
 use crate::memory::ROOM;
-use crate::verdict::{Verdict, What, same, same_refusal};
+use crate::verdict::{Verdict, What, same, same_outcome};
 use question::ask_inclusion;
 
 pub const FIELDS: usize = 8;
@@ -14,13 +14,9 @@ pub(crate) fn judge(case: &[u8]) -> Verdict {
 }
 
 fn asked(case: &[u8], work: &mut [u8]) -> Verdict {
-    let number = value(case, 4);
-    match ask_inclusion(field(case, 0), field(case, 1), field(case, 2), work) {
-        Ok(answer) => {
-            same(What::Number, 0, number)?;
-            same(What::Value, usize::from(answer), value(case, 6))?;
-        }
-        Err(refusal) => same_refusal(refusal, number, value(case, 5))?,
+    let answer = ask_inclusion(field(case, 0), field(case, 1), field(case, 2), work);
+    if let Some(included) = same_outcome(answer, value(case, 4), value(case, 5))? {
+        same(What::Value, usize::from(included), value(case, 6))?;
     }
     memory::zero_start(work, value(case, 7))
 }

@@ -1,7 +1,7 @@
 // Cases of Rewrite: file, wanted version, length of the output; number, side, the rewritten file, empty where refused.
 use crate::cases::{field, value};
 use crate::memory;
-use crate::verdict::{Verdict, What, same, same_refusal};
+use crate::verdict::{Verdict, What, same, same_outcome};
 use release::number::Version;
 use rewriting::rewrite;
 
@@ -22,13 +22,9 @@ pub(crate) fn judge(case: &[u8]) -> Verdict {
 // A version that is not 1 is 2.
 fn rewritten(case: &[u8], output: &mut [u8]) -> Verdict {
     let version = Version::try_from(value(case, 1)).unwrap_or(Version::Two);
-    let number = value(case, 3);
-    match rewrite(field(case, 0), output, version) {
-        Ok(length) => {
-            same(What::Number, 0, number)?;
-            same(What::Length, length, field(case, 5).len())?;
-        }
-        Err(refusal) => same_refusal(refusal, number, value(case, 4))?,
+    let answer = rewrite(field(case, 0), output, version);
+    if let Some(length) = same_outcome(answer, value(case, 3), value(case, 4))? {
+        same(What::Length, length, field(case, 5).len())?;
     }
     memory::same_start(output, field(case, 5))
 }

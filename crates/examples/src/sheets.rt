@@ -4,7 +4,7 @@
 use crate::cases::{byte, field, value};
 use crate::memory;
 use crate::memory::ROOM;
-use crate::verdict::{Verdict, What, same, same_refusal};
+use crate::verdict::{Verdict, What, same, same_outcome};
 use branches::judging::Sheet;
 use branches::row::Row;
 use branches::values::{Filled, fill_part};
@@ -16,8 +16,13 @@ pub const FIELDS: usize = 10;
 // The bytes of an expected row.
 const ROW: usize = 8;
 
-// What each number of a row holds before the call: no answer has it.
-const MARK: u32 = u32::MAX;
+// What a row holds before the call: no answer has these numbers.
+const MARKED: Row = Row {
+    chosen: u32::MAX,
+    left: u32::MAX,
+    right: u32::MAX,
+    share: u32::MAX,
+};
 
 // The numbers of a row: chosen, left, right and share.
 type Numbers = [usize; 4];
@@ -29,11 +34,7 @@ pub(crate) fn judge(case: &[u8]) -> Verdict {
 
 fn filled(case: &[u8], work: &mut [u8]) -> Verdict {
     let filled = fill(case, work);
-    let number = value(case, 6);
-    match filled.answer {
-        Ok(_) => same(What::Number, 0, number)?,
-        Err(refusal) => same_refusal(refusal, number, value(case, 7))?,
-    }
+    same_outcome(filled.answer, value(case, 6), value(case, 7))?;
     memory::zero_start(work, value(case, 9))?;
     same_rows(field(case, 8), &filled.rows)?;
     single_rows(case, filled)
@@ -42,19 +43,13 @@ fn filled(case: &[u8], work: &mut [u8]) -> Verdict {
 // Fills as many rows as are lent; the others are there to be seen unchanged. A sheet has no use for more
 // than there can be branches.
 fn fill(case: &[u8], work: &mut [u8]) -> Filled {
-    let row = Row {
-        chosen: MARK,
-        left: MARK,
-        right: MARK,
-        share: MARK,
-    };
     fill_part(
         field(case, 0),
         field(case, 1),
         field(case, 3),
         value(case, 2),
         work,
-        [row; Sheet::BRANCHES],
+        [MARKED; Sheet::BRANCHES],
         value(case, 4).min(Sheet::BRANCHES),
     )
 }
@@ -81,7 +76,7 @@ fn same_rows(expected: &[u8], rows: &[Row; Sheet::BRANCHES]) -> Verdict {
     for (branch, row) in rows.iter().enumerate() {
         let told = match expected.get(branch * ROW..branch * ROW + ROW) {
             Some(bytes) => told(bytes),
-            None => [MARK as usize; 4],
+            None => numbers(MARKED),
         };
         same_row(branch, numbers(*row), told)?;
     }
@@ -103,10 +98,7 @@ fn single_rows(case: &[u8], filled: Filled) -> Verdict {
     let length = names + usize::from(counts.roles);
     let signatures = field(case, 3);
     let told = field(case, 8).len() / ROW;
-    for (branch, row) in filled.rows.iter().enumerate() {
-        if told <= branch {
-            break;
-        }
+    for (branch, row) in filled.rows.iter().take(told).enumerate() {
         let end = branch * length + length;
         let Some(signature) = signatures.get(branch * length..end) else {
             return same(What::Length, signatures.len(), end);

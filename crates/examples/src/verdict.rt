@@ -3,7 +3,7 @@ use release::Refusal;
 use std::fmt;
 
 // What an answer tells, and by which a difference is named.
-#[derive(Clone, Copy)]
+#[derive(Clone, Copy, Debug, PartialEq, Eq)]
 pub enum What {
     Fields,
     Accepted,
@@ -42,7 +42,8 @@ impl fmt::Display for What {
     }
 }
 
-#[derive(Clone, Copy)]
+// What differs, with the number that the answer has there and the one that is expected. Bytes are numbers here, too.
+#[derive(Clone, Copy, Debug, PartialEq, Eq)]
 pub struct Difference {
     pub what: What,
     pub got: usize,
@@ -73,6 +74,25 @@ pub(crate) fn same_refusal<R: Refusal>(refusal: R, number: usize, side: usize) -
     same(What::Accepted, 0, usize::from(number == 0))?;
     same(What::Number, usize::from(refusal.number()), number)?;
     same(What::Side, usize::from(refusal.side()), side)
+}
+
+// What a call answers, if it is accepted as expected; none where it is refused as expected. A case has its expected refusal as a number and a
+// side, as vectors outside this repository do: no enum of this repository tells how they count.
+pub(crate) fn same_outcome<A: Drop, R: Refusal>(
+    answer: Result<A, R>,
+    number: usize,
+    side: usize,
+) -> Result<Option<A>, Difference> {
+    match answer {
+        Ok(value) => {
+            same(What::Number, 0, number)?;
+            Ok(Some(value))
+        }
+        Err(refusal) => {
+            same_refusal(refusal, number, side)?;
+            Ok(None)
+        }
+    }
 }
 
 // Compares the bytes at a place of an answer and of what is expected.
