@@ -41,7 +41,8 @@ fill-requires c =
     let built = c.releases-releases.ensures in
     let first = built.terminologies.0 in
     let second = built.terminologies.1 in
-    fits c.releases-releases.result built.counts.0 built.counts.1 (rw first (read.first refl)) (rw second (read.second refl)) (rw (first, second) (both_agree read)) enough (length-take-le a.count a.rows.now enough.rows_lent)
+    fits c.releases-releases.result built.counts.0 built.counts.1 (rw first (read.first refl)) (rw second (read.second refl)) (rw (first, second) (both_agree read)) enough
+    (length-take-le a.count a.rows.now enough.rows_lent)
 
 pub returns : goal.returns
 returns c =
