@@ -4,7 +4,7 @@ use mathlib.Core.Bool.{Bool, true, false, not, true≢false}
 use mathlib.Core.List.{List}
 use Prim.Native.Nat.{ℕ, zero, suc, ◌≤◌, ◌<◌}
 use native.Mathlib.Omega.{arith}
-use borrow.Author.Tests.{ltb-false, ne_eqb}
+use borrow.Author.Tests.{ltb-false}
 use lib.Dec.{ltb}
 use lib.ListN.{length}
 use Rattle.el.specs.Lists.{pick}
@@ -15,7 +15,7 @@ use Rattle.release.specs.declared.refusals.FileRefusal.{FileRefusal}
 use Rattle.release.specs.declared.refusals.FileRefusal.TheVariants.{DefinedConjunct}
 use Rattle.release.specs.declared.table.Row as table
 use Rattle.release.specs.Files.{mark, starts_with, is_version, version_of, width_of, names_of, roles_of, count_of, header_length, first_place, most_names, most_names_of, most_roles}
-use Rattle.release.specs.Files.{header_fault, axioms_fault, axioms_of, conjunct_defined, first_of, fault, accepted}
+use Rattle.release.specs.Files.{header_fault, axioms_fault, axioms_of, conjunct_defined, first_of, fault}
 use Rattle.release.specs.Readings.{counts_in, checked}
 use Rattle.release.specs.Refusals.{file_refusal, answer}
 use Rattle.release.specs.Tables.{Ready, AxiomsRead, Shaped, SomePartDefined, Blank, ReleaseRead, Release}
@@ -119,7 +119,3 @@ module _ {s : List ℕ} {t : List table.Row} where
   pub counts_are : {c : Counts} → ReleaseRead s t (Ok c) → c ≡ counts_in s
   unfolding checked
   counts_are {c} read = (is_accepted 1 (fault s) (counts_in s) c read.answer).1
-
-  pub not_accepted : {e : FileRefusal} → ReleaseRead s t (Err e) → accepted s ≡ false
-  unfolding checked
-  not_accepted {e} read = let z = is_refused 1 (fault s) (counts_in s) (file_refusal e) read.answer in ne_eqb (fault s) 0 (λ w. omega (arith, w, z.1))

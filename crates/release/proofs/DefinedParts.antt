@@ -1,12 +1,16 @@
--- The search for a conjunct that is itself a left name of kind 2: that what it reads is there, and what it keeps as it goes through
--- one name's conjuncts and through the names.
-use mathlib.Core.Path.{◌≡◌}
-use mathlib.Core.Bool.{true}
+-- The search for a conjunct that is itself a left name of kind 2: that what it reads is there, and what it tells of the names.
+use mathlib.Core.Path.{◌≡◌, subst}
+use mathlib.Core.Bool.{Bool, true, false}
 use mathlib.Core.List.{List}
 use Prim.Native.Nat.{ℕ, ◌<◌}
 use native.Mathlib.Omega.{arith}
+use lib.ListN.{length, get_or}
+use Rattle.std.specs.Prelude.{MatchBool}
+use Rattle.std.specs.List.{HoldsAt, AllWithin, range_with_len}
+use Rattle.std.proofs.lemmas.List.FromFn.{length-range_with_len, get_or-range_with_len}
+use Rattle.el.proofs.Tests.{Tells, always, never}
 use Rattle.release.specs.Files.{joins, width_of}
-use Rattle.release.specs.Tables.{kind_at, count_at, part_at, HasRow, HasCount, HasPart, Shaped, Conjunctive, PartDefined}
+use Rattle.release.specs.Tables.{kind_at, count_at, HasRow, HasCount, HasPart, Shaped, Conjunctive, PartDefined, SomePartDefined}
 use Rattle.release.specs.declared.table.Row as table
 use Rattle.release.proofs.Numbers.{step_within}
 
@@ -24,10 +28,19 @@ module _ (n : ℕ) (s : List ℕ) (t : List table.Row) (x : ℕ) (h : Conjunctiv
     inside = omega (arith, step_within (width_of s) i (count_at s t x) l, h.shaped.inside x h.is_name h.is_conjunctive);
   }
 
--- none of the first i conjuncts
-pub record NoneDefined (s : List ℕ) (t : List table.Row) (x i : ℕ) : Type 0 where
-  pub none : (j : ℕ) → j < i → kind_at t (part_at s t x j) ≡ 2 → ⊥
+-- the name x has such a conjunct
+abbrev pub HasPartDefined : List ℕ → List table.Row → ℕ → Type 0
+HasPartDefined s t x = joins (kind_at t x) ≡ true × PartDefined s t x
 
--- no name below x has such a conjunct
-pub record NoName (s : List ℕ) (t : List table.Row) (x : ℕ) : Type 0 where
-  pub none : (y : ℕ) → y < x → joins (kind_at t y) ≡ true × PartDefined s t y → ⊥
+-- the names asked one after the other by `any`
+module _ {n : ℕ} {s : List ℕ} {t : List table.Row} where
+  pub some_told : (r : Bool) → MatchBool r ((k : ℕ) × (k < length (range_with_len 0 n)) × HoldsAt (HasPartDefined s t) (range_with_len 0 n) k)
+      (AllWithin (λ x. HasPartDefined s t x → ⊥) (range_with_len 0 n) 0 (length (range_with_len 0 n))) → Tells r (SomePartDefined n s t)
+  some_told true h =
+      let below : h.0 < n = omega (arith, h.1, length-range_with_len 0 n) in
+      let at : get_or (range_with_len 0 n) h.0 0 ≡ h.0 = omega (arith, get_or-range_with_len 0 n h.0 0 below) in
+      let here : HasPartDefined s t h.0 = subst (HasPartDefined s t) at (h.2 0) in
+      always (record { left = h.0; is_name = below; is_conjunctive = here.0; part = here.1 })
+  some_told false h = never (λ z.
+      let at : z.left ≡ get_or (range_with_len 0 n) z.left 0 = omega (arith, get_or-range_with_len 0 n z.left 0 z.is_name) in
+      h z.left 0 (omega arith) (omega (arith, z.is_name, length-range_with_len 0 n)) (subst (HasPartDefined s t) at (z.is_conjunctive, z.part)))

@@ -9,6 +9,8 @@ pub mod Sound
 pub mod Rows
 pub mod Scan
 pub mod DefinedParts
+pub mod PartWalks
+pub mod PartTests
 pub mod Decoding
 pub mod NormalForm
 pub mod Checks

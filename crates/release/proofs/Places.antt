@@ -3,22 +3,26 @@ use mathlib.Core.Path.{◌≡◌, refl, sym, ap, ◌∙◌}
 use mathlib.Core.Bool.{Bool, true, false, false≢true}
 use mathlib.Core.Logic.{◌⊎◌, inl, inr}
 use mathlib.Core.List.{List}
-use Prim.Native.Nat.{ℕ, zero, suc, ◌+◌, ◌*◌, ◌-◌, ◌≤◌, ◌<◌}
+use Prim.Native.Nat.{ℕ, zero, suc, ◌+◌, ◌-◌, ◌≤◌, ◌<◌}
 use native.Mathlib.Omega.{arith}
 use borrow.Author.Tests.{eq-eqb, ne_eqb, eqb-true}
 use lib.Dec.{eqb}
 use lib.ListN.{length, get_or, take, drop}
+use Rattle.std.specs.Prelude.{Err}
 use denote.Ref.{Bor}
 use Rattle.el.specs.Lists.{pick}
 use Rattle.el.proofs.Tests.{which}
+use Rattle.release.specs.declared.refusals.FileRefusal.{FileRefusal}
 use Rattle.release.specs.declared.show.Place.{Place}
 use Rattle.release.specs.declared.table.Row as table
-use Rattle.release.specs.Files.{number, width_of, first_place, names_of, roles_of, count_of, joins, axiom_length, axiom_fault, axioms_fault, restricts, most_conjuncts, fault, accepted}
-use Rattle.release.specs.Tables.{kind_at, tail_at, count_at, Stands, here, there, blank, of_axiom, HasRow, HasCount, Release}
+use Rattle.release.specs.Files.{number, width_of, first_place, names_of, roles_of, count_of, joins, axiom_length, axiom_fault, axioms_fault, restricts, fault, accepted}
+use Rattle.release.specs.Tables.{kind_at, tail_at, Stands, here, there, blank, of_axiom, HasRow, Release, ReleaseRead}
+use Rattle.release.specs.Readings.{counts_in, checked}
+use Rattle.release.specs.Refusals.{Numbers, answer, file_refusal}
 use Rattle.release.specs.Shown.{nowhere, place_from, place_in, shown_place, holder}
-use Rattle.release.proofs.Numbers.{is_width, few_bytes}
+use Rattle.release.proofs.Refusing.{is_refused}
 use Rattle.release.proofs.Sound.{axiom_sound, tail_within, tail_kind}
-use Rattle.release.proofs.Decoding.{holds, kind_is, count_is, conjuncts, both_none}
+use Rattle.release.proofs.Decoding.{holds, kind_is, both_none}
 use Rattle.release.proofs.Linked.{no_axiom_fault, sound_at, ranges, rises}
 
 later_none : (s : List ℕ) (c least p : ℕ) → axioms_fault (width_of s) (names_of s) (roles_of s) (suc c) least s p ≡ 0
@@ -106,31 +110,26 @@ module _ {s : List ℕ} {t : List table.Row} (r : Release s t) (side x : ℕ) wh
       pub tail_far : 1 + width_of s ≤ tail_at t x
       tail_far = rw tail_is (omega arith)
 
-      pub place_count : joins (kind_at t x) ≡ true → HasCount s t x
-      place_count j = record { row = place_row.row; inside = omega (arith, (ranges r).inside x small j) }
-
-      pub count_few : joins (kind_at t x) ≡ true → width_of s * count_at s t x ≤ 2 * most_conjuncts
-      count_few j =
-          let k = conjuncts (roles_of s) r.decoded (no_axiom_fault s r.accepted) found.stands (ap (λ (y : ℕ). joins (kind_at t y)) found.is ∙ j) in
-          rw (ap (count_at s t) (sym found.is) ∙ count_is r.decoded found.stands) (few_bytes (is_width s) k.few)
-
-      place_as : (start long : ℕ) → start ≡ found.at → long ≡ axiom_length (width_of s) s found.at → record { side = side; start = start; length = long } ≡ place_in side s x
-      place_as start long e f = rw (e, f) (sym place_is)
-
+      -- the place that its row tells: before the tail there are the kind and the left name
       module _ (w tail : ℕ) (width_is : w ≡ width_of s) (e : tail ≡ tail_at t x) where
         start_is : tail - 1 - w ≡ found.at
         start_is = omega (arith, e, width_is, tail_is)
 
-        pub place_joined : joins (kind_at t x) ≡ true → (count : ℕ) → count ≡ count_at s t x → record { side = side; start = tail - 1 - w; length = w + 1 + (1 + w * count) } ≡ place_in side s x
-        place_joined j count f =
-            let k : joins (get_or s (found.at + width_of s) 0) ≡ true = rw own_kind at j in
-            let c : count ≡ get_or s (found.at + width_of s + 1) 0 = f ∙ (ap (count_at s t) (sym found.is) ∙ count_is r.decoded found.stands) in
-            place_as (tail - 1 - w) (w + 1 + (1 + w * count)) start_is (rw (k, width_is, c))
+        pub place_inside : tail - 1 - w + axiom_length w s (tail - 1 - w) ≤ length s
+        place_inside =
+            let within : (place_in side s x).start + (place_in side s x).length ≤ length s = place_within s side (count_of s) 0 (first_place s) x (no_axiom_fault s r.accepted) in
+            rw (start_is, width_is) (rw place_is at within)
 
-        pub place_restricted : joins (kind_at t x) ≡ false → record { side = side; start = tail - 1 - w; length = w + 1 + (1 + w) } ≡ place_in side s x
-        place_restricted j =
-            let k : joins (get_or s (found.at + width_of s) 0) ≡ false = rw own_kind at j in
-            place_as (tail - 1 - w) (w + 1 + (1 + w)) start_is (rw (k, width_is))
+        pub place_told : (long : ℕ) → long ≡ axiom_length w s (tail - 1 - w) → record { side = side; start = tail - 1 - w; length = long } ≡ place_in side s x
+        place_told long f = rw (f, start_is, width_is) (sym place_is)
+
+-- a release that is refused is not accepted
+pub refused_by_lem : (f : ℕ) (s : List ℕ) (k : Numbers) → answer 1 f (counts_in s) ≡ Err k → eqb f 0 ≡ false
+refused_by_lem f s k h = ne_eqb f 0 (λ e. omega (arith, e, (is_refused 1 f (counts_in s) k (sym h)).1))
+
+pub not_accepted : {s : List ℕ} {t : List table.Row} {r : FileRefusal} → ReleaseRead s t (Err r) → accepted s ≡ false
+unfolding checked
+not_accepted {s} {r = r} read = refused_by_lem (fault s) s (file_refusal r) (sym read.answer)
 
 module _ (s t : List ℕ) (side x : ℕ) where
   pub shown_not_first : accepted s ≡ false → nowhere ≡ shown_place s t side x

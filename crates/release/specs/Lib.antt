@@ -7,3 +7,4 @@ pub mod Kinds
 pub mod Versions
 pub mod Entries
 pub mod Tables
+pub mod Parts

@@ -1,9 +1,10 @@
 -- A release by name, decoded into a table of rows: kind, role, filler, place of the tail in the file.
 --   kind_at t x, role_at t x, filler_at t x, tail_at t x     the numbers in the row of the name x in the table t; kind 0: no axiom
 --   count_at s t x, part_at s t x i                        the number of x's conjuncts, and the conjunct i, read from the file s
+--   SuccessorOf t x r o                                 o is the filler of x's axiom where that is a restriction with the role r, else none
 --   Stands c s p q                                       q is the place of one of the c axioms from place p of s on
 --   Decoded n c s t                                      t is the table of the c axioms of s, which has n names
-use Rattle.std.specs.Prelude.{◌≡◌, true, false, List, ℕ, suc, ◌+◌, ◌*◌, ◌≤◌, ◌<◌, length, get_or, None, Result}
+use Rattle.std.specs.Prelude.{◌≡◌, true, false, List, ℕ, suc, ◌+◌, ◌*◌, ◌≤◌, ◌<◌, length, get_or, Option, None, MatchOption, Result}
 use Rattle.el.specs.Lists.{In}
 use Rattle.el.specs.Axioms.{Axiom, is_conjunction, parts_of, role_of, filler_of}
 use Rattle.release.specs.Files.{number, numbers, width_of, header_length, first_place, most_names, most_roles, names_of, count_of, joins, restricts, axiom_length, axioms_fault}
@@ -41,6 +42,18 @@ count_at s t x = get_or s (tail_at t x) 0
 
 unfoldable pub part_at : List ℕ → List table.Row → ℕ → ℕ → ℕ
 part_at s t x i = number (width_of s) s (tail_at t x + 1 + width_of s * i)
+
+-- the axiom of x is a restriction with the role r and the filler y: r leads from x to y; it leads to none
+pub record HasSuccessor (t : List table.Row) (x r y : ℕ) : Type 0 where
+  pub role : role_at t x ≡ r
+  pub is_restriction : restricts (kind_at t x) ≡ true
+  pub filler : filler_at t x ≡ y
+
+pub record NoSuccessor (t : List table.Row) (x r : ℕ) : Type 0 where
+  pub none : (y : ℕ) → HasSuccessor t x r y → ⊥
+
+abbrev pub SuccessorOf : List table.Row → ℕ → ℕ → Option ℕ → Type 0
+SuccessorOf t x r o = MatchOption o (NoSuccessor t x r) (HasSuccessor t x r)
 
 pub data Stands : ℕ → List ℕ → ℕ → ℕ → Type 0 where
   here : {c : ℕ} {s : List ℕ} {p : ℕ} → Stands (suc c) s p p

@@ -12,14 +12,14 @@ use crate::refusals::FileRefusal;
 use crate::{ConceptName, Counts, Release, RoleName};
 
 // A place in a file.
-#[derive(Clone, Copy)]
+#[derive(Clone, Copy, Debug, PartialEq, Eq)]
 pub struct Cursor {
     pub at: usize,
 }
 
-// An axiom's numbers, as the table by name holds them. The role and the filler, a node, are 0 for a conjunction; the tail is
-// the place past the kind byte.
-#[derive(Clone, Copy)]
+// An axiom's numbers, as a row of the table holds them: the role and the filler, a node, are 0 for a conjunction. The tail is the place past the
+// kind byte.
+#[derive(Clone, Copy, Debug, PartialEq, Eq)]
 pub struct Entry {
     pub left: ConceptName,
     pub kind: Kind,
@@ -28,148 +28,147 @@ pub struct Entry {
     pub tail: usize,
 }
 
-// Checks `count` rising names from `at` on.
-fn check_parts(
-    file: &[u8],
-    version: Version,
-    at: usize,
-    count: usize,
-    n: usize,
-) -> Result<(), FileRefusal>
-    requires { at ≤ length file.now }
-    ensures { told file_refusal result ≡ answer 1 (parts_fault (width version) n count 0 file.now at) tt }
-{
-    // The place stands beside the count: the file may end within a name, which `chunks_exact` would leave out without a refusal.
-    let mut p = at;
-    let mut least: usize = 0;
-    for _part in 0..count {
-        if file.len() < p + version.width() {
+// A file that is read: its bytes, its version and the counts of its header.
+#[derive(Clone, Copy, Debug, PartialEq, Eq)]
+pub struct Source<'a> {
+    pub file: &'a [u8],
+    pub version: Version,
+    pub counts: Counts,
+}
+
+impl<'a> Source<'a> {
+    // Checks `count` rising names from `at` on.
+    fn check_parts(&self, at: usize, count: usize) -> Result<(), FileRefusal>
+        requires { at ≤ length self.now.file.now }
+        ensures { told file_refusal result ≡ answer 1 (parts_fault (width self.now.version) self.now.counts.names count 0 self.now.file.now at) tt }
+    {
+        // The place stands beside the count: the file may end within a name, which `chunks_exact` would leave out without a refusal.
+        let mut place = at;
+        let mut least: usize = 0;
+        for _part in 0..count {
+            if self.file.len() < place + self.version.width() {
+                return Err(FileRefusal::ShortAxiom);
+            }
+            let name = self.version.number(self.file, place);
+            if self.counts.names <= name {
+                return Err(FileRefusal::WrongName);
+            }
+            if name < least {
+                return Err(FileRefusal::ConjunctsNotRising);
+            }
+            least = name + 1;
+            place += self.version.width();
+        }
+        Ok(())
+    }
+
+    // The tail of a conjunction.
+    fn read_conjunction(
+        &self,
+        tail: usize,
+        left: usize,
+        kind: Kind,
+    ) -> Result<(Entry, Cursor), FileRefusal>
+        requires inside { tail ≤ length self.now.file.now }
+        requires kind { joins (kind_number kind) ≡ true }
+        ensures { told file_refusal result
+            ≡ tail_reading (width self.now.version) self.now.counts.names self.now.counts.roles left kind self.now.file.now tail }
+    {
+        if self.file.len() <= tail {
             return Err(FileRefusal::ShortAxiom);
         }
-        let name = version.number(file, p);
-        if n <= name {
+        let count = usize::from(self.file[tail]);
+        if Release::CONJUNCTS < count {
+            return Err(FileRefusal::ManyConjuncts);
+        }
+        self.check_parts(tail + 1, count)?;
+        let entry = Entry {
+            left: ConceptName(left),
+            kind,
+            role: RoleName(0),
+            filler: 0,
+            tail,
+        };
+        let next = Cursor {
+            at: tail + (1 + self.version.width() * count),
+        };
+        Ok((entry, next))
+    }
+
+    // The node of a filler's number: ⊤ is n.
+    fn filler_node(&self, filler: usize) -> usize
+        ensures { result ≡ node_number self.now.counts.names (filler_node (width self.now.version) filler) }
+    {
+        if filler == self.version.top() {
+            return self.counts.names;
+        }
+        filler
+    }
+
+    // The tail of a restriction.
+    fn read_restriction(
+        &self,
+        tail: usize,
+        left: usize,
+        kind: Kind,
+    ) -> Result<(Entry, Cursor), FileRefusal>
+        requires inside { tail ≤ length self.now.file.now }
+        requires kind { restricts (kind_number kind) ≡ true }
+        ensures { told file_refusal result
+            ≡ tail_reading (width self.now.version) self.now.counts.names self.now.counts.roles left kind self.now.file.now tail }
+    {
+        if self.file.len() <= tail {
+            return Err(FileRefusal::ShortAxiom);
+        }
+        let role = usize::from(self.file[tail]);
+        if self.counts.roles <= role {
+            return Err(FileRefusal::WrongRole);
+        }
+        let next = tail + (1 + self.version.width());
+        if self.file.len() < next {
+            return Err(FileRefusal::ShortAxiom);
+        }
+        let filler = self.version.number(self.file, tail + 1);
+        if self.counts.names <= filler && filler != self.version.top() {
             return Err(FileRefusal::WrongName);
         }
-        if name < least {
-            return Err(FileRefusal::ConjunctsNotRising);
+        let entry = Entry {
+            left: ConceptName(left),
+            kind,
+            role: RoleName(role),
+            filler: self.filler_node(filler),
+            tail,
+        };
+        Ok((entry, Cursor { at: next }))
+    }
+
+    // The axiom at `at`, whose left name is at least `least`.
+    pub(crate) fn read_axiom(&self, at: usize, least: usize) -> Result<(Entry, Cursor), FileRefusal>
+        requires { at ≤ length self.now.file.now }
+        ensures { told file_refusal result ≡ reading_at (width self.now.version) self.now.counts.names self.now.counts.roles least self.now.file.now at }
+    {
+        let after = at + self.version.width();
+        if self.file.len() < after {
+            return Err(FileRefusal::ShortAxiom);
         }
-        least = name + 1;
-        p += version.width();
-    }
-    Ok(())
-}
-
-// The tail of a conjunction.
-fn read_conjunction(
-    file: &[u8],
-    version: Version,
-    tail: usize,
-    left: usize,
-    kind: Kind,
-    counts: Counts,
-) -> Result<(Entry, Cursor), FileRefusal>
-    requires inside { tail ≤ length file.now }
-    requires kind { joins (kind_number kind) ≡ true }
-    ensures { told file_refusal result ≡ tail_reading (width version) counts.names counts.roles left kind file.now tail }
-{
-    if file.len() <= tail {
-        return Err(FileRefusal::ShortAxiom);
-    }
-    let count = usize::from(file[tail]);
-    if Release::CONJUNCTS < count {
-        return Err(FileRefusal::ManyConjuncts);
-    }
-    check_parts(file, version, tail + 1, count, counts.names)?;
-    let entry = Entry {
-        left: ConceptName(left),
-        kind,
-        role: RoleName(0),
-        filler: 0,
-        tail,
-    };
-    let next = Cursor {
-        at: tail + (1 + version.width() * count),
-    };
-    Ok((entry, next))
-}
-
-// The node of a filler's number: ⊤ is n.
-fn filler_node(filler: usize, version: Version, n: usize) -> usize
-    ensures { result ≡ node_number n (filler_node (width version) filler) }
-{
-    if filler == version.top() { n } else { filler }
-}
-
-// The tail of a restriction.
-fn read_restriction(
-    file: &[u8],
-    version: Version,
-    tail: usize,
-    left: usize,
-    kind: Kind,
-    counts: Counts,
-) -> Result<(Entry, Cursor), FileRefusal>
-    requires inside { tail ≤ length file.now }
-    requires kind { restricts (kind_number kind) ≡ true }
-    ensures { told file_refusal result ≡ tail_reading (width version) counts.names counts.roles left kind file.now tail }
-{
-    if file.len() <= tail {
-        return Err(FileRefusal::ShortAxiom);
-    }
-    let role = usize::from(file[tail]);
-    if counts.roles <= role {
-        return Err(FileRefusal::WrongRole);
-    }
-    let next = tail + (1 + version.width());
-    if file.len() < next {
-        return Err(FileRefusal::ShortAxiom);
-    }
-    let filler = version.number(file, tail + 1);
-    if counts.names <= filler && filler != version.top() {
-        return Err(FileRefusal::WrongName);
-    }
-    let entry = Entry {
-        left: ConceptName(left),
-        kind,
-        role: RoleName(role),
-        filler: filler_node(filler, version, counts.names),
-        tail,
-    };
-    Ok((entry, Cursor { at: next }))
-}
-
-// The axiom at `at`, whose left name is at least `least`.
-pub fn read_axiom(
-    file: &[u8],
-    version: Version,
-    at: usize,
-    counts: Counts,
-    least: usize,
-) -> Result<(Entry, Cursor), FileRefusal>
-    requires { at ≤ length file.now }
-    ensures { told file_refusal result ≡ reading_at (width version) counts.names counts.roles least file.now at }
-{
-    let after = at + version.width();
-    if file.len() < after {
-        return Err(FileRefusal::ShortAxiom);
-    }
-    let left = version.number(file, at);
-    if counts.names <= left {
-        return Err(FileRefusal::WrongName);
-    }
-    if left < least {
-        return Err(FileRefusal::LeftNamesNotRising);
-    }
-    if file.len() <= after {
-        return Err(FileRefusal::ShortAxiom);
-    }
-    let kind = Kind::try_from(file[after])?;
-    match kind {
-        Kind::PrimitiveConjunction | Kind::DefinedConjunction => {
-            read_conjunction(file, version, after + 1, left, kind, counts)
+        let left = self.version.number(self.file, at);
+        if self.counts.names <= left {
+            return Err(FileRefusal::WrongName);
         }
-        Kind::PrimitiveRestriction | Kind::DefinedRestriction => {
-            read_restriction(file, version, after + 1, left, kind, counts)
+        if left < least {
+            return Err(FileRefusal::LeftNamesNotRising);
+        }
+        if self.file.len() <= after {
+            return Err(FileRefusal::ShortAxiom);
+        }
+        let kind = Kind::try_from(self.file[after])?;
+        match kind {
+            Kind::PrimitiveConjunction | Kind::DefinedConjunction => {
+                self.read_conjunction(after + 1, left, kind)
+            }
+            Kind::PrimitiveRestriction | Kind::DefinedRestriction => {
+                self.read_restriction(after + 1, left, kind)
+            }
         }
     }
 }

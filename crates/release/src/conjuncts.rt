@@ -5,29 +5,19 @@ ghost use Rattle.release.specs.Tables.{Shaped, Conjunctive, PartDefined, SomePar
 use crate::kinds::Kind;
 use crate::terminology::Terminology;
 
-// Whether a conjunct of x is itself defined by a conjunction.
-fn part_defined(terminology: &Terminology, n: usize, x: usize) -> bool
-    requires { Conjunctive n terminology.now.file.now terminology.now.table.now x }
-    ensures { Tells result (PartDefined terminology.now.file.now terminology.now.table.now x) }
+// Whether a conjunct of the name is itself defined by a conjunction.
+fn part_defined(terminology: &Terminology, names: usize, name: usize) -> bool
+    requires { Conjunctive names terminology.now.file.now terminology.now.table.now name }
+    ensures { Tells result (PartDefined terminology.now.file.now terminology.now.table.now name) }
 {
-    for i in 0..terminology.count(x) {
-        let part = terminology.part(x, i);
-        if terminology.has_kind(part, Kind::DefinedConjunction) {
-            return true;
-        }
-    }
-    false
+    terminology.parts(name).any(|part| terminology.has_kind(part, Kind::DefinedConjunction))
 }
 
 // Whether some conjunct is itself defined by a conjunction: each conjunct is looked up once in the table.
-pub fn some_part_defined(terminology: &Terminology, n: usize) -> bool
-    requires { Shaped n terminology.now.file.now terminology.now.table.now }
-    ensures { Tells result (SomePartDefined n terminology.now.file.now terminology.now.table.now) }
+pub fn some_part_defined(terminology: &Terminology, names: usize) -> bool
+    requires { Shaped names terminology.now.file.now terminology.now.table.now }
+    ensures { Tells result (SomePartDefined names terminology.now.file.now terminology.now.table.now) }
 {
-    for x in 0..n {
-        if terminology.is_conjunction(x) && part_defined(terminology, n, x) {
-            return true;
-        }
-    }
-    false
+    (0..names).any(|name| terminology.is_conjunction(name)
+        && part_defined(terminology, names, name))
 }

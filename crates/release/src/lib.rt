@@ -6,6 +6,7 @@ ghost use Rattle.release.specs.Readings.{checked};
 ghost use Rattle.release.specs.Refusals.{file_refusal, told};
 ghost use Rattle.release.specs.Tables.{Blank, ReleaseRead};
 
+pub use crate::axiom::Source;
 use crate::conjuncts::some_part_defined;
 use crate::header::read_header;
 pub use crate::kinds::Kind;
@@ -18,6 +19,7 @@ mod conjuncts;
 pub mod header;
 mod kinds;
 pub mod number;
+pub mod parts;
 mod refusals;
 pub mod show;
 pub mod table;
@@ -32,7 +34,7 @@ pub struct RoleName(pub usize);
 
 // What belongs to release files as such: the mark at their start, and the limits of their numbers. It has no value: constants of the
 // module would be no plainer, since a caller reads `Release::NAMES`.
-#[derive(Clone, Copy)]
+#[derive(Clone, Copy, Debug, PartialEq, Eq)]
 pub struct Release {}
 
 impl Release {

@@ -1,10 +1,11 @@
 // The versions of the file, and the numbers that stand in it by its version.
 ghost use Rattle.std.specs.Prelude.{◌≡◌, ◌+◌, ◌≤◌, ◌<◌, length};
-ghost use Rattle.release.specs.Files.{number, top_number, width_of, names_of, roles_of, count_of, header_length, most_names_of};
+ghost use Rattle.release.specs.Files.{number, top_number, width_of, names_of, roles_of, count_of, header_length, most_names_of, axiom_length};
 ghost use Rattle.release.specs.Versions.{width, HasVersionNumber};
 ghost use Rattle.release.specs.Tables.{HasHeader};
 
 use crate::Release;
+use crate::kinds::Kind;
 use crate::refusals::FileRefusal;
 
 // A name takes one byte in version 1 and two in version 2.
@@ -72,6 +73,19 @@ impl Version {
             Version::One => usize::from(file[at]),
             Version::Two => usize::from(u16::from_le_bytes([file[at], file[at + 1]])),
         }
+    }
+
+    // The bytes that the axiom at a place takes: its left name, its kind, and a byte with the conjuncts that it counts or with a filler.
+    pub fn axiom_length(self, file: &[u8], at: usize) -> usize
+        requires { at + axiom_length (width self) file.now at ≤ length file.now }
+        ensures { result ≡ axiom_length (width self) file.now at }
+    {
+        let width = self.width();
+        let after = at + width;
+        if Kind::try_from(file[after]).is_ok_and(Kind::is_conjunction) {
+            return width + 1 + (1 + width * usize::from(file[after + 1]));
+        }
+        width + 1 + (1 + width)
     }
 
     // How many names a header says; below, how many roles and how many axioms.

@@ -9,7 +9,7 @@ use crate::table::{Row, Table};
 use crate::terminology::Terminology;
 use crate::{ConceptName, read_release};
 
-// A part of one of two files: the file's side, where the part starts and how long it is.
+// A part of one of two files: the file's side, as C is told it, where the part starts and how long it is.
 #[derive(Clone, Copy, Debug, PartialEq, Eq)]
 pub struct Place {
     pub side: u8,
@@ -35,20 +35,13 @@ fn place_in(terminology: &Terminology, side: u8, names: usize, name: usize) -> O
     if names <= name {
         return None;
     }
-    let kind = terminology.kind(name)?;
-    let width = Version::of(terminology.file).width();
-    let start = terminology.tail(name) - 1 - width;
-    if kind.is_conjunction() {
-        return Some(Place {
-            side,
-            start,
-            length: width + 1 + (1 + width * terminology.count(name)),
-        });
-    }
+    terminology.kind(name)?;
+    let version = Version::of(terminology.file);
+    let start = terminology.tail(name) - 1 - version.width();
     Some(Place {
         side,
         start,
-        length: width + 1 + (1 + width),
+        length: version.axiom_length(terminology.file, start),
     })
 }
 

@@ -1,7 +1,7 @@
 // The table by name, and the axioms of a file read into it.
 ghost use Rattle.release.specs.Tables.{Fits, Put, Ready, AxiomsRead};
 
-use crate::axiom::{Entry, read_axiom};
+use crate::axiom::{Entry, Source};
 use crate::kinds::Kind;
 use crate::number::Version;
 use crate::refusals::FileRefusal;
@@ -9,14 +9,15 @@ use crate::{Counts, Release};
 
 // A table has one row for each name that there can be. Its owners keep it as a local array of this length, since there is no heap; the
 // constant has a type of its own so that they read `Table::LENGTH`, which a constant of the module would not make plainer.
-#[derive(Clone, Copy)]
+#[derive(Clone, Copy, Debug, PartialEq, Eq)]
 pub struct Table {}
 
 impl Table {
     pub const LENGTH: usize = Release::NAMES;
 }
 
-// What a name's axiom says, as far as it has one: its kind, its role, its filler as a node and the place of its tail in the file.
+// What a name's axiom says, as far as it has one: its kind, its role, its filler as a node and the place of its tail in the file. The role and
+// the filler are 0 where there is none, and stand beside the kind: the searches look at a name's role before its kind, and a row is 8 bytes.
 #[derive(Clone, Copy, Debug, PartialEq, Eq)]
 pub struct Row {
     pub kind: Option<Kind>,
@@ -54,12 +55,17 @@ pub fn read_axioms(file: &[u8], table: &mut [Row], counts: Counts) -> Result<(),
     ensures { AxiomsRead counts.names counts.roles counts.axioms file.now table.new result }
 {
     let version = Version::of(file);
+    let source = Source {
+        file,
+        version,
+        counts,
+    };
     // The place stands beside the count: where the next axiom starts is known only when this one is read, so no iterator gives it.
     let mut at = version.header_length();
     let mut least: usize = 0;
     for _read in 0..counts.axioms {
-        // by `let .. else` and not by `?`: what the reader yields is looked for here (docs/DECISIONS.md, "Forms")
-        let read = read_axiom(file, version, at, counts, least);
+        // by `let .. else` and not by `?`: the project asked for this form here (docs/DECISIONS.md, "Forms")
+        let read = source.read_axiom(at, least);
         let Ok((entry, next)) = read else {
             return read.and(Ok(()));
         };

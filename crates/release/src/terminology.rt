@@ -2,13 +2,15 @@
 ghost use Rattle.std.specs.Prelude.{◌≡◌, ◌==◌};
 ghost use Rattle.release.specs.Files.{joins, restricts};
 ghost use Rattle.release.specs.Kinds.{kind_number, numbered};
-ghost use Rattle.release.specs.Tables.{kind_at, role_at, filler_at, tail_at, count_at, part_at, HasRow, HasCount, HasPart};
+ghost use Rattle.release.specs.Parts.{HasParts, PartsOf};
+ghost use Rattle.release.specs.Tables.{kind_at, role_at, filler_at, tail_at, count_at, part_at, SuccessorOf, HasRow, HasCount, HasPart};
 
 use crate::kinds::Kind;
 use crate::number::Version;
+use crate::parts::Parts;
 use crate::table::Row;
 
-#[derive(Clone, Copy)]
+#[derive(Clone, Copy, Debug, PartialEq, Eq)]
 pub struct Terminology<'a> {
     pub file: &'a [u8],
     pub table: &'a [Row],
@@ -16,73 +18,98 @@ pub struct Terminology<'a> {
 
 impl<'a> Terminology<'a> {
     // The kind of a name's axiom, if the name has one.
-    pub fn kind(&self, x: usize) -> Option<Kind>
-        requires { HasRow self.now.table.now x }
-        ensures { numbered result ≡ kind_at self.now.table.now x }
+    pub fn kind(&self, name: usize) -> Option<Kind>
+        requires { HasRow self.now.table.now name }
+        ensures { numbered result ≡ kind_at self.now.table.now name }
     {
-        self.table[x].kind
+        self.table[name].kind
     }
 
-    pub fn has_kind(&self, x: usize, kind: Kind) -> bool
-        requires { HasRow self.now.table.now x }
-        ensures { result ≡ (kind_at self.now.table.now x == kind_number kind) }
+    pub fn has_kind(&self, name: usize, kind: Kind) -> bool
+        requires { HasRow self.now.table.now name }
+        ensures { result ≡ (kind_at self.now.table.now name == kind_number kind) }
     {
-        self.kind(x) == Some(kind)
+        self.kind(name) == Some(kind)
     }
 
     // Whether a name's axiom is a conjunction B1 ⊓ .. ⊓ Bk.
-    pub fn is_conjunction(&self, x: usize) -> bool
-        requires { HasRow self.now.table.now x }
-        ensures { result ≡ joins (kind_at self.now.table.now x) }
+    pub fn is_conjunction(&self, name: usize) -> bool
+        requires { HasRow self.now.table.now name }
+        ensures { result ≡ joins (kind_at self.now.table.now name) }
     {
-        self.kind(x).is_some_and(Kind::is_conjunction)
+        self.kind(name).is_some_and(Kind::is_conjunction)
     }
 
     // Whether a name's axiom is a restriction ∃r.B.
-    pub fn is_restriction(&self, x: usize) -> bool
-        requires { HasRow self.now.table.now x }
-        ensures { result ≡ restricts (kind_at self.now.table.now x) }
+    pub fn is_restriction(&self, name: usize) -> bool
+        requires { HasRow self.now.table.now name }
+        ensures { result ≡ restricts (kind_at self.now.table.now name) }
     {
-        self.kind(x).is_some_and(Kind::is_restriction)
+        self.kind(name).is_some_and(Kind::is_restriction)
     }
 
-    pub fn role(&self, x: usize) -> usize
-        requires { HasRow self.now.table.now x }
-        ensures { result ≡ role_at self.now.table.now x }
+    pub fn role(&self, name: usize) -> usize
+        requires { HasRow self.now.table.now name }
+        ensures { result ≡ role_at self.now.table.now name }
     {
-        usize::from(self.table[x].role)
+        usize::from(self.table[name].role)
     }
 
     // The filler as a node: ⊤ is n.
-    pub fn filler(&self, x: usize) -> usize
-        requires { HasRow self.now.table.now x }
-        ensures { result ≡ filler_at self.now.table.now x }
+    pub fn filler(&self, name: usize) -> usize
+        requires { HasRow self.now.table.now name }
+        ensures { result ≡ filler_at self.now.table.now name }
     {
-        usize::from(self.table[x].filler)
+        usize::from(self.table[name].filler)
+    }
+
+    // The filler of a name's axiom where that is a restriction with the role. The role is looked at first, since most names have another.
+    pub fn successor(&self, name: usize, role: usize) -> Option<usize>
+        requires { HasRow self.now.table.now name }
+        ensures { SuccessorOf self.now.table.now name role result }
+    {
+        if self.role(name) == role && self.is_restriction(name) {
+            return Some(self.filler(name));
+        }
+        None
     }
 
     // The place of the tail in the file.
-    pub fn tail(&self, x: usize) -> usize
-        requires { HasRow self.now.table.now x }
-        ensures { result ≡ tail_at self.now.table.now x }
+    pub fn tail(&self, name: usize) -> usize
+        requires { HasRow self.now.table.now name }
+        ensures { result ≡ tail_at self.now.table.now name }
     {
-        usize::from(self.table[x].tail)
+        usize::from(self.table[name].tail)
     }
 
     // The number of conjuncts of a conjunction.
-    pub fn count(&self, x: usize) -> usize
-        requires { HasCount self.now.file.now self.now.table.now x }
-        ensures { result ≡ count_at self.now.file.now self.now.table.now x }
+    pub fn count(&self, name: usize) -> usize
+        requires { HasCount self.now.file.now self.now.table.now name }
+        ensures { result ≡ count_at self.now.file.now self.now.table.now name }
     {
-        usize::from(self.file[self.tail(x)])
+        usize::from(self.file[self.tail(name)])
     }
 
-    // Conjunct i of a conjunction: it stands i names after the byte of their count.
-    pub fn part(&self, x: usize, i: usize) -> usize
-        requires { HasPart self.now.file.now self.now.table.now x i }
-        ensures { result ≡ part_at self.now.file.now self.now.table.now x i }
+    // A conjunct of a conjunction: it stands `index` names after the byte of their count.
+    pub fn part(&self, name: usize, index: usize) -> usize
+        requires { HasPart self.now.file.now self.now.table.now name index }
+        ensures { result ≡ part_at self.now.file.now self.now.table.now name index }
     {
         let version = Version::of(self.file);
-        version.number(self.file, self.tail(x) + 1 + version.width() * i)
+        version.number(self.file, self.tail(name) + 1 + version.width() * index)
+    }
+
+    // The conjuncts of a conjunction, one after the other: the first of them stands behind the byte of their count.
+    pub fn parts(&self, name: usize) -> Parts<'a>
+        requires { HasParts self.now.file.now self.now.table.now name }
+        ensures { PartsOf self.now.file.now self.now.table.now name 0 result }
+    {
+        Parts {
+            file: self.file,
+            version: Version::of(self.file),
+            first: self.tail(name) + 1,
+            count: self.count(name),
+            next: 0,
+        }
     }
 }

@@ -1,6 +1,6 @@
 -- Building a signature: what each test shows of the step, and that a signature built from the empty one can be lent.
 --   built_accepted     a built signature's lent bytes are an accepted signature
-use mathlib.Core.Path.{◌≡◌, refl, sym, ap, ◌∙◌}
+use mathlib.Core.Path.{◌≡◌, refl, ◌∙◌}
 use mathlib.Core.Bool.{Bool, true, false}
 use mathlib.Core.List.{List, [], ◌∷◌}
 use Prim.Native.Nat.{ℕ, zero, suc, ◌+◌, ◌≤◌}
@@ -8,17 +8,12 @@ use native.Mathlib.Omega.{arith}
 use borrow.Author.Tests.{eq-eqb}
 use lib.Dec.{ltb}
 use lib.ListN.{length, take, set, length-set, length-replicate}
-use lib.Seq.{set_out, length-take-le}
+use lib.Seq.{length-take-le}
 use Rattle.el.specs.Lists.{pick, all}
 use Rattle.signature.specs.declared.Signature.{Signature}
 use Rattle.signature.specs.Bytes.{is_bit, signature_fault}
 use Rattle.signature.specs.Building.{most_bytes, empty_signature}
 use Rattle.signature.specs.Building.{chosen, with_name, with_role, Built, lent}
-
--- past the bytes a store changes nothing
-pub chosen_past : (g : Signature) (place : ℕ) → length g.bytes ≤ place → g ≡ chosen g place
-chosen_past g place past =
-    ap (λ (s : List ℕ). record { names = g.names; roles = g.roles; bytes = s }) (sym (set_out _ _ _ past))
 
 pub empty_built : (n m : ℕ) → Built (empty_signature n m)
 unfolding empty_signature

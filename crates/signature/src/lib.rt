@@ -4,9 +4,12 @@
 ghost use Rattle.std.specs.Prelude.{◌≡◌};
 ghost use Rattle.release.specs.Refusals.{told, answer};
 ghost use Rattle.signature.specs.Bytes.{signature_fault, signature_refusal};
-ghost use Rattle.signature.specs.Building.{empty_signature, with_name, with_role, byte_at};
+ghost use Rattle.signature.specs.Building.{empty_signature, chosen, with_name, with_role, byte_at};
 
+pub use crate::lent::LentSignature;
 use release::{ConceptName, Refusal, Release, RoleName};
+
+mod lent;
 
 // A signature that a caller builds: its numbers of names and roles, and its bytes, names first, then roles. The bytes are an array with the
 // numbers beside it, since it is built and handed over by value and there is no heap.
@@ -32,13 +35,21 @@ impl Signature {
         }
     }
 
-    // The signature with one name more. The second test is for a struct that a caller filled by hand.
+    // The byte at a place becomes 1. Past the bytes, where only a struct that a caller filled by hand can lead, nothing does.
+    fn choose(&mut self, place: usize)
+        ensures { self.new ≡ chosen self.old place }
+    {
+        if place < Signature::LENGTH {
+            self.bytes[place] = 1;
+        }
+    }
+
+    // The signature with one name more.
     pub fn with_name(mut self, name: ConceptName) -> Self
         ensures { result ≡ with_name self name.0 }
     {
-        let number = name.0;
-        if number < usize::from(self.names) && number < Signature::LENGTH {
-            self.bytes[number] = 1;
+        if name.0 < usize::from(self.names) {
+            self.choose(name.0);
         }
         self
     }
@@ -47,12 +58,9 @@ impl Signature {
     pub fn with_role(mut self, role: RoleName) -> Self
         ensures { result ≡ with_role self role.0 }
     {
-        let number = role.0;
-        if number < usize::from(self.roles) {
-            let place = usize::from(self.names) + number;
-            if place < Signature::LENGTH {
-                self.bytes[place] = 1;
-            }
+        if role.0 < usize::from(self.roles) {
+            let place = usize::from(self.names) + role.0;
+            self.choose(place);
         }
         self
     }

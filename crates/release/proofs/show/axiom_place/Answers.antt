@@ -2,8 +2,8 @@
 use mathlib.Core.Path.{ap, ◌∙◌}
 use native.Mathlib.Omega.{arith}
 use Rattle.release.specs.declared.Counts.{Counts}
-use Rattle.release.proofs.Checks.{is_release, counts_are, not_accepted}
-use Rattle.release.proofs.Places.{shown_not_first, shown_not_second, shown_1, shown_2, shown_no_side}
+use Rattle.release.proofs.Checks.{is_release, counts_are}
+use Rattle.release.proofs.Places.{not_accepted, shown_not_first, shown_not_second, shown_1, shown_2, shown_no_side}
 use Rattle.release.proofs.Rows.{blank_table}
 use Rattle.release.proofs.show.axiom_place.Goals as goal
 use Rattle.release.proofs.show.axiom_place.Goals.{in-1, in-2, in_default-side}
