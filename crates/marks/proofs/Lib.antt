@@ -6,6 +6,7 @@ pub mod Squares
 pub mod Passes
 pub mod Lines
 pub mod Orders
+pub mod Bytes
 pub mod Scans
 pub mod Turning
 pub mod Handing

@@ -2,8 +2,8 @@
 --   tells_has                          a test of a column;  or_added: a line with more bits in a byte
 --   join_none, join_more, join_end     a row joined to a line, byte after byte
 --   out_start .. out_none              the next column outside a line
---   missing_further                    a byte of a row set where a line has nothing;  full_none .. full_end: a row looked through for such bytes
---   column_few, walk_on                the columns of a line, given one after the other
+--   missing_further                    a byte of a row set where a line has nothing
+--   column_few, walk_on                the columns of a line, given one after the other;  outside_next, outside_on: those of a row outside a line
 --   empty_zeros                        a line of zeros has no column
 use mathlib.Core.Path.{◌≡◌, refl, sym, ap, ◌∙◌}
 use mathlib.Core.Bool.{Bool, true}
@@ -23,9 +23,10 @@ use Rattle.marks.specs.Squares.{bit, place, Room, Marked, Put}
 use Rattle.marks.specs.Passes.{Grows, more, Pass}
 use Rattle.std.specs.Prelude.{Option, Some}
 use Rattle.marks.specs.declared.columns.Columns.{Columns}
-use Rattle.marks.specs.Columns.{Walkable, ColumnGiven}
-use Rattle.marks.specs.Lines.{Has, Empty, Added, Joined, NextOutside, Missing, Full}
-use Rattle.marks.proofs.Bits.{bit_small, bit_same, bit_other, both_zero, not_bit, bit_of_not, bit_of_zero, bit_or_lem, or_at, or_stays, or_has, or_only}
+use Rattle.marks.specs.declared.columns.Outside.{Outside}
+use Rattle.marks.specs.Columns.{Walkable, ColumnGiven, WalksOutside, outside_from, OutsideGiven}
+use Rattle.marks.specs.Lines.{Has, Empty, Added, RowOf, Joined, NextOutside, Missing, Full}
+use Rattle.marks.proofs.Bits.{bit_small, bit_same, bit_other, not_bit, bit_of_zero, bit_or_lem, or_at, or_stays, or_has, or_only}
 use Rattle.marks.proofs.Squares.{not_true, place_column, column_bit, or_row}
 use Rattle.marks.proofs.Passes.{room_stays, unset_falls, put_grows, grows_further}
 
@@ -58,23 +59,24 @@ module _ {q : Square} {w : List ℕ} {x : ℕ} {k : List ℕ} where
   pub join_none : JoinedTo q w x k k 0
   join_none = record { long = refl; stays = λ y h. h; has = λ y h. absurd (omega arith); only = λ y h. inl h }
 
-  pub join_more : {l : List ℕ} {i source : ℕ} → i < length l → source ≡ place q x 0 → JoinedTo q w x k l i → JoinedTo q w x k (or_at l i (get_or w (source + i) 0)) (i + 1)
-  join_more {l} {i} {source} h e j = record {
-    long = length-set l i _ ∙ j.long;
-    stays = λ y m. record { is = or_stays l i _ _ _ h (j.stays y m).is };
-    has = λ y b m. by_place y b m (ℕ_discrete (y / 8) i);
-    only = λ y m. elim (or_only l i _ _ _ h m.is) [ inl z ↦ j.only y (record { is = z }) | inr z ↦ inr (record { is = rw (← there y z.0) z.1 }) ];
-  }
-    where
-      there : (y : ℕ) → y / 8 ≡ i → source + i ≡ place q x y
-      there y f = ap (λ (z : ℕ). z + i) e ∙ ap (λ (z : ℕ). place q x 0 + z) (sym f) ∙ place_column q x y
+  module _ {r l : List ℕ} {i : ℕ} (row : RowOf q w x r) (joined : JoinedTo q w x k l i) where
+    pub join_more : i < length r → i < length l → JoinedTo q w x k (or_at l i (get_or r i 0)) (i + 1)
+    join_more h b = record {
+      long = length-set l i _ ∙ joined.long;
+      stays = λ y m. record { is = or_stays l i _ _ _ b (joined.stays y m).is };
+      has = λ y e m. by_place y e m (ℕ_discrete (y / 8) i);
+      only = λ y m. elim (or_only l i _ _ _ b m.is) [ inl z ↦ joined.only y (record { is = z }) | inr z ↦ inr (record { is = rw (← there y z.0) z.1 }) ];
+    }
+      where
+        there : (y : ℕ) → y / 8 ≡ i → get_or r i 0 ≡ get_or w (place q x y) 0
+        there y f = row.byte i (omega (arith, row.long)) ∙ ap (λ (z : ℕ). get_or w (place q x 0 + z) 0) (sym f) ∙ ap (λ (z : ℕ). get_or w z 0) (place_column q x y)
 
-      by_place : (y : ℕ) → y / 8 < i + 1 → Marked q w x y → Dec (y / 8 ≡ i) → Has (or_at l i (get_or w (source + i) 0)) y
-      by_place y b m (yes f) = record { is = rw f (or_has l i _ (y % 8) h (rw (there y f) m.is)) }
-      by_place y b m (no f) = record { is = or_stays l i _ _ _ h (j.has y (omega arith) m).is }
+        by_place : (y : ℕ) → y / 8 < i + 1 → Marked q w x y → Dec (y / 8 ≡ i) → Has (or_at l i (get_or r i 0)) y
+        by_place y e m (yes f) = record { is = rw f (or_has l i _ (y % 8) b (rw (there y f) m.is)) }
+        by_place y e m (no f) = record { is = or_stays l i _ _ _ b (joined.has y (omega arith) m).is }
 
-  pub join_end : {l : List ℕ} {i : ℕ} → (i ≤ q.names / 8 → ⊥) → JoinedTo q w x k l i → Joined q w x k l
-  join_end h j = record { long = j.long; stays = j.stays; has = λ y b m. j.has y (omega arith) m; only = λ y b m. j.only y m }
+    pub join_end : length r ≤ i → Joined q w x k l
+    join_end h = record { long = joined.long; stays = joined.stays; has = λ y b m. joined.has y (omega (arith, row.long)) m; only = λ y b m. joined.only y m }
 
 -- the next column outside a line
 pub record InBefore (q : Square) (w : List ℕ) (x : ℕ) (k : List ℕ) (from y : ℕ) : Type 0 where
@@ -95,34 +97,13 @@ missing_further {q} {w = w} {k = k} {x = x} {target = target} i g room h l e =
     let b = or_row q w x i target (bit_xor 255 (get_or k i 0)) (room_stays g room) h l e in
     more w _ g b.0 (λ a y f j m. elim (b.1 a y f j m) [ inl z ↦ inl z | inr z ↦ inr (record { row = z.0; not_there = λ n. not_bit (get_or k i 0) (y % 8) (column_bit y) z.2 (rw z.1 at n.is) }) ])
 
-or_left : (a b k : ℕ) → bit (bit_or a b) k ≡ 1 → (bit b k ≡ 1 → ⊥) → bit a k ≡ 1
+pub or_left : (a b k : ℕ) → bit (bit_or a b) k ≡ 1 → (bit b k ≡ 1 → ⊥) → bit a k ≡ 1
 or_left a b k h f = by_bits (bit a k) (bit b k) (bit_small b k) (sym (bit_or_lem a b k) ∙ h) f
   where
     by_bits : (p q : ℕ) → q < 2 → max p q ≡ 1 → (q ≡ 1 → ⊥) → p ≡ 1
     by_bits p zero l e g = omega arith
     by_bits p (suc zero) l e g = absurd (g refl)
     by_bits p (suc (suc q)) l e g = absurd (omega arith)
-
-pub record SeenFull (w k : List ℕ) (target i missing : ℕ) : Type 0 where
-  pub byte : missing ≡ 0 → (j : ℕ) → j < i → bit_xor 255 (bit_or (get_or w (target + j) 0) (get_or k j 0)) ≡ 0
-
-pub full_none : {w k : List ℕ} {target missing : ℕ} → SeenFull w k target 0 missing
-full_none = record { byte = λ e j l. absurd (omega arith) }
-
-pub full_more : {w k : List ℕ} {target i missing : ℕ} → SeenFull w k target i missing → SeenFull w k target (i + 1) (bit_or missing (bit_xor 255 (bit_or (get_or w (target + i) 0) (get_or k i 0))))
-full_more {w} {k} {target} {i} {missing} seen = record { byte = λ e j l. let z = both_zero missing _ e in by_place j l z.0 z.1 (ℕ_discrete j i) }
-  where
-    by_place : (j : ℕ) → j < i + 1 → missing ≡ 0 → bit_xor 255 (bit_or (get_or w (target + i) 0) (get_or k i 0)) ≡ 0 → Dec (j ≡ i) → bit_xor 255 (bit_or (get_or w (target + j) 0) (get_or k j 0)) ≡ 0
-    by_place j l e h (yes z) = rw z h
-    by_place j l e h (no z) = seen.byte e j (omega arith)
-
-pub full_end : {q : Square} {w k : List ℕ} {x target i missing : ℕ} → target ≡ place q x 0 → (i ≤ q.names / 8 → ⊥) → SeenFull w k target i missing → missing ≡ 0 → Full q k x w
-full_end {q} {w} {k} {x} {target} t h seen e = record {
-  marked = λ y l f.
-      let b : target + y / 8 ≡ place q x y = ap (λ (z : ℕ). z + y / 8) t ∙ place_column q x y in
-      let has : bit (bit_or (get_or w (target + y / 8) 0) (get_or k (y / 8) 0)) (y % 8) ≡ 1 = bit_of_not _ (y % 8) (column_bit y) (seen.byte e (y / 8) (omega arith)) in
-      record { is = rw (← b) (or_left (get_or w (target + y / 8) 0) (get_or k (y / 8) 0) (y % 8) has (λ m. f (record { is = m }))) };
-}
 
 -- a row marked where a line has nothing, the columns below y
 pub record FullTo (q : Square) (k : List ℕ) (x y : ℕ) (w : List ℕ) : Type 0 where
@@ -169,7 +150,23 @@ empty_zeros k = record { none = λ y h. omega (arith, sym (ap (λ (b : ℕ). bit
 
 -- a walk of columns: each column that it gives is one of the names or ⊤, and it goes on
 pub column_few : {n y : ℕ} {s t : Columns} → Walkable n s → ColumnGiven s (Some y) t → y ≤ n
-column_few w g = rw w.names at g.column
+column_few w g = rw w.names at g.column.inside
 
 pub walk_on : {n : ℕ} {r : Option ℕ} {s t : Columns} → Walkable n s → ColumnGiven s r t → Walkable n t
 walk_on w g = record { names = g.names ∙ w.names; spans = rw g.line w.spans; few = w.few }
+
+-- a walk of a row without the columns of a line: what it gives is the next column outside the line, and it goes on
+module _ {q : Square} {w : List ℕ} {x : ℕ} {k : List ℕ} {s t : Outside} (o : WalksOutside q w x k s) {r : Option ℕ} (g : OutsideGiven s r t) where
+  pub outside_next : NextOutside q w x k (outside_from s) r
+  outside_next = rw (o.square, o.work, o.row, o.line) at g.column
+
+  pub outside_on : WalksOutside q w x k t
+  outside_on = record {
+    square = g.square ∙ o.square;
+    work = rw g.work o.work;
+    row = g.row ∙ o.row;
+    line = rw g.line o.line;
+    room = o.room;
+    inside = o.inside;
+    spans = o.spans;
+  }

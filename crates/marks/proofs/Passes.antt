@@ -8,18 +8,16 @@
 --   pass_changed, pass_unchanged                           two passes, by whether the second changed anything
 --   turn_both, turn_skipped                                the same for a turn of a loop; turns_none, turns_to, turns_end: no turn
 --   pass_closed                                            a pass that changed nothing ends the passes
---   passes_left, pass_less                                  passes end: one that finds something leaves fewer bits unset, and one that finds nothing is the last
 -- Not here: laws of single cells (Squares).
 use mathlib.Core.Path.{◌≡◌, refl, ◌∙◌}
 use mathlib.Core.Bool.{Bool, true, false, ◌||◌}
 use mathlib.Core.List.{List}
 use mathlib.Core.Logic.{inl, inr}
-use Prim.Native.Nat.{ℕ, ◌+◌, ◌*◌, ◌/◌, ◌≤◌, ◌<◌}
+use Prim.Native.Nat.{ℕ, ◌+◌, ◌/◌, ◌≤◌, ◌<◌}
 use lib.ListN.{get_or}
 use native.Mathlib.Omega.{arith}
 use native.Mathlib.Decide.{ℕ_discrete, dec_lt}
 use Rattle.el.proofs.Tests.{Tells}
-use Rattle.el.specs.Lists.{pick}
 use Rattle.marks.specs.declared.Square.{Square}
 use Rattle.marks.specs.Squares.{place, Room, Marked, Unmarked, Frame, Put, Kept, Within, First, Nowhere, NotMarked, unset}
 use Rattle.marks.specs.Passes.{Grows, none, more, Pass, Closed, Below, Due, AllGood, FromRow}
@@ -162,18 +160,14 @@ module _ {Rule : List ℕ → ℕ → ℕ → Type 0} {q : Square} where
   pub closed_further : {D : List ℕ → Type 0} {u w v : List ℕ} → Grows Rule q u w → Closed Rule q D w v → Closed Rule q D u v
   closed_further g c = record { grows = grows_further g c.grows; done = c.done }
 
-abbrev pub passes_left : List ℕ → Bool → ℕ
-passes_left w r = 2 * unset w + pick r 1 0
-
-pub pass_less : {R S : List ℕ → ℕ → ℕ → Type 0} {q : Square} {D : List ℕ → Type 0} {w u v : List ℕ} {t : Bool} (r : Bool) → t ≡ true → Grows R q w u → Pass S q D u v r
-    → passes_left v r < passes_left w t
-pass_less true e g p = rw e (omega (arith, p.fewer refl, unset_falls g))
-pass_less false e g p = rw e (omega (arith, unset_falls p.grows, unset_falls g))
-
 -- the same growth by another rule, which allows what the first one does
 pub grows_as : {R S : List ℕ → ℕ → ℕ → Type 0} {q : Square} {w v : List ℕ} → ((u : List ℕ) (x y : ℕ) → Grows R q w u → x ≤ q.names → y ≤ q.names → R u x y → S u x y) → Grows R q w v → Grows S q w v
 grows_as f none = none
 grows_as f (more t u h e g) = more t u (grows_as f h) e (λ x y i j m. elim (g x y i j m) [ inl k ↦ inl k | inr r ↦ inr (f t x y h i j r) ])
+
+-- and by a wider one
+pub grows_wider : {R S : List ℕ → ℕ → ℕ → Type 0} {q : Square} {w v : List ℕ} → ((u : List ℕ) (x y : ℕ) → R u x y → S u x y) → Grows R q w v → Grows S q w v
+grows_wider f g = grows_as (λ u x y h i j k. f u x y k) g
 
 pub pass_by : {R S : List ℕ → ℕ → ℕ → Type 0} {q : Square} {D : List ℕ → Type 0} {w v : List ℕ} {r : Bool}
     → ((u : List ℕ) (x y : ℕ) → Grows R q w u → x ≤ q.names → y ≤ q.names → R u x y → S u x y) → Pass R q D w v r → Pass S q D w v r

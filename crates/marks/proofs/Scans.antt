@@ -3,7 +3,7 @@
 --   next_start .. next_found           the next bit of a row: none before the first column, in a block, in the row; found in a block
 --   next_of_row, column_found          the next mark of a row, and the next column of a line, by it
 --   out_found, out_block               the next mark of a row that a line has not
---   seen_none, seen_more, seen_within  a row looked through for marks that another row has not
+--   words_none .. words_within_row      a row looked through for marks that another row has not
 -- Not here: reading a block (WordBits).
 use mathlib.Core.Path.{◌≡◌, sym, ap, ◌∙◌}
 use mathlib.Core.List.{List}
@@ -15,10 +15,9 @@ use lib.Bits.{bit_or, bit_xor}
 use lib.ListN.{length, get_or}
 use Rattle.std.specs.Bool.{then_some}
 use Rattle.std.specs.Prelude.{Option, None, Some, leb}
-use Rattle.std.specs.Option.{IfSome}
 use Rattle.marks.specs.declared.Square.{Square}
 use Rattle.marks.specs.Squares.{bit, place, farthest, most_cells, Place, Room, Marked, Within, NextMarked}
-use Rattle.marks.specs.Lines.{Has, Spans, NextOutside}
+use Rattle.marks.specs.Lines.{Has, Spans, NextColumn, NextOutside}
 use Rattle.marks.specs.Words.{ReadBits, block_end, Rest, FirstBit, InRow, RowLies, HasBit, NextBit}
 use Rattle.marks.proofs.Bits.{bit_of_zero, both_zero, outside_bit, not_outside, not_within, within_byte}
 use Rattle.marks.proofs.Squares.{place_column, row_inside}
@@ -100,10 +99,18 @@ module _ {q : Square} {x row : ℕ} (at : Place q x 0 row) where
 pub row_lies : {q : Square} {w : List ℕ} {x row : ℕ} → Room q w → x ≤ q.names → Place q x 0 row → RowLies q.names w row
 row_lies {q} room h p = let b = row_inside {i = q.names / 8} room h (omega arith) p in record { few = omega (arith, room.small.few); inside = b.0; near = omega (arith, b.1) }
 
--- a column of a line that was found
-pub column_found : (n : ℕ) (s : List ℕ) (row from : ℕ) (r : Option ℕ) → NextBit n s row from r → IfSome r (λ y. (from ≤ y) × (y ≤ n))
-column_found n s row from None f = tt
-column_found n s row from (Some y) f = (f.after, f.inside)
+-- the bits of a line are its columns
+from_byte_0 : (z : ℕ) → 0 + z / 8 ≡ z / 8
+from_byte_0 z = omega arith
+
+pub column_found : (n : ℕ) (k : List ℕ) (from : ℕ) (r : Option ℕ) → NextBit n k 0 from r → NextColumn n k from r
+column_found n k from None f = record { each = λ z h l m. f.each z h l (record { is = rw (from_byte_0 z) m.is }) }
+column_found n k from (Some y) f = record {
+  after = f.after;
+  inside = f.inside;
+  there = record { is = rw (← from_byte_0 y) f.there.is };
+  before = λ z h l m. f.before z h l (record { is = rw (from_byte_0 z) m.is });
+}
 
 -- a block of a row
 module _ {q : Square} {w : List ℕ} {x row y r : ℕ} (at : Place q x 0 row) (rest : Rest q.names w row y r) where
@@ -171,17 +178,17 @@ module _ {q : Square} {w k : List ℕ} {x row y r o : ℕ} (at : Place q x 0 row
           by_order (no l) = let g : q.names < y + t = omega arith in rw (lt-leb _ _ g) (record { each = λ z h b m. out_before z h (omega arith) b m })
 
 -- the columns below y of one row seen in another
-pub record SeenWithin (q : Square) (w : List ℕ) (from to y missing : ℕ) : Type 0 where
+pub record WordsWithin (q : Square) (w : List ℕ) (from to y missing : ℕ) : Type 0 where
   pub marked : missing ≡ 0 → (z : ℕ) → z < y → Marked q w from z → Marked q w to z
 
-pub seen_none : {q : Square} {w : List ℕ} {from to missing : ℕ} → SeenWithin q w from to 0 missing
-seen_none = record { marked = λ e z h. absurd (omega arith) }
+pub words_none : {q : Square} {w : List ℕ} {from to missing : ℕ} → WordsWithin q w from to 0 missing
+words_none = record { marked = λ e z h. absurd (omega arith) }
 
 -- k bytes more of both rows, from byte i on
-pub seen_more : {q : Square} {w : List ℕ} {from to source target missing given had : ℕ} (k i : ℕ) → Place q from 0 source → Place q to 0 target
-    → ReadBits (8 * k) w (source + i) given → ReadBits (8 * k) w (target + i) had → SeenWithin q w from to (8 * i) missing
-    → SeenWithin q w from to (8 * (i + k)) (bit_or missing (bit_xor (bit_or given had) had))
-seen_more {q} {w} {from} {to} {source} {target} {missing} {given} {had} k i s t g h seen = record { marked = λ e z l m. let b = both_zero missing _ e in by_order z l m b.0 b.1 (dec_lt z (8 * i)) }
+pub words_more : {q : Square} {w : List ℕ} {from to source target missing given had : ℕ} (k i : ℕ) → Place q from 0 source → Place q to 0 target
+    → ReadBits (8 * k) w (source + i) given → ReadBits (8 * k) w (target + i) had → WordsWithin q w from to (8 * i) missing
+    → WordsWithin q w from to (8 * (i + k)) (bit_or missing (bit_xor (bit_or given had) had))
+words_more {q} {w} {from} {to} {source} {target} {missing} {given} {had} k i s t g h seen = record { marked = λ e z l m. let b = both_zero missing _ e in by_order z l m b.0 b.1 (dec_lt z (8 * i)) }
   where
     cell_of : {x row : ℕ} → Place q x 0 row → (z : ℕ) → 8 * i ≤ z → row + i + (z - 8 * i) / 8 ≡ place q x z
     cell_of {x} {row} p z b =
@@ -201,8 +208,8 @@ seen_more {q} {w} {from} {to} {source} {target} {missing} {given} {had} k i s t 
         let y : bit (get_or w (target + i + j / 8) 0) (j % 8) ≡ 1 = sym (h.bits j n) ∙ within_byte given had j f x in
         record { is = rw (cell_of t z o, same_bit z o) at y }
 
-pub seen_within : {q : Square} {w : List ℕ} {from to i missing : ℕ} → q.names / 8 < i → SeenWithin q w from to (8 * i) missing → missing ≡ 0 → Within q from to w
-seen_within h seen e = record { marked = λ z l m. seen.marked e z (omega arith) m }
+pub words_within_row : {q : Square} {w : List ℕ} {from to i missing : ℕ} → q.names / 8 < i → WordsWithin q w from to (8 * i) missing → missing ≡ 0 → Within q from to w
+words_within_row h seen e = record { marked = λ z l m. seen.marked e z (omega arith) m }
 
 -- a word of a row of whole words is in the memory
 pub word_inside : {q : Square} {w : List ℕ} {x row i : ℕ} → Room q w → x ≤ q.names → 56 ≤ q.names % 64 → i ≤ q.names / 8 → i % 8 ≡ 0 → Place q x 0 row

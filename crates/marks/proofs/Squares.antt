@@ -29,6 +29,7 @@ use Rattle.marks.specs.declared.Square.{Square}
 use Rattle.marks.specs.Squares.{bit, width, span, place, behind, Area, Lent, Small, most_names, most_cells, farthest, Place, Room, Marked, Unmarked, Apart, Behind, Touches}
 use Rattle.marks.specs.Squares.{Frame, Extends, Put, Hints, Kept, NextUnmarked}
 use Rattle.marks.specs.Memory.{size, Zeroed}
+use Rattle.marks.specs.Lines.{RowOf}
 use Rattle.marks.proofs.Bits.{bit_same, bit_other, high_bits, bit_of_zero, or_at, or_stays, or_has, or_only, or_fewer, or_less}
 
 pub not_true : {A : Type 0} → true ≡ false → A
@@ -246,6 +247,17 @@ row_bytes n e = e
 
 pub byte_inside : {q : Square} {w : List ℕ} {x r i e : ℕ} (n : ℕ) → Room q w → q.names ≡ n → x ≤ n → e ≡ width n → i < e → Place q x 0 r → r + i < length w
 byte_inside {i = i} n room s h e l p = (row_inside {i = i} room (omega arith) (omega (arith, row_bytes n e)) p).0
+
+-- the bytes of a row, taken from the memory
+pub row_taken : {q : Square} {w : List ℕ} {x r e : ℕ} → Room q w → x ≤ q.names → Place q x 0 r → e ≡ width q.names → RowOf q w x (take (r + e - r) (drop r w))
+row_taken {q} {w} {x} {r} {e} room h p f =
+    let last = (row_inside {i = q.names / 8} room h (omega arith) p).0 in
+    let n : e ≡ q.names / 8 + 1 = row_bytes q.names f in
+    let m : r + e - r ≡ q.names / 8 + 1 = omega arith in
+    record {
+      long = rw m (length-take-le _ _ (omega (arith, length-drop r w)));
+      byte = λ i l. get_or-take (r + e - r) (drop r w) i 0 (omega arith) ∙ get_or-drop r w i 0 ∙ ap (λ (z : ℕ). get_or w (z + i) 0) p.is;
+    }
 
 -- all marked so far
 pub record AllBefore (q : Square) (w : List ℕ) (x from y : ℕ) : Type 0 where

@@ -13,7 +13,7 @@ use lib.Count.{count_trailing_zeros, under}
 use lib.ListN.{get_or}
 use lib.Pow.{pow-add, pow_mono, shr-shr, shr_lt}
 use Rattle.marks.specs.Squares.{bit}
-use Rattle.marks.specs.Words.{ReadBits, Reads, block_end, Rest, FirstBit}
+use Rattle.marks.specs.Words.{Reads, block_end, Rest, FirstBit}
 use Rattle.marks.proofs.Bits.{no_high_bit}
 
 -- the bits of a number that is shifted
@@ -79,15 +79,6 @@ pub reads_end : {i at r : ℕ} {s : List ℕ} → i ≡ 8 → Reads (8 * i) s (a
 reads_end {i} {at} z rd =
     let p : at + 0 ≡ at = omega arith in
     rw p at (rw z at rd)
-
--- a byte is read as it is
-pub byte_read : (s : List ℕ) (p : ℕ) → ReadBits 8 s p (get_or s p 0)
-byte_read s p = record {
-  bits = λ j h.
-      let d : p ≡ p + j / 8 = omega arith in
-      let m : j ≡ j % 8 = omega arith in
-      ap (λ (i : ℕ). bit (get_or s p 0) i) m ∙ ap (λ (i : ℕ). bit (get_or s i 0) (j % 8)) d;
-}
 
 -- counting zeros at the low end
 bit_half : (b k : ℕ) → bit b (suc k) ≡ bit (b / 2) k

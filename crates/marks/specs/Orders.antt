@@ -3,9 +3,10 @@
 --   placed o k x            the order o with the node x at place k; unchanged where one of the two is out of range
 --   Stands n p k            at place k of the order p a node stands of a square of n names
 --   NodesPlaced n o p       each place of the order p has what it has in o, or such a node
---   Walking n s             s is a walk of the nodes of an order that belong to a square of n names
+--   Walking n s             s is a walk of the nodes of an order that belong to a square of n names;  Walks s: of the square that it was made for
+--   nodes_left s            no more nodes are left to s than this
 --   NodeGiven s r t         r is a node of the square that s goes along, or none; t goes on along the same square
-use Rattle.std.specs.Prelude.{◌≡◌, ◌&&◌, ◌⊎◌, ℕ, ◌≤◌, ltb, Option, Some, None, IfSome, get_or, set}
+use Rattle.std.specs.Prelude.{◌≡◌, ◌&&◌, ◌⊎◌, ℕ, suc, ◌-◌, ◌≤◌, ltb, Option, Some, None, IfSome, get_or, set}
 use Rattle.el.specs.Lists.{pick}
 use Rattle.marks.specs.declared.order.Order.{Order}
 use Rattle.marks.specs.declared.order.Nodes.{Nodes}
@@ -31,7 +32,15 @@ pub record NodesPlaced (n : ℕ) (o p : Order) : Type 0 where
 pub record Walking (n : ℕ) (s : Nodes) : Type 0 where
   pub names : s.names ≡ n
   pub few : n ≤ 65535
+  pub within : s.end ≤ suc n
+
+abbrev pub Walks : Nodes → Type 0
+Walks s = Walking s.names s
+
+abbrev pub nodes_left : Nodes → ℕ
+nodes_left s = s.end - s.place
 
 pub record NodeGiven (s : Nodes) (r : Option ℕ) (t : Nodes) : Type 0 where
   pub names : t.names ≡ s.names
+  pub within : t.end ≤ s.end
   pub node : IfSome r (λ x. x ≤ s.names)

@@ -1,6 +1,7 @@
 // Hints where to look, in the memory that is lent for a square, behind its rows: up to four squares of bits. Nothing is said of what they
 // hold, so whoever reads one tests what it asks of it. Where there is no room for them nothing is kept, and nothing is found. A square is
-// chosen by its number k and not by an enum: the number is what its place is reckoned with, and its meaning belongs to the crate above.
+// chosen by its number k and not by an enum: its place is reckoned with it, 0 is the square itself, and what the others hold belongs to the
+// crate above.
 ghost use Rattle.std.specs.Prelude.{◌≡◌, ◌≤◌, ◌<◌};
 ghost use Rattle.std.specs.Option.{IfSome};
 ghost use Rattle.marks.specs.Squares.{Room, Area, Hints, Kept};
@@ -12,12 +13,7 @@ use crate::waiting::Waiting;
 use crate::{Square, is_roomy, width};
 
 // The first of the four: what was seen of a row. The others are for whoever uses the square.
-#[derive(Clone, Copy)]
-pub struct Hint {}
-
-impl Hint {
-    pub const SEEN: usize = 1;
-}
+pub const SEEN: usize = 1;
 
 impl Square {
     // Puts a bit into the k-th square.
@@ -58,7 +54,7 @@ impl Square {
     }
 
     // Puts into the line what is new in row x since it was seen, and sees it. How many bytes have something new: counted in a byte, so that
-    // the machine can count many at a time. Both rows lie in one slice, one of them written, which no iterator can hold: so too in `see_row`.
+    // the machine can count many at a time. Both rows lie in one slice, one of them written, which no iterator can hold.
     fn see_behind(
         self,
         work: &mut [u8],
@@ -76,6 +72,7 @@ impl Square {
         for i in 0..width(self.names) {
             let byte = work[source + i];
             let had = work[target + i];
+            // byte & !had, as in rows
             let new = (byte | had) ^ had;
             work[target + i] |= byte;
             line[i] = new;
@@ -86,27 +83,14 @@ impl Square {
         usize::from(count)
     }
 
-    // Sees row x, without what `see_behind` tells: its counting would slow this loop down.
-    fn see_row(self, work: &mut [u8], seen: Square, x: usize)
-        requires room { Room self work.old × Room seen work.old }
-        requires names_value { (seen.names ≡ self.names) × (x ≤ self.names) }
-        ensures { Hints seen work.old work.new }
-    {
-        let source = self.place(x, 0);
-        let target = seen.place(x, 0);
-        for i in 0..width(self.names) {
-            work[target + i] |= work[source + i];
-        }
-    }
-
-    // Sees all rows, in the square that is given.
+    // Sees all rows, in the square that is given, without what `see_behind` tells: its counting would slow the loop down.
     fn see_all_behind(self, work: &mut [u8], seen: Square)
         requires room { Room self work.old × Room seen work.old }
         requires names_value { seen.names ≡ self.names }
         ensures { Hints seen work.old work.new }
     {
         for x in 0..=self.names {
-            self.see_row(work, seen, x);
+            self.add_row(work, x, seen, x);
         }
     }
 
@@ -115,12 +99,8 @@ impl Square {
         requires room { Room self work.now × Room seen work.now }
         requires names_value { (seen.names ≡ self.names) × (x ≤ self.names) }
     {
-        let source = self.place(x, 0);
-        let target = seen.place(x, 0);
         let mut new: u8 = 0;
-        for i in 0..width(self.names) {
-            let byte = work[source + i];
-            let had = work[target + i];
+        for (&byte, &had) in self.row(work, x).iter().zip(seen.row(work, x)) {
             new |= byte ^ had;
         }
         0 < new
@@ -147,7 +127,7 @@ impl Square {
         ensures { Kept self work.old work.new × (result ≤ line_bytes) }
     {
         if is_roomy(self.names) {
-            let seen = self.behind(Hint::SEEN);
+            let seen = self.behind(SEEN);
             return self.see_behind(work, seen, x, line);
         }
         self.join(work, x, line);
@@ -160,7 +140,7 @@ impl Square {
         ensures { Kept self work.old work.new }
     {
         if is_roomy(self.names) {
-            let seen = self.behind(Hint::SEEN);
+            let seen = self.behind(SEEN);
             self.see_all_behind(work, seen);
         }
     }
@@ -171,7 +151,7 @@ impl Square {
         ensures { StillWaiting waiting.old waiting.new }
     {
         if is_roomy(self.names) {
-            let seen = self.behind(Hint::SEEN);
+            let seen = self.behind(SEEN);
             self.wait_behind(work, seen, waiting);
         }
     }

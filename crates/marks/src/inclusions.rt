@@ -10,8 +10,7 @@ use crate::line::Line;
 use crate::order::Order;
 use crate::{Square, line};
 
-// Whether a row takes the marks of the rows above it, or gives its own to them. An enum and no closure: so one theorem says both directions,
-// and it is asked once a row.
+// Whether a row takes the marks of the rows above it, or gives its own to them. An enum and no closure: so one theorem says both directions.
 #[derive(Clone, Copy, Debug, PartialEq, Eq)]
 pub enum Direction {
     Down,
@@ -20,7 +19,7 @@ pub enum Direction {
 
 // The square of the inclusions along which marks are handed, the square of the marks, and the direction. The lines `done` and `covered` stay
 // parameters: the one is read and the other written, each in a call of its own.
-#[derive(Clone, Copy)]
+#[derive(Clone, Copy, Debug, PartialEq, Eq)]
 pub struct Handing {
     pub inclusions: Square,
     pub marks: Square,

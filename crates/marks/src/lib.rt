@@ -4,6 +4,7 @@
 ghost use Rattle.std.specs.Prelude.{◌≡◌, true, ◌*◌, ◌≤◌, length};
 ghost use Rattle.el.proofs.Tests.{Tells};
 ghost use Rattle.marks.specs.Squares.{span, behind, Unmarked, Touches, width, most_names, most_cells, Small, Place, Room, Marked, Put};
+ghost use Rattle.marks.specs.Lines.{RowOf};
 ghost use Rattle.marks.specs.Memory.{size, Zeroed};
 
 pub mod columns;
@@ -18,7 +19,8 @@ pub mod turned;
 pub mod waiting;
 pub mod words;
 
-// The place of a square: names + 1 rows and as many columns, row after row from `base` on. A row begins with a byte of its own.
+// The place of a square: names + 1 rows and as many columns, row after row from `base` on. A row begins with a byte of its own. The memory
+// is no part of it, since several squares lie in one lent slice.
 #[derive(Clone, Copy, Debug, PartialEq, Eq)]
 pub struct Square {
     pub base: usize,
@@ -47,6 +49,14 @@ pub fn size(names: usize) -> usize
     ensures { (result ≡ size names) × (result ≤ most_cells) }
 {
     (names + 1) * (names + 1)
+}
+
+// The bytes of work memory for four squares, each with its hints.
+pub fn work_length(names: usize) -> usize
+    requires { names ≤ most_names }
+    ensures { (result ≡ 4 * size names) × (result ≤ 4 * most_cells) }
+{
+    4 * size(names)
 }
 
 // Sets the first `count` bytes to 0.
@@ -78,6 +88,16 @@ impl Square {
     {
         let width = width(self.names);
         self.base + (x * width + y / 8)
+    }
+
+    // The bytes of row x: a line.
+    pub fn row<'a>(self, work: &'a [u8], x: usize) -> &'a [u8]
+        requires room { Room self work.now }
+        requires x_le_names { x ≤ self.names }
+        ensures { RowOf self work.now x result.now }
+    {
+        let row = self.place(x, 0);
+        &work[row..row + width(self.names)]
     }
 
     // Whether a cell is marked.

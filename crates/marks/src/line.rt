@@ -1,12 +1,11 @@
-// Lines: rows of bits in memory of their own, column after column from the first byte on. A line is a slice and no struct of an array, so
-// `Spans` stands in the contracts: points keeps the rows of a grid, which are more than 128 bytes, as one line. `255 ^ b` stands for `!b`, since the
-// laws of bits are proved for `^`, and in a proof `!b` is 255 - b: tried.
+// Lines: rows of bits in memory of their own, column after column from the first byte on. A line is a slice and no struct of an array or with
+// a const parameter, so `Spans` stands in the contracts: a row of lent memory is a line too, whose length is known when it is read, and points
+// keeps the rows of a grid as one line. `255 ^ b` stands for `!b`, since the laws of bits are proved for `^`, and in a proof `!b` is 255 - b: tried.
 ghost use Rattle.std.specs.Prelude.{◌≡◌, true, ◌≤◌, ◌<◌};
-ghost use Rattle.std.specs.Option.{IfSome};
 ghost use Rattle.el.proofs.Tests.{Tells};
 ghost use Rattle.marks.specs.Squares.{Room};
 ghost use Rattle.marks.specs.Passes.{Grows, Pass};
-ghost use Rattle.marks.specs.Lines.{Has, Spans, Added, Joined, NextOutside, Missing, Full};
+ghost use Rattle.marks.specs.Lines.{Has, Spans, Added, Joined, NextColumn, NextOutside, Missing, Full};
 
 use crate::words::{block_end, first_bit, next_bit, rest};
 use crate::{Square, width};
@@ -38,26 +37,25 @@ pub fn add(line: &mut [u8], y: usize)
     line[y / 8] = byte | (1 << (y % 8));
 }
 
-// The first column of a line from `from` on.
+// The first column of a line from `from` on, up to `names`.
 pub fn next(line: &[u8], names: usize, from: usize) -> Option<usize>
     requires spans { Spans names line.now }
     requires names_bound { names ≤ 65535 }
-    ensures { IfSome result (λ y. (from ≤ y) × (y ≤ names)) }
+    ensures { NextColumn names line.now from result }
 {
     next_bit(line, 0, names, from)
 }
 
 impl Square {
-    // Adds to a line the columns that are marked in row x.
+    // Adds to a line the columns that are marked in row x. By an index, since a proof knows nothing of what a `zip` over `iter_mut` has written.
     pub fn join(self, work: &[u8], x: usize, line: &mut [u8])
         requires room { Room self work.now }
         requires x_le_names { x ≤ self.names }
         requires spans { Spans self.names line.old }
         ensures { Joined self work.now x line.old line.new }
     {
-        let source = self.place(x, 0);
-        for i in 0..width(self.names) {
-            line[i] |= work[source + i];
+        for (i, &byte) in self.row(work, x).iter().enumerate() {
+            line[i] |= byte;
         }
     }
 
@@ -74,6 +72,7 @@ impl Square {
         while y <= self.names {
             let out = rest(line, 0, self.names, y);
             let all = rest(work, row, self.names, y);
+            // all & !out, as in rows
             let rest = (all | out) ^ out;
             if 0 < rest {
                 let found = y + first_bit(rest);
@@ -84,7 +83,7 @@ impl Square {
         None
     }
 
-    // Marks in row x the columns that are not in the line.
+    // Marks in row x the columns that are not in the line. By an index, as `join`.
     pub fn mark_missing(self, work: &mut [u8], x: usize, line: &[u8])
         requires room { Room self work.old }
         requires x_le_names { x ≤ self.names }
@@ -105,11 +104,8 @@ impl Square {
         requires spans { Spans self.names line.now }
         ensures { result ≡ true → Full self line.now x work.now }
     {
-        let target = self.place(x, 0);
         let mut missing: u8 = 0;
-        for i in 0..width(self.names) {
-            let kept = line[i];
-            let had = work[target + i];
+        for (&had, &kept) in self.row(work, x).iter().zip(line) {
             missing |= 255 ^ (had | kept);
         }
         missing == 0

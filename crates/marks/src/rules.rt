@@ -19,6 +19,9 @@ pub trait Rules {
     // in which row and column a mark is allowed
     ghost allowed: { Self → List ℕ → ℕ → ℕ → Type 0 };
 
+    // in which row and column a mark follows from new ones
+    ghost follows: { Self → List ℕ → ℕ → ℕ → Type 0 };
+
     // that nothing is left to mark
     ghost done: { Self → List ℕ → Type 0 };
 
@@ -29,26 +32,29 @@ pub trait Rules {
     fn deal(&self, work: &mut [u8], waiting: &mut Waiting, x: usize)
         requires setting { setting self.now work.old }
         requires row { x ≤ (marks self.now).names }
-        ensures { Grows (allowed self.now) (marks self.now) work.old work.new };
+        ensures { Grows (follows self.now) (marks self.now) work.old work.new };
 
     // Lets the rows wait that have marks which were not dealt with.
     fn wait_for_new(&self, work: &mut [u8], waiting: &mut Waiting)
         requires { setting self.now work.old }
-        ensures { Grows (allowed self.now) (marks self.now) work.old work.new };
+        ensures { Grows (follows self.now) (marks self.now) work.old work.new };
 
     // Looks at everything. Whether a mark is new.
     fn pass(&self, work: &mut [u8], order: &Order) -> bool
         requires { setting self.now work.old }
         ensures { Pass (allowed self.now) (marks self.now) (done self.now) work.old work.new result };
 
+    // what follows is allowed
+    ghost wider: { (r : Self) (w : List ℕ) (x y : ℕ) → follows r w x y → allowed r w x y };
+
     // the memory holds what it has to after marks were put
     ghost stays: { (r : Self) (w v : List ℕ) → Grows (allowed r) (marks r) w v → setting r w → setting r v };
 }
 
-// Deals with the rows that wait, until none does.
+// Deals with the rows that wait, until none does. By counted turns, since nothing is known of how long rows wait.
 pub fn deal_with_all<R: Rules>(rules: &R, work: &mut [u8], waiting: &mut Waiting)
     requires { R.setting rules.now work.old }
-    ensures { Grows (R.allowed rules.now) (R.marks rules.now) work.old work.new }
+    ensures { Grows (R.follows rules.now) (R.marks rules.now) work.old work.new }
 {
     let names = rules.marks().names;
     for _ in 0..Waiting::TURNS {

@@ -8,7 +8,7 @@ const ROWS: usize = 1024;
 
 // The rows that wait, in a ring; whether a row waits, so that none is there twice; where the ring begins, and how many wait. Arrays, since
 // there is no heap.
-#[derive(Drop)]
+#[derive(Clone, Debug, PartialEq, Eq, Drop)]
 pub struct Waiting {
     ring: [u16; ROWS],
     waits: [bool; ROWS],
@@ -40,7 +40,7 @@ impl Waiting {
             return;
         }
         self.waits[x] = true;
-        // no `From` leads to u16, and `try_from` has an arm that is never taken
+        // no `From` leads from usize to u16, and `try_from` has an arm that is never taken
         self.ring[(self.first % ROWS + self.count) % ROWS] = x as u16;
         self.count += 1;
     }

@@ -1,22 +1,20 @@
--- The first i bytes are looked through.
+-- The bytes of the row and the line that were looked at are full together.
 use mathlib.Core.Path.{refl}
-use native.Mathlib.Omega.{arith}
 use borrow.Author.Tests.{eqb-true}
-use Rattle.marks.proofs.Squares.{byte_inside, row_bytes}
-use Rattle.marks.proofs.Lines.{full_none, full_more, full_end}
+use borrow.Author.Rules.{rules}
+use Rattle.std.proofs.lemmas.Slice.Zip.{zip_turn, zip_end}
+use Rattle.marks.proofs.Bytes.{void, seen_none, seen_more, seen_full}
 use Rattle.marks.proofs.Square.seems_full.Goals as goal
 
-pub loop-i-init : goal.loop-i-init
-loop-i-init c = full_none
+pub loop-had-init : goal.loop-had-init
+loop-had-init c = seen_none void
 
-pub bounds-line-i : goal.bounds-line-i
-bounds-line-i c = omega (arith, row_bytes _ c.width-i-end.ensures.0, c.loop-i-test.true, c.requires.spans.inside)
-
-pub bounds-work-target : goal.bounds-work-target
-bounds-work-target c = omega (arith, byte_inside _ c.requires.room refl c.requires.x_le_names c.width-i-end.ensures.0 c.loop-i-test.true c.place-target.ensures)
-
-pub loop-i-preserved : goal.loop-i-preserved
-loop-i-preserved c = full_more c.loop-i.invariant
+pub loop-had-preserved : goal.loop-had-preserved
+loop-had-preserved c =
+    let turn = zip_turn _ _ _ _ _ c.next.new.self _ refl refl c.loop-had.yielded_by _ c.in-Some.is c.next.ensures.steps in
+    seen_more void _ _ (turn.2 0) (turn.3 0) c.loop-had.invariant
 
 pub returns : goal.returns
-returns c = λ e. full_end c.place-target.ensures.is (λ h. omega (arith, row_bytes _ c.width-i-end.ensures.0, c.loop-i-test.false)) c.loop-i.invariant (eqb-true _ _ e)
+returns c = λ e.
+    seen_full c.row.ensures c.requires.spans (search rules) (search rules)
+    (zip_end _ _ _ _ _ c.next.new.self _ refl refl c.loop-had.yielded_by c.in-None.is c.next.ensures.steps) c.loop-had.invariant (eqb-true _ _ e)

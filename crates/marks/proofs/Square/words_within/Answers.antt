@@ -4,11 +4,11 @@ use Prim.Native.Nat.{◌+◌, ◌*◌}
 use native.Mathlib.Omega.{arith}
 use borrow.Author.Tests.{eqb-true}
 use Rattle.marks.proofs.Squares.{row_bytes}
-use Rattle.marks.proofs.Scans.{seen_none, seen_more, seen_within, word_inside}
+use Rattle.marks.proofs.Scans.{words_none, words_more, words_within_row, word_inside}
 use Rattle.marks.proofs.Square.words_within.Goals as goal
 
 pub loop-i-init : goal.loop-i-init
-loop-i-init c = seen_none
+loop-i-init c = words_none
 
 pub word-given-requires : goal.word-given-requires
 word-given-requires c = (word_inside c.requires.room c.requires.from_le_names.0 c.requires.from_le_names.2
@@ -21,7 +21,7 @@ word-had-requires c = (word_inside c.requires.room c.requires.from_le_names.1 c.
 pub loop-i-preserved : goal.loop-i-preserved
 loop-i-preserved c =
     let next : 8 * (8 * (c.loop-i.i + 1)) ≡ 8 * (8 * c.loop-i.i + 8) = omega arith in
-    rw next (seen_more 8 _ c.place-source.ensures c.place-target.ensures c.word-given.ensures.read c.word-had.ensures.read c.loop-i.invariant)
+    rw next (words_more 8 _ c.place-source.ensures c.place-target.ensures c.word-given.ensures.read c.word-had.ensures.read c.loop-i.invariant)
 
 pub returns : goal.returns
-returns c = λ e. seen_within (omega (arith, row_bytes _ c.width-i-end.ensures.0, c.loop-i-test.false, c.requires.from_le_names.2)) c.loop-i.invariant (eqb-true _ _ e)
+returns c = λ e. words_within_row (omega (arith, row_bytes _ c.width-i-end.ensures.0, c.loop-i-test.false, c.requires.from_le_names.2)) c.loop-i.invariant (eqb-true _ _ e)

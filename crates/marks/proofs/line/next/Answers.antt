@@ -7,4 +7,4 @@ pub next_bit-requires : goal.next_bit-requires
 next_bit-requires c = record { few = c.requires.names_bound; inside = omega (arith, c.requires.spans.inside); near = omega (arith, c.requires.names_bound) }
 
 pub returns : goal.returns
-returns c = column_found _ _ _ _ _ c.next_bit.ensures
+returns c = column_found _ _ _ _ c.next_bit.ensures

@@ -1,0 +1,9 @@
+-- The walk goes on along the same square, from the same place, and no place comes twice.
+use Rattle.std.proofs.Common.{◌-◌, ◌≡◌, ◌≤◌}
+use Rattle.marks.proofs.order.NodesDoubleEndedIterator.next_back.Given as goal
+
+abbrev pub invariant-loop-self : goal.invariant-loop-self
+invariant-loop-self l = (l.self.names ≡ l.initial.self.names) × (l.self.place ≡ l.initial.self.place) × (l.self.end ≤ l.initial.self.end)
+
+abbrev pub decreases-loop-self : goal.decreases-loop-self
+decreases-loop-self l = l.self.end - l.self.place
