@@ -10,7 +10,7 @@ use mathlib.Core.Bool.{Bool, true, false, ◌||◌, false≢true}
 use mathlib.Core.List.{List}
 use Prim.Native.Nat.{ℕ, suc, ◌≤◌, ◌<◌}
 use native.Mathlib.Omega.{arith}
-use Rattle.el.proofs.Tests.{Tells, tells_as, never, always}
+use Rattle.el.proofs.Tests.{Tells, tells_as}
 use Rattle.el.proofs.Derivations.{Serves}
 use Rattle.release.specs.Files.{joins, restricts}
 use Rattle.release.specs.Tables.{kind_at, role_at, filler_at, count_at, part_at, HasRow, Conjunctive, Shaped}
@@ -20,10 +20,10 @@ use Rattle.marks.specs.declared.Square.{Square}
 use Rattle.marks.specs.Squares.{Marked, Put}
 use Rattle.marks.specs.Passes.{Grows, Pass, Below, Due, FromRow}
 use Rattle.marks.specs.Inclusions.{Taking}
-use Rattle.marks.proofs.Squares.{refuted, frame_area}
-use Rattle.marks.proofs.Passes.{room_stays, grows_frame, marks_stay, below_end, pass_none, pass_as, pass_both, pass_by, grows_as, put_pass, put_grows, due_not, due_as}
+use Rattle.marks.proofs.Squares.{frame_area}
+use Rattle.marks.proofs.Passes.{room_stays, grows_frame, marks_stay, pass_none, pass_as, pass_both, pass_by, grows_as, put_pass, put_grows, due_not, due_as}
 use Rattle.classification.specs.Steps.{PartMarked, Gathers, Fills, Step, to_itself, to_top, to_part, to_gathered, to_filled, through, Gathered, Seeds, GatheredAt, FilledAt}
-use Rattle.classification.specs.Steps.{AxiomSettled, Setting, SeededSetting, InRow, Source, DefinedConjunction, DefinedRestriction, Pair, Restriction, Over}
+use Rattle.classification.specs.Steps.{AxiomSettled, Setting, SeededSetting, InRow, Source, DefinedRestriction, Pair, Restriction, Over}
 
 not_both : {A : Type 0} (k : ℕ) → joins k ≡ true → restricts k ≡ true → A
 not_both k j r = absurd (false≢true (sym (restricts_not_joins k r) ∙ j))
@@ -57,9 +57,6 @@ module _ {s : List ℕ} {t : List table.Row} {q : Square} {w : List ℕ} {x b : 
 
 -- a definition, for a whole column
 module _ {s : List ℕ} {t : List table.Row} {q : Square} {w : List ℕ} {y : ℕ} (h : Setting s t q w) (l : y < q.names) where
-  pub defined_parts : kind_at t y ≡ 2 → Conjunctive q.names s t y
-  defined_parts e = record { shaped = h.shaped; is_name = l; is_conjunctive = joined refl e }
-
   pub pair : {b r f : ℕ} → b < q.names → restricts (kind_at t b) ≡ true → DefinedRestriction t y r f → Pair t q w b y r f
   pair i k d = record { rows = h.shaped.rows; room = h.room; fillers = h.shaped.filler; left = i; is_restriction = k; right = l; defined = d }
 
@@ -84,17 +81,6 @@ not_due d e n = due_not (λ g. n (e ∙ g.role ∙ sym d.role))
 pub due_fill : {t : List table.Row} {q : Square} {w : List ℕ} {b y r f role under : ℕ} {a : Bool} → DefinedRestriction t y r f → role ≡ role_at t b → Serves role r → under ≡ filler_at t b
     → Tells a (Marked q w under f) → Due a (Fills t q b y w) (Marked q w b y)
 due_fill d e same i m = due_as (tells_as (λ z. record { kind = d.kind; role = sym e ∙ same ∙ d.role; filler = rw (← i, ← d.filler) z }) (λ z. rw (i, d.filler) z.filler) m)
-
--- the conjuncts of a name, all marked or one not
-module _ {s : List ℕ} {t : List table.Row} {q : Square} {w : List ℕ} {x y : ℕ} where
-  pub part_marked : {i z : ℕ} {r : Bool} → z ≡ part_at s t y i → Tells r (Marked q w x z) → r ≡ true → PartMarked s t q x y i w
-  part_marked e m k = record { is = rw (← e) (m.sound k) }
-
-  pub not_gathers : {i z : ℕ} {r : Bool} → z ≡ part_at s t y i → i < count_at s t y → Tells r (Marked q w x z) → r ≡ false → Tells false (Gathers s t q x y w)
-  not_gathers {i} e l m k = never (λ g. refuted m k (rw e (g.parts.at i l).is))
-
-  pub gathers_all : {i count : ℕ} → DefinedConjunction s t y count → count ≤ i → Below (PartMarked s t q x y) i w → Tells true (Gathers s t q x y w)
-  gathers_all d l b = always (record { kind = d.kind; parts = below_end (omega (arith, d.count)) b })
 
 -- a defined conjunction in a row
 module _ {s : List ℕ} {t : List table.Row} {q : Square} {w : List ℕ} {x b : ℕ} where

@@ -3,6 +3,7 @@
 --   Step s t q w x y        a rule allows the mark (x, y): x ⊑ x; x ⊑ ⊤; a conjunct of a marked name; a defined conjunction of
 --                           which all conjuncts are marked; a defined ∃r.B, by a marked name below ∃r.C with (C, B) marked; what
 --                           is marked in the row of a marked node
+--   Grown c w v             marks that the rules allow were put in the square of c
 --   Gathers s t q x y w     y is a defined conjunction, and its conjuncts are marked in row x
 --   Fills t q b y w         y is a defined ∃r.B, and b lies below ∃r.C with (C, B) marked
 --   Looked s t q x b w      nothing is left to mark in row x by b: by its axiom if it is marked, and itself by its conjuncts
@@ -17,7 +18,7 @@ use Rattle.release.specs.declared.table.Row as table
 use Rattle.marks.specs.declared.Square.{Square}
 use Rattle.classification.specs.declared.Classification.{Classification}
 use Rattle.marks.specs.Squares.{Room, Area, Marked, Within}
-use Rattle.marks.specs.Passes.{Pass, Below}
+use Rattle.marks.specs.Passes.{Grows, Pass, Below}
 
 abbrev pub Of : {A : Type 1} → (List ℕ → List table.Row → Square → A) → Classification → A
 Of P c = P c.terminology.file.now c.terminology.table.now c.square
@@ -42,6 +43,9 @@ pub data Step (s : List ℕ) (t : List table.Row) (q : Square) (w : List ℕ) (x
   to_gathered : y < q.names → Gathers s t q x y w → Step s t q w x y
   to_filled : (b : ℕ) → b < q.names → restricts (kind_at t b) ≡ true → Marked q w x b → y < q.names → Fills t q b y w → Step s t q w x y
   through : (c : ℕ) → c ≤ q.names → Marked q w x c → Marked q w c y → Step s t q w x y
+
+abbrev pub Grown : Classification → List ℕ → List ℕ → Type 0
+Grown c = Grows (Of Step c) c.square
 
 -- nothing left to mark: the ∃r.B that b serves for; what the axiom of b gives; b; the two cells that are marked in any row
 pub record Filled (t : List table.Row) (q : Square) (x b y : ℕ) (w : List ℕ) : Type 0 where
@@ -122,11 +126,7 @@ pub record Source (s : List ℕ) (t : List table.Row) (q : Square) (w : List ℕ
   pub in_row : InRow s t q w x b
   pub marked : Marked q w x b
 
--- what is read of a definition once for a whole column: the number of its conjuncts; its role and filler
-pub record DefinedConjunction (s : List ℕ) (t : List table.Row) (y k : ℕ) : Type 0 where
-  pub kind : kind_at t y ≡ 2
-  pub count : k ≡ count_at s t y
-
+-- what is read of a definition once for a whole column: its role and filler
 pub record DefinedRestriction (t : List table.Row) (y r f : ℕ) : Type 0 where
   pub kind : kind_at t y ≡ 4
   pub role : r ≡ role_at t y

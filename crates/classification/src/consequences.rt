@@ -7,10 +7,10 @@ ghost use Rattle.release.specs.Tables.{HasRow};
 ghost use Rattle.marks.specs.Squares.{Room, Area, Kept};
 ghost use Rattle.marks.specs.Passes.{Grows, FromRow};
 ghost use Rattle.marks.specs.Inclusions.{Taking};
-ghost use Rattle.classification.specs.Steps.{Of, Step, Setting, InRow, MarkedCell, DefinedRestriction, Restriction, Over};
+ghost use Rattle.classification.specs.Steps.{Of, Grown, Setting, InRow, MarkedCell, DefinedRestriction, Restriction, Over};
 
 use crate::Classification;
-use crate::hints::Hints;
+use crate::hints::{BELOW, CONJUNCTS, FILLERS};
 use marks::columns;
 use marks::line::Line;
 use marks::waiting::Waiting;
@@ -32,12 +32,15 @@ impl<'a> Classification<'a> {
     // The defined conjunctions with the conjunct y of which all conjuncts are marked in row x.
     fn put_gathered(&self, work: &mut [u8], waiting: &mut Waiting, x: usize, y: usize)
         requires { Of InRow self.now work.old x y }
-        ensures { Grows (Of Step self.now) self.now.square work.old work.new }
+        ensures { Grown self.now work.old work.new }
     {
         let mut from = 0;
-        while let Some(z) = self.square.next_hint(work, Hints::CONJUNCTS, y, from) {
-            from = z + 1;
-            if z < self.square.names && self.gathers(work, x, z) && self.square.mark(work, x, z) {
+        while let Some(conjunction) = self.square.next_hint(work, CONJUNCTS, y, from) {
+            from = conjunction + 1;
+            if conjunction < self.square.names
+                && self.gathers(work, x, conjunction)
+                && self.square.mark(work, x, conjunction)
+            {
                 waiting.wait(x);
             }
         }
@@ -46,7 +49,7 @@ impl<'a> Classification<'a> {
     // What x ⊑ y gives in row x: what lies above y, and the conjunctions with this conjunct.
     fn put_beside(&self, work: &mut [u8], waiting: &mut Waiting, x: usize, y: usize)
         requires { Of MarkedCell self.now work.old x y }
-        ensures { Grows (Of Step self.now) self.now.square work.old work.new }
+        ensures { Grown self.now work.old work.new }
     {
         self.hand_over(work, waiting, y, x);
         if y < self.square.names {
@@ -58,7 +61,7 @@ impl<'a> Classification<'a> {
     fn put_above(&self, work: &mut [u8], waiting: &mut Waiting, line: &[u8; Line::LENGTH], x: usize)
         requires setting { Of Setting self.now work.old }
         requires x_le_names { x ≤ self.now.square.names }
-        ensures { Grows (Of Step self.now) self.now.square work.old work.new }
+        ensures { Grown self.now work.old work.new }
     {
         for y in columns::of(line, self.square.names) {
             if self.square.is_marked(work, x, y) {
@@ -80,15 +83,15 @@ impl<'a> Classification<'a> {
     // The defined restrictions with the filler y and the role of b, a restriction whose filler lies below y.
     fn put_over(&self, work: &mut [u8], waiting: &mut Waiting, b: usize, y: usize)
         requires { Of Over self.now work.old b y }
-        ensures { Grows (Of Step self.now) self.now.square work.old work.new }
+        ensures { Grown self.now work.old work.new }
     {
         let role = self.terminology.role(b);
         let mut from = 0;
-        while let Some(z) = self.square.next_hint(work, Hints::FILLERS, y, from) {
-            from = z + 1;
-            if z < self.square.names
-                && self.is_defined_by(z, role, y)
-                && self.square.mark(work, b, z)
+        while let Some(above) = self.square.next_hint(work, FILLERS, y, from) {
+            from = above + 1;
+            if above < self.square.names
+                && self.is_defined_by(above, role, y)
+                && self.square.mark(work, b, above)
             {
                 waiting.wait(b);
             }
@@ -105,7 +108,7 @@ impl<'a> Classification<'a> {
         b: usize,
     )
         requires { Of Restriction self.now work.old x b }
-        ensures { Grows (Of Step self.now) self.now.square work.old work.new }
+        ensures { Grown self.now work.old work.new }
     {
         for y in columns::of(line, self.square.names) {
             if self.square.is_marked(work, x, y) {
@@ -124,17 +127,17 @@ impl<'a> Classification<'a> {
     )
         requires setting { Of Setting self.now work.old }
         requires x_le_names { x ≤ self.now.square.names }
-        ensures { Grows (Of Step self.now) self.now.square work.old work.new }
+        ensures { Grown self.now work.old work.new }
     {
         let mut from = 0;
-        while let Some(b) = self.square.next_hint(work, Hints::FILLERS, x, from) {
-            from = b + 1;
-            if b < self.square.names
-                && self.terminology.is_restriction(b)
-                && self.terminology.filler(b) == x
-                && self.square.is_marked(work, b, b)
+        while let Some(restriction) = self.square.next_hint(work, FILLERS, x, from) {
+            from = restriction + 1;
+            if restriction < self.square.names
+                && self.terminology.is_restriction(restriction)
+                && self.terminology.filler(restriction) == x
+                && self.square.is_marked(work, restriction, restriction)
             {
-                self.put_filled(work, waiting, line, x, b);
+                self.put_filled(work, waiting, line, x, restriction);
             }
         }
     }
@@ -146,7 +149,7 @@ impl<'a> Classification<'a> {
         ensures { Kept self.now.square work.old work.new }
     {
         for y in columns::of(line, self.square.names) {
-            self.square.put_hint(work, Hints::BELOW, y, x);
+            self.square.put_hint(work, BELOW, y, x);
         }
     }
 
@@ -157,10 +160,10 @@ impl<'a> Classification<'a> {
         ensures { Grows (Taking self.now.square self.now.square) self.now.square work.old work.new }
     {
         let mut from = 0;
-        while let Some(b) = self.square.next_hint(work, Hints::BELOW, x, from) {
-            from = b + 1;
-            if self.square.is_marked(work, b, x) {
-                self.hand_over(work, waiting, x, b);
+        while let Some(lower) = self.square.next_hint(work, BELOW, x, from) {
+            from = lower + 1;
+            if self.square.is_marked(work, lower, x) {
+                self.hand_over(work, waiting, x, lower);
             }
         }
     }
@@ -169,7 +172,7 @@ impl<'a> Classification<'a> {
     pub(crate) fn deal_with(&self, work: &mut [u8], waiting: &mut Waiting, x: usize)
         requires setting { Of Setting self.now work.old }
         requires x_le_names { x ≤ self.now.square.names }
-        ensures { Grows (Of Step self.now) self.now.square work.old work.new }
+        ensures { Grown self.now work.old work.new }
     {
         let mut line = [0u8; Line::LENGTH];
         self.square.see(work, x, &mut line);

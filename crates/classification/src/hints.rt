@@ -11,38 +11,31 @@ use marks::Square;
 use release::Kind;
 
 // Which of the four squares behind the rows holds what; the first is for what was seen of a row. Numbers, as crate marks asks for.
-#[derive(Clone, Copy)]
-pub struct Hints {}
+pub const BELOW: usize = 2;
 
-impl Hints {
-    pub const BELOW: usize = 2;
+pub const FILLERS: usize = 3;
 
-    pub const FILLERS: usize = 3;
-
-    pub const CONJUNCTS: usize = 4;
-}
+pub const CONJUNCTS: usize = 4;
 
 impl<'a> Classification<'a> {
     // Notes a restriction by its filler.
-    fn list_restriction(&self, work: &mut [u8], b: usize)
+    fn list_restriction(&self, work: &mut [u8], restriction: usize)
         requires listable { Of Listable self.now work.old }
-        requires b_lt_names { (b < self.now.square.names) × (restricts (kind_at self.now.terminology.table.now b) ≡ true) }
+        requires restriction { (restriction < self.now.square.names) × (restricts (kind_at self.now.terminology.table.now restriction) ≡ true) }
         ensures { Kept self.now.square work.old work.new }
     {
-        let filler = self.terminology.filler(b);
-        self.square.put_hint(work, Hints::FILLERS, filler, b);
+        let filler = self.terminology.filler(restriction);
+        self.square.put_hint(work, FILLERS, filler, restriction);
     }
 
     // Notes a defined conjunction by each of its conjuncts.
-    fn list_conjunction(&self, work: &mut [u8], z: usize)
+    fn list_conjunction(&self, work: &mut [u8], conjunction: usize)
         requires listable { Of Listable self.now work.old }
-        requires z_lt_names { (z < self.now.square.names) × (joins (kind_at self.now.terminology.table.now z) ≡ true) }
+        requires conjunction { (conjunction < self.now.square.names) × (joins (kind_at self.now.terminology.table.now conjunction) ≡ true) }
         ensures { Kept self.now.square work.old work.new }
     {
-        let count = self.terminology.count(z);
-        for i in 0..count {
-            let part = self.terminology.part(z, i);
-            self.square.put_hint(work, Hints::CONJUNCTS, part, z);
+        for part in self.terminology.parts(conjunction) {
+            self.square.put_hint(work, CONJUNCTS, part, conjunction);
         }
     }
 
@@ -68,10 +61,7 @@ pub fn list_below(square: Square, work: &mut [u8])
     requires { Area square work.old }
     ensures { Kept square work.old work.new }
 {
-    if square
-        .next_hint(work, Hints::BELOW, square.names, 0)
-        .is_none()
-    {
-        square.turn_hints(work, Hints::BELOW);
+    if square.next_hint(work, BELOW, square.names, 0).is_none() {
+        square.turn_hints(work, BELOW);
     }
 }

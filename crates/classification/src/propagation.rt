@@ -1,8 +1,7 @@
 // The marks that conjuncts alone give. That this misses nothing is not proved and need not be: the passes after it (sweep) find what it
 // missed.
 ghost use Rattle.std.specs.Prelude.{◌≤◌};
-ghost use Rattle.marks.specs.Passes.{Grows};
-ghost use Rattle.classification.specs.Steps.{Of, Step, Setting};
+ghost use Rattle.classification.specs.Steps.{Of, Grown, Setting};
 
 use crate::Classification;
 use marks::order::Order;
@@ -12,7 +11,7 @@ impl<'a> Classification<'a> {
     fn start_row(&self, work: &mut [u8], x: usize)
         requires setting { Of Setting self.now work.old }
         requires x_le_names { x ≤ self.now.square.names }
-        ensures { Grows (Of Step self.now) self.now.square work.old work.new }
+        ensures { Grown self.now work.old work.new }
     {
         self.seed(work, x);
         if x < self.square.names && self.terminology.is_conjunction(x) {
@@ -23,7 +22,7 @@ impl<'a> Classification<'a> {
     // x ⊑ x, x ⊑ ⊤, and the conjuncts of x, for all x.
     fn start(&self, work: &mut [u8])
         requires { Of Setting self.now work.old }
-        ensures { Grows (Of Step self.now) self.now.square work.old work.new }
+        ensures { Grown self.now work.old work.new }
     {
         for x in 0..self.nodes() {
             self.start_row(work, x);
@@ -33,7 +32,7 @@ impl<'a> Classification<'a> {
     // In the row of ⊤ the names that mean everything: the conjunctions of no names. Whether there is one.
     fn start_top(&self, work: &mut [u8]) -> bool
         requires { Of Setting self.now work.old }
-        ensures { Grows (Of Step self.now) self.now.square work.old work.new }
+        ensures { Grown self.now work.old work.new }
     {
         let mut some = false;
         for y in 0..self.square.names {
@@ -50,7 +49,7 @@ impl<'a> Classification<'a> {
     fn hand_on_row(&self, work: &mut [u8], node: usize)
         requires setting { Of Setting self.now work.old }
         requires node_le_names { node ≤ self.now.square.names }
-        ensures { Grows (Of Step self.now) self.now.square work.old work.new }
+        ensures { Grown self.now work.old work.new }
     {
         let square = self.square;
         for x in 0..self.nodes() {
@@ -64,7 +63,7 @@ impl<'a> Classification<'a> {
     // order; in one in which conjuncts come first, a row is complete before it is handed on, and few have to be.
     fn hand_on_rows(&self, work: &mut [u8], order: &Order)
         requires { Of Setting self.now work.old }
-        ensures { Grows (Of Step self.now) self.now.square work.old work.new }
+        ensures { Grown self.now work.old work.new }
     {
         for name in order.nodes(self.square.names) {
             if name < self.square.names && self.terminology.is_conjunction(name) {
@@ -77,7 +76,7 @@ impl<'a> Classification<'a> {
     // after what it lies below by them.
     pub(crate) fn begin(&self, work: &mut [u8], order: &mut Order)
         requires { Of Setting self.now work.old }
-        ensures { Grows (Of Step self.now) self.now.square work.old work.new }
+        ensures { Grown self.now work.old work.new }
     {
         self.start(work);
         let some = self.start_top(work);

@@ -5,7 +5,7 @@ ghost use Rattle.release.specs.Files.{joins};
 ghost use Rattle.release.specs.Tables.{kind_at, count_at};
 ghost use Rattle.marks.specs.Squares.{Room, Marked};
 ghost use Rattle.marks.specs.Passes.{Pass, Below, Due};
-ghost use Rattle.classification.specs.Steps.{Of, Step, PartMarked, Gathers, Fills, Gathered, Seeds, InRow, Source, Pair, DefinedConjunction};
+ghost use Rattle.classification.specs.Steps.{Of, Step, PartMarked, Gathers, Fills, Gathered, Seeds, InRow, Source, Pair};
 
 use crate::Classification;
 use release::Kind;
@@ -28,10 +28,8 @@ impl<'a> Classification<'a> {
         requires b_value { joins (kind_at self.now.terminology.table.now b) ≡ true }
         ensures { Pass (Of Step self.now) self.now.square (Below (Of PartMarked self.now x b) (count_at self.now.terminology.file.now self.now.terminology.table.now b)) work.old work.new result }
     {
-        let count = self.terminology.count(b);
         let mut changed = false;
-        for i in 0..count {
-            let part = self.terminology.part(b, i);
+        for part in self.terminology.parts(b) {
             let new = self.square.mark(work, x, part);
             changed |= new;
         }
@@ -54,19 +52,15 @@ impl<'a> Classification<'a> {
         self.square.is_marked(work, under, filler)
     }
 
-    // Whether all conjuncts of the defined conjunction y, which has `count` of them, are marked in row x.
-    fn has_parts(&self, work: &[u8], x: usize, y: usize, count: usize) -> bool
+    // Whether all conjuncts of the defined conjunction y are marked in row x.
+    fn has_parts(&self, work: &[u8], x: usize, y: usize) -> bool
         requires in_row { Of InRow self.now work.now x y }
-        requires defined_conjunction { DefinedConjunction self.now.terminology.file.now self.now.terminology.table.now y count }
+        requires kind { kind_at self.now.terminology.table.now y ≡ 2 }
         ensures { Tells result (Of Gathers self.now x y work.now) }
     {
-        for i in 0..count {
-            let part = self.terminology.part(y, i);
-            if !self.square.is_marked(work, x, part) {
-                return false;
-            }
-        }
-        true
+        self.terminology
+            .parts(y)
+            .all(|part| self.square.is_marked(work, x, part))
     }
 
     // Whether y is a defined conjunction, and all its conjuncts are marked in row x.
@@ -77,20 +71,19 @@ impl<'a> Classification<'a> {
         if !self.terminology.has_kind(y, Kind::DefinedConjunction) {
             return false;
         }
-        let count = self.terminology.count(y);
-        self.has_parts(work, x, y, count)
+        self.has_parts(work, x, y)
     }
 
-    // Marks the defined conjunction y, which has `count` conjuncts, in row x if all of them are marked there. Whether the mark is new.
-    pub(crate) fn gather(&self, work: &mut [u8], x: usize, y: usize, count: usize) -> bool
+    // Marks the defined conjunction y in row x if all its conjuncts are marked there. Whether the mark is new.
+    pub(crate) fn gather(&self, work: &mut [u8], x: usize, y: usize) -> bool
         requires in_row { Of InRow self.now work.old x y }
-        requires defined_conjunction { DefinedConjunction self.now.terminology.file.now self.now.terminology.table.now y count }
+        requires kind { kind_at self.now.terminology.table.now y ≡ 2 }
         ensures { Pass (Of Step self.now) self.now.square (Of Gathered self.now x y) work.old work.new result }
     {
         if self.square.is_marked(work, x, y) {
             return false;
         }
-        if self.has_parts(work, x, y, count) {
+        if self.has_parts(work, x, y) {
             return self.square.mark(work, x, y);
         }
         false

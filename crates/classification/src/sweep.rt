@@ -40,10 +40,9 @@ impl<'a> Classification<'a> {
         ensures { Pass (Of Step self.now) self.now.square (Below (Of GatheredAt self.now y) (suc self.now.square.names)) work.old work.new result }
     {
         let own = *self;
-        let count = own.terminology.count(y);
         let mut changed = false;
         for row in 0..self.nodes() {
-            let gathered = own.gather(work, row, y, count);
+            let gathered = own.gather(work, row, y);
             changed |= gathered;
         }
         changed
@@ -128,6 +127,10 @@ impl<'a> Rules for Classification<'a> {
     ghost setting = { Of Setting };
 
     ghost allowed = { Of Step };
+
+    ghost follows = { Of Step };
+
+    ghost wider = { λ c w x y step. step };
 
     ghost done = { λ c. Below (Of Settled c) (suc c.square.names) };
 

@@ -1,8 +1,7 @@
 -- The marks are put by the rules.
-use Rattle.marks.specs.Passes.{Grows}
 use Rattle.marks.specs.Orders.{Walking}
-use Rattle.classification.specs.Steps.{Of, Step}
+use Rattle.classification.specs.Steps.{Grown}
 use Rattle.classification.proofs.Classification.hand_on_rows.Given as goal
 
 abbrev pub invariant-loop-name : goal.invariant-loop-name
-invariant-loop-name l = Walking l.self.square.names l.name-iterator × Grows (Of Step l.self) l.self.square l.initial.work l.work
+invariant-loop-name l = Walking l.self.square.names l.name-iterator × Grown l.self l.initial.work l.work

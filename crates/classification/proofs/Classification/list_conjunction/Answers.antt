@@ -1,29 +1,26 @@
 -- Only hints change.
 use native.Mathlib.Omega.{arith}
 use Rattle.marks.proofs.Squares.{kept_same, kept_further, frame_area}
-use Rattle.release.proofs.DefinedParts.{has_count, has_part}
+use Rattle.release.proofs.PartWalks.{has_parts, begun, item, among, gone_on, ended}
 use Rattle.classification.proofs.Classification.list_conjunction.Goals as goal
 
-pub count-count-requires : goal.count-count-requires
-count-count-requires c = has_count _ _ _ _ (record { shaped = c.requires.listable.shaped; is_name = c.requires.z_lt_names.0; is_conjunctive = c.requires.z_lt_names.1 })
+pub parts-part-items-requires : goal.parts-part-items-requires
+parts-part-items-requires c = has_parts (record { shaped = c.requires.listable.shaped; is_name = c.requires.conjunction.0; is_conjunctive = c.requires.conjunction.1 })
 
-pub loop-i-init : goal.loop-i-init
-loop-i-init c = kept_same
-
-pub part-part-requires : goal.part-part-requires
-part-part-requires c = has_part _ _ _ _ (record { shaped = c.requires.listable.shaped; is_name = c.requires.z_lt_names.0; is_conjunctive = c.requires.z_lt_names.1 }) _
-    (omega (arith, c.loop-i-test.true, c.count-count.ensures))
+pub loop-part-init : goal.loop-part-init
+loop-part-init c = begun c.parts-part-items.ensures c.into_iter-part-iterator.ensures.into_iter_gives kept_same
 
 pub put_hint-requires : goal.put_hint-requires
 put_hint-requires c =
-    let small = c.requires.listable.shaped.part _ c.loop-i.i c.requires.z_lt_names.0 c.requires.z_lt_names.1 (omega (arith, c.loop-i-test.true, c.count-count.ensures)) in
+    let p = c.loop-part.invariant in let given = c.in-Some.ensures.steps in
+    let small = c.requires.listable.shaped.part _ p.index c.requires.conjunction.0 c.requires.conjunction.1 (among p given) in
     record {
-      area = frame_area c.loop-i.invariant.extends.frame c.requires.listable.area;
-      le_k = (omega arith, omega arith, omega (arith, c.part-part.ensures, small), omega (arith, c.requires.z_lt_names.0));
+      area = frame_area p.kept.extends.frame c.requires.listable.area;
+      le_k = (omega arith, omega arith, omega (arith, item p given, small), omega (arith, c.requires.conjunction.0));
     }
 
-pub loop-i-preserved : goal.loop-i-preserved
-loop-i-preserved c = kept_further c.loop-i.invariant c.put_hint.ensures
+pub loop-part-preserved : goal.loop-part-preserved
+loop-part-preserved c = gone_on c.loop-part.invariant c.in-Some.ensures.steps (kept_further c.loop-part.invariant.kept c.put_hint.ensures)
 
 pub returns : goal.returns
-returns c = c.loop-i.invariant
+returns c = ended c.loop-part.invariant c.in-None.ensures.steps

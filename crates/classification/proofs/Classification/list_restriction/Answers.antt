@@ -4,7 +4,7 @@ use Rattle.classification.proofs.Marking.{shaped_row}
 use Rattle.classification.proofs.Classification.list_restriction.Goals as goal
 
 pub filler-filler-requires : goal.filler-filler-requires
-filler-filler-requires c = shaped_row c.requires.listable.shaped c.requires.b_lt_names.0
+filler-filler-requires c = shaped_row c.requires.listable.shaped c.requires.restriction.0
 
 pub put_hint-requires : goal.put_hint-requires
 put_hint-requires c = record {
@@ -12,8 +12,8 @@ put_hint-requires c = record {
   le_k = (
     omega arith,
     omega arith,
-    omega (arith, c.filler-filler.ensures, c.requires.listable.shaped.filler _ c.requires.b_lt_names.0 c.requires.b_lt_names.1),
-    omega (arith, c.requires.b_lt_names.0),
+    omega (arith, c.filler-filler.ensures, c.requires.listable.shaped.filler _ c.requires.restriction.0 c.requires.restriction.1),
+    omega (arith, c.requires.restriction.0),
   );
 }
 

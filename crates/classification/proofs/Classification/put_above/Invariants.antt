@@ -1,8 +1,7 @@
 -- The marks are put by the rules.
 use Rattle.marks.specs.Columns.{Walkable}
-use Rattle.marks.specs.Passes.{Grows}
-use Rattle.classification.specs.Steps.{Of, Step}
+use Rattle.classification.specs.Steps.{Grown}
 use Rattle.classification.proofs.Classification.put_above.Given as goal
 
 abbrev pub invariant-loop-y : goal.invariant-loop-y
-invariant-loop-y l = Walkable l.self.square.names l.y-iterator × Grows (Of Step l.self) l.self.square l.initial.work l.work
+invariant-loop-y l = Walkable l.self.square.names l.y-iterator × Grown l.self l.initial.work l.work

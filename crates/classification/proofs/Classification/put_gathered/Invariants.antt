@@ -1,11 +1,10 @@
 -- The marks are put by the rules.
 use Prim.Native.Nat.{suc, ◌-◌}
-use Rattle.marks.specs.Passes.{Grows}
-use Rattle.classification.specs.Steps.{Of, Step}
+use Rattle.classification.specs.Steps.{Grown}
 use Rattle.classification.proofs.Classification.put_gathered.Given as goal
 
-abbrev pub invariant-loop-z : goal.invariant-loop-z
-invariant-loop-z l = Grows (Of Step l.self) l.self.square l.initial.work l.work
+abbrev pub invariant-loop-conjunction : goal.invariant-loop-conjunction
+invariant-loop-conjunction l = Grown l.self l.initial.work l.work
 
-abbrev pub decreases-loop-z : goal.decreases-loop-z
-decreases-loop-z l = suc l.self.square.names - l.from
+abbrev pub decreases-loop-conjunction : goal.decreases-loop-conjunction
+decreases-loop-conjunction l = suc l.self.square.names - l.from
