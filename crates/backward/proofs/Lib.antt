@@ -4,4 +4,3 @@ pub mod Columns
 pub mod Defined
 pub mod Bridge
 pub mod Meaning
-pub mod Searched

@@ -15,11 +15,8 @@ use mathlib.Core.Logic.{inl, inr}
 use Prim.Native.Nat.{ℕ, suc, ◌≤◌, ◌<◌}
 use native.Mathlib.Omega.{arith}
 use native.Mathlib.Decide.{dec_lt}
-use lib.ListN.{length}
 use Rattle.el.proofs.Tests.{not_both}
 use Rattle.release.specs.Tables.{kind_at, role_at}
-use Rattle.release.proofs.Checks.{header_sound}
-use Rattle.release.proofs.Linked.{no_header_fault}
 use Rattle.marks.specs.Squares.{Marked, Put, First, Nowhere}
 use Rattle.marks.specs.Passes.{Grows, Pass, Below, FromRow}
 use Rattle.marks.specs.Lines.{Empty, Joined, Missing, Full}
@@ -29,12 +26,12 @@ use Rattle.marks.proofs.Passes.{grows_frame, grows_as, marks_stay, grows_further
 use Rattle.marks.proofs.Handing.{stays_anywhere}
 use Rattle.layout.specs.declared.Given.{Given}
 use Rattle.layout.specs.declared.Layout.{Layout}
-use Rattle.layout.specs.Layouts.{first_square, second_square, mark_square, chosen, Edges}
+use Rattle.layout.specs.Layouts.{first_square, second_square, mark_square, chosen}
 use Rattle.layout.specs.Comparing.{Comparing}
 use Rattle.layout.proofs.Comparing as comparing
 use Rattle.backward.specs.Rules.{Setting, Named, Squares, NameLost, PartnerLost, of_filler, Filling, NoRule}
 use Rattle.backward.specs.Rules.{PartLost, RowLost, by_top, by_parts, by_role, PlainLost, by_part, by_row, Own, by_definition, by_name, Over, FromBelow, Follows}
-use Rattle.backward.specs.Rules.{from_definition, from_below, Step, by_own, by_below, Cell, Row, Column, Quiet}
+use Rattle.backward.specs.Rules.{from_definition, from_below, Step, by_own, by_below, follows_step, Cell, Row, Column, Quiet}
 
 -- definitions
 module _ {given : Given} {w : List ℕ} {x y : ℕ} where
@@ -117,23 +114,20 @@ module _ {given : Given} {w : List ℕ} {x y z : ℕ} (filling : Filling given x
   over_grows grows = grows_as over_lost grows
 
 -- what is asked
-pub setting : {given : Given} {w : List ℕ} → given.layout.names ≤ length given.chosen_names.now → Edges given.layout.names given.first.table.now given.edges.now
-    → Comparing given.first.file.now given.second.file.now given w → Setting given w
-setting {given} n e c = record {
-  places = comparing.setting c e;
-  bytes = n;
+pub setting : {given : Given} {w : List ℕ} → Comparing given.first.file.now given.second.file.now given w → Setting given w
+setting c = record {
+  places = comparing.setting c;
   first_shaped = comparing.first_shaped c;
   second_shaped = comparing.second_shaped c;
   second_apart = c.second_apart;
-  few = omega (arith, c.first_names, (header_sound given.first.file.now (no_header_fault given.first.file.now c.first_release.accepted)).names);
 }
 
 module _ {given : Given} {w : List ℕ} (h : Setting given w) where
   pub named : Named given w
-  named = record { bytes = h.bytes; second = h.places.second; marks = h.places.marks; apart = h.second_apart; few = h.few }
+  named = record { second = h.places.second; marks = h.places.marks; apart = h.second_apart }
 
   pub squares : Squares given.layout w
-  squares = record { first = h.places.first; marks = h.places.marks; few = h.few }
+  squares = record { first = h.places.first; marks = h.places.marks }
 
 -- the marks of a row handed on
 pub given_below : {l : Layout} {w v : List ℕ} → Grows (Giving (first_square l) (mark_square l)) (mark_square l) w v → Grows (FromBelow l) (mark_square l) w v
@@ -156,10 +150,6 @@ module _ {given : Given} {w v : List ℕ} where
 
   pub follows_grows : Grows (Follows given) (mark_square given.layout) w v → Grows (Step given) (mark_square given.layout) w v
   follows_grows grows = grows_as (λ u x y k i j r. follows_step r) grows
-    where
-      follows_step : {u : List ℕ} {x y : ℕ} → Follows given u x y → Step given u x y
-      follows_step (from_definition d) = by_own (by_definition d)
-      follows_step (from_below f) = by_below f
 
 -- what a pass has looked at: for each name its row and its column, and the row of ⊤
 pub record Looked (given : Given) (x : ℕ) (w : List ℕ) : Type 0 where

@@ -15,12 +15,13 @@
 --   Own given w x y                they do, or x is such a name
 --   Over given x y w p z           p is x, and z has its role and the filler y
 --   FromBelow l w x y              something below x by the first release is marked with y
---   Follows given w x y            the definitions of x and y allow the mark x, y, or something below x does
+--   Follows given w x y            the definitions of x and y allow the mark x, y, or something below x does;  Followed given w v: w became v
+--                                  by such marks
 --   Step given w x y               a rule allows the mark x, y
 --   Cell R l x y w                 the rule R leaves nothing to mark there;  Row R l x w: in the row x;  Column R l y w: in the column y
 --   Quiet given w                  nothing is left to mark
 -- Not here: what the rules mean (proofs/Meaning).
-use Rattle.std.specs.Prelude.{◌≡◌, true, false, List, ◌⊎◌, ℕ, suc, ◌+◌, ◌≤◌, ◌<◌, length}
+use Rattle.std.specs.Prelude.{◌≡◌, true, false, List, ◌⊎◌, ℕ, suc, ◌+◌, ◌≤◌, ◌<◌}
 use Rattle.release.specs.declared.table.Row as table
 use Rattle.release.specs.Tables.{kind_at, role_at, filler_at, count_at, part_at, Shaped}
 use Rattle.marks.specs.Squares.{span, Room, Marked}
@@ -31,21 +32,20 @@ use Rattle.layout.specs.declared.Layout.{Layout}
 use Rattle.layout.specs.Searches.{SomeBelow, EachBelow}
 use Rattle.layout.specs.Layouts as layout
 use Rattle.layout.proofs.Layouts.{setting_stays as places_stay}
-use Rattle.layout.specs.Layouts.{first_square, second_square, mark_square, chosen, has_edge}
+use Rattle.layout.specs.Tables.{has_edge}
+use Rattle.layout.specs.Layouts.{first_square, second_square, mark_square, chosen}
 
 -- what the functions ask: all is in its place, conjuncts too, and marks change no inclusion of the second release
 pub record Setting (given : Given) (w : List ℕ) : Type 0 where
   pub places : layout.Setting given w
-  pub bytes : given.layout.names ≤ length given.chosen_names.now
   pub first_shaped : Shaped given.layout.names given.first.file.now given.first.table.now
   pub second_shaped : Shaped given.layout.names given.second.file.now given.second.table.now
   pub second_apart : given.layout.second + span given.layout.names ≤ given.layout.marks
-  pub few : given.layout.names ≤ 1023
 
--- it stays where marks are put
+-- it stays where marks are put; the law stands here, since an impl's law may cite specs/ of its crate, and not its proofs/
 pub setting_stays : {Rule : List ℕ → ℕ → ℕ → Type 0} {given : Given} {w v : List ℕ} → Grows Rule (mark_square given.layout) w v → Setting given w → Setting given v
 setting_stays grows h = record
-    { places = places_stay grows h.places; bytes = h.bytes; first_shaped = h.first_shaped; second_shaped = h.second_shaped; second_apart = h.second_apart; few = h.few }
+    { places = places_stay grows h.places; first_shaped = h.first_shaped; second_shaped = h.second_shaped; second_apart = h.second_apart }
 
 -- what those ask that look at rows
 pub record Rows (given : Given) (w : List ℕ) : Type 0 where
@@ -54,17 +54,14 @@ pub record Rows (given : Given) (w : List ℕ) : Type 0 where
 
 -- what those ask that mark names
 pub record Named (given : Given) (w : List ℕ) : Type 0 where
-  pub bytes : given.layout.names ≤ length given.chosen_names.now
   pub second : Room (second_square given.layout) w
   pub marks : Room (mark_square given.layout) w
   pub apart : given.layout.second + span given.layout.names ≤ given.layout.marks
-  pub few : given.layout.names ≤ 1023
 
 -- what those ask that hand marks on
 pub record Squares (l : Layout) (w : List ℕ) : Type 0 where
   pub first : Room (first_square l) w
   pub marks : Room (mark_square l) w
-  pub few : l.names ≤ 1023
 
 pub record PlainColumn (given : Given) (y : ℕ) : Type 0 where
   pub not_joined : y < given.layout.names → kind_at given.second.table.now y ≡ 2 → ⊥
@@ -141,9 +138,17 @@ pub data Follows (given : Given) (w : List ℕ) (x y : ℕ) : Type 0 where
   from_definition : Defined given w x y → Follows given w x y
   from_below : FromBelow given.layout w x y → Follows given w x y
 
+abbrev pub Followed : Given → List ℕ → List ℕ → Type 0
+Followed given w v = Grows (Follows given) (mark_square given.layout) w v
+
 pub data Step (given : Given) (w : List ℕ) (x y : ℕ) : Type 0 where
   by_own : Own given w x y → Step given w x y
   by_below : FromBelow given.layout w x y → Step given w x y
+
+-- stands here for the same reason
+pub follows_step : {given : Given} {w : List ℕ} {x y : ℕ} → Follows given w x y → Step given w x y
+follows_step (from_definition d) = by_own (by_definition d)
+follows_step (from_below f) = by_below f
 
 pub record Cell (Rule : List ℕ → ℕ → ℕ → Type 0) (l : Layout) (x y : ℕ) (w : List ℕ) : Type 0 where
   pub marked : Rule w x y → Marked (mark_square l) w x y

@@ -1,14 +1,16 @@
 // What new marks give: marks put at the pairs that depend on them, each as a rule allows. A row with a new mark waits, to be dealt with
 // in its turn. Where to look is read from hints and lines of which nothing is said, so each rule is tested at its pair.
 // Each `while let` here writes the memory that it searches, so no iterator can hold it; those over a line, which is not written, have one.
+// What is given, the memory and the rows that wait are three parameters. A struct of the three was tried: each method has a clause more, that
+// the memory is still the same reference, and the check does not cover one that lends two of the fields to a call (`put_lost`).
 ghost use Rattle.std.specs.Prelude.{◌≤◌, ◌<◌};
 ghost use Rattle.marks.specs.Squares.{Room, Put};
 ghost use Rattle.marks.specs.Passes.{Grows};
-ghost use Rattle.layout.specs.Layouts.{mark_square, Rowed, Areas};
-ghost use Rattle.backward.specs.Rules.{Setting, Squares, Filling, Over, FromBelow, Follows};
+ghost use Rattle.layout.specs.Layouts.{mark_square, Areas};
+ghost use Rattle.backward.specs.Rules.{Setting, Squares, Filling, Over, FromBelow, Followed};
 
 use crate::rules::{defined_lost, is_filled, is_filling};
-use classification::hints::Hints;
+use classification::hints::{CONJUNCTS, FILLERS};
 use layout::Given;
 use marks::columns;
 use marks::line::Line;
@@ -31,7 +33,7 @@ fn put(given: &Given, work: &mut [u8], waiting: &mut Waiting, x: usize, y: usize
 fn put_lost(given: &Given, work: &mut [u8], waiting: &mut Waiting, x: usize, y: usize)
     requires setting { Setting given.now work.old }
     requires x_le_names { (x ≤ given.now.layout.names) × (y ≤ given.now.layout.names) }
-    ensures { Grows (Follows given.now) (mark_square given.now.layout) work.old work.new }
+    ensures { Followed given.now work.old work.new }
 {
     if given.layout.mark_square().is_marked(work, x, y) {
         return;
@@ -45,7 +47,7 @@ fn put_lost(given: &Given, work: &mut [u8], waiting: &mut Waiting, x: usize, y: 
 fn put_row(given: &Given, work: &mut [u8], waiting: &mut Waiting, x: usize)
     requires setting { Setting given.now work.old }
     requires x_le_names { x ≤ given.now.layout.names }
-    ensures { Grows (Follows given.now) (mark_square given.now.layout) work.old work.new }
+    ensures { Followed given.now work.old work.new }
 {
     let marks = given.layout.mark_square();
     let mut next = 0;
@@ -65,7 +67,7 @@ fn put_line(
 )
     requires setting { Setting given.now work.old }
     requires x_le_names { x ≤ given.now.layout.names }
-    ensures { Grows (Follows given.now) (mark_square given.now.layout) work.old work.new }
+    ensures { Followed given.now work.old work.new }
 {
     for y in columns::of(line, given.layout.names) {
         put_lost(given, work, waiting, x, y);
@@ -73,9 +75,8 @@ fn put_line(
 }
 
 // Row x, a restriction whose filler is marked with y: the columns of the restrictions of the second release with its role and the
-// filler y.
+// filler y. Crate classification has a function of this name: there the mark is an inclusion, which its own rule allows.
 fn put_over(given: &Given, work: &mut [u8], waiting: &mut Waiting, x: usize, y: usize)
-    requires rowed { Rowed given.now.layout.names given.now.first.table.now × Rowed given.now.layout.names given.now.second.table.now }
     requires areas { Areas given.now.layout work.old }
     requires x_lt_names { (x < given.now.layout.names) × (y ≤ given.now.layout.names) }
     ensures { Grows (Over given.now x y) (mark_square given.now.layout) work.old work.new }
@@ -83,15 +84,15 @@ fn put_over(given: &Given, work: &mut [u8], waiting: &mut Waiting, x: usize, y: 
     let inclusions = given.layout.second_square();
     let role = given.first.role(x);
     let mut next = 0;
-    while let Some(z) = inclusions.next_hint(work, Hints::FILLERS, y, next) {
-        next = z + 1;
-        if !is_filled(given, z, role) {
+    while let Some(name) = inclusions.next_hint(work, FILLERS, y, next) {
+        next = name + 1;
+        if !is_filled(given, name, role) {
             continue;
         }
-        if given.second.filler(z) != y {
+        if given.second.filler(name) != y {
             continue;
         }
-        put(given, work, waiting, x, z);
+        put(given, work, waiting, x, name);
     }
 }
 
@@ -107,7 +108,7 @@ fn put_filled(
 )
     requires setting { Setting given.now work.old }
     requires filling { Filling given.now x filler }
-    ensures { Grows (Follows given.now) (mark_square given.now.layout) work.old work.new }
+    ensures { Followed given.now work.old work.new }
 {
     let marks = given.layout.mark_square();
     for y in columns::of(line, given.layout.names) {
@@ -129,11 +130,11 @@ fn put_by_filler(
 )
     requires setting { Setting given.now work.old }
     requires filler_le_names { filler ≤ given.now.layout.names }
-    ensures { Grows (Follows given.now) (mark_square given.now.layout) work.old work.new }
+    ensures { Followed given.now work.old work.new }
 {
     let inclusions = given.layout.first_square();
     let mut next = 0;
-    while let Some(x) = inclusions.next_hint(work, Hints::FILLERS, filler, next) {
+    while let Some(x) = inclusions.next_hint(work, FILLERS, filler, next) {
         next = x + 1;
         if is_filling(given, x, filler) {
             put_filled(given, work, waiting, line, filler, x);
@@ -151,11 +152,11 @@ fn put_by_part(
 )
     requires setting { Setting given.now work.old }
     requires part_le_names { part ≤ given.now.layout.names }
-    ensures { Grows (Follows given.now) (mark_square given.now.layout) work.old work.new }
+    ensures { Followed given.now work.old work.new }
 {
     let inclusions = given.layout.first_square();
     let mut next = 0;
-    while let Some(x) = inclusions.next_hint(work, Hints::CONJUNCTS, part, next) {
+    while let Some(x) = inclusions.next_hint(work, CONJUNCTS, part, next) {
         next = x + 1;
         put_line(given, work, waiting, line, x);
     }
@@ -165,13 +166,13 @@ fn put_by_part(
 fn put_columns(given: &Given, work: &mut [u8], waiting: &mut Waiting, x: usize, y: usize)
     requires setting { Setting given.now work.old }
     requires x_le_names { (x ≤ given.now.layout.names) × (y ≤ given.now.layout.names) }
-    ensures { Grows (Follows given.now) (mark_square given.now.layout) work.old work.new }
+    ensures { Followed given.now work.old work.new }
 {
     let inclusions = given.layout.second_square();
     let mut next = 0;
-    while let Some(z) = inclusions.next_hint(work, Hints::CONJUNCTS, y, next) {
-        next = z + 1;
-        put_lost(given, work, waiting, x, z);
+    while let Some(name) = inclusions.next_hint(work, CONJUNCTS, y, next) {
+        next = name + 1;
+        put_lost(given, work, waiting, x, name);
     }
 }
 
@@ -185,7 +186,7 @@ fn put_all_columns(
 )
     requires setting { Setting given.now work.old }
     requires x_le_names { x ≤ given.now.layout.names }
-    ensures { Grows (Follows given.now) (mark_square given.now.layout) work.old work.new }
+    ensures { Followed given.now work.old work.new }
 {
     for y in columns::of(line, given.layout.names) {
         put_columns(given, work, waiting, x, y);
@@ -215,7 +216,7 @@ fn put_above(given: &Given, work: &mut [u8], waiting: &mut Waiting, lower: usize
 pub fn deal(given: &Given, work: &mut [u8], waiting: &mut Waiting, x: usize)
     requires setting { Setting given.now work.old }
     requires x_le_names { x ≤ given.now.layout.names }
-    ensures { Grows (Follows given.now) (mark_square given.now.layout) work.old work.new }
+    ensures { Followed given.now work.old work.new }
 {
     let mut line = [0u8; Line::LENGTH];
     given.layout.mark_square().see(work, x, &mut line);

@@ -2,8 +2,6 @@
 // The last column is not ⊤ but nothing, below which no concept lies.
 #![tactic(auto)]
 
-ghost use Rattle.std.specs.Prelude.{◌≤◌, length};
-ghost use Rattle.layout.specs.Layouts.{Edges};
 ghost use Rattle.layout.specs.Comparing.{Comparing};
 ghost use Rattle.backward.specs.Backward.{BackwardFrom};
 
@@ -17,9 +15,7 @@ mod sweep;
 
 // Marks those pairs, given the names of the signature, the edges with a role of it, the two releases and the squares of their inclusions.
 pub fn mark_lost_below(given: &Given, work: &mut [u8])
-    requires names_in_bounds { given.now.layout.names ≤ length given.now.chosen_names.now }
-    requires edges { Edges given.now.layout.names given.now.first.table.now given.now.edges.now }
-    requires comparing { Comparing given.now.first.file.now given.now.second.file.now given.now work.old }
+    requires { Comparing given.now.first.file.now given.now.second.file.now given.now work.old }
     ensures { BackwardFrom given.now work.old work.new }
 {
     let mut order = Order::new();

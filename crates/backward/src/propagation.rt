@@ -21,11 +21,6 @@ pub fn mark_names(given: &Given, work: &mut [u8])
     }
 }
 
-// The node before a place of the order.
-fn before(order: &Order, place: usize) -> Option<usize> {
-    order.at(place.checked_sub(1)?)
-}
-
 // Hands the marks of row x on. The rows that are left hand on to those above them what they get, so they stand for these.
 fn hand_up(
     given: &Given,
@@ -54,14 +49,11 @@ pub fn hand_all_up(given: &Given, work: &mut [u8], order: &Order)
     ensures { Grows (FromBelow given.now.layout) (mark_square given.now.layout) work.old work.new }
 {
     let mut left = [255u8; Line::LENGTH];
-    for place in (0..=given.layout.names).rev() {
-        let Some(x) = order.at(place) else {
-            continue;
-        };
-        if given.layout.names < x {
-            continue;
-        }
-        let near = before(order, place);
+    // one row ahead
+    let mut ahead = order.nodes(given.layout.names).rev();
+    ahead.next();
+    for x in order.nodes(given.layout.names).rev() {
+        let near = ahead.next();
         hand_up(given, work, &mut left, x, near);
     }
 }

@@ -1,10 +1,10 @@
 // The rules by which a pair x, y is marked. What they ask is said in specs/Rules.
-ghost use Rattle.std.specs.Prelude.{◌≡◌, true, false, ◌≤◌, ◌<◌, length};
+ghost use Rattle.std.specs.Prelude.{◌≡◌, true, false, ◌≤◌, ◌<◌};
 ghost use Rattle.el.proofs.Tests.{Tells};
 ghost use Rattle.release.specs.Tables.{kind_at, count_at, Shaped};
 ghost use Rattle.marks.specs.Squares.{Room};
 ghost use Rattle.layout.specs.Searches.{SomeBelow, EachBelow};
-ghost use Rattle.layout.specs.Layouts.{mark_square, Rowed};
+ghost use Rattle.layout.specs.Layouts.{mark_square};
 ghost use Rattle.backward.specs.Rules.{Setting, Rows, PlainColumn, ColumnPart, RowPart, Filled, RoleLost, Filling, NoRule, RowLost, Defined};
 
 use layout::Given;
@@ -18,10 +18,10 @@ pub fn some_part_lost(given: &Given, work: &[u8], x: usize, y: usize) -> bool
     ensures { Tells result (SomeBelow (ColumnPart given.now work.now x y) (count_at given.now.second.file.now given.now.second.table.now y)) }
 {
     let marks = given.layout.mark_square();
-    (0..given.second.count(y)).any(|i| {
-        let part = given.second.part(y, i);
-        marks.is_marked(work, x, part)
-    })
+    given
+        .second
+        .parts(y)
+        .any(|part| marks.is_marked(work, x, part))
 }
 
 // Whether all conjuncts of the conjunction x of the first release are marked with y.
@@ -32,15 +32,14 @@ fn all_parts_lost(given: &Given, work: &[u8], x: usize, y: usize) -> bool
     ensures { Tells result (EachBelow (RowPart given.now work.now x y) (count_at given.now.first.file.now given.now.first.table.now x)) }
 {
     let marks = given.layout.mark_square();
-    (0..given.first.count(x)).all(|i| {
-        let part = given.first.part(x, i);
-        marks.is_marked(work, part, y)
-    })
+    given
+        .first
+        .parts(x)
+        .all(|part| marks.is_marked(work, part, y))
 }
 
 // Whether y is defined by a restriction with the role.
 pub fn is_filled(given: &Given, y: usize, role: usize) -> bool
-    requires { Rowed given.now.layout.names given.now.second.table.now }
     ensures { Tells result (Filled given.now.second.table.now given.now.layout.names y role) }
 {
     y < given.layout.names
@@ -51,8 +50,6 @@ pub fn is_filled(given: &Given, y: usize, role: usize) -> bool
 // Whether the filler of x, which is defined by a restriction, is marked with what has to lie above it for y: the filler of y, if y
 // is defined by a restriction with the same role, else nothing. A filler ⊤ of y is above all.
 fn role_lost(given: &Given, work: &[u8], x: usize, y: usize) -> bool
-    requires names_in_bounds { given.now.layout.names ≤ length given.now.edges.now }
-    requires rowed { Rowed given.now.layout.names given.now.first.table.now × Rowed given.now.layout.names given.now.second.table.now }
     requires room { Room (mark_square given.now.layout) work.now }
     requires x_lt_names { (x < given.now.layout.names) × (kind_at given.now.first.table.now x ≡ 4) }
     ensures { Tells result (RoleLost given.now work.now x y) }
@@ -103,8 +100,6 @@ pub fn defined_lost(given: &Given, work: &[u8], x: usize, y: usize) -> bool
 
 // Whether x is defined by a restriction with this filler and a role of the signature. Where it says no, nothing is said.
 pub fn is_filling(given: &Given, x: usize, filler: usize) -> bool
-    requires names_in_bounds { given.now.layout.names ≤ length given.now.edges.now }
-    requires rowed { Rowed given.now.layout.names given.now.first.table.now }
     ensures { result ≡ true → Filling given.now x filler }
 {
     x < given.layout.names
@@ -115,8 +110,6 @@ pub fn is_filling(given: &Given, x: usize, filler: usize) -> bool
 
 // Whether the definition of x may allow a mark. Where it says yes, nothing is said.
 pub fn may_be_lost(given: &Given, x: usize) -> bool
-    requires names_in_bounds { given.now.layout.names ≤ length given.now.edges.now }
-    requires rowed { Rowed given.now.layout.names given.now.first.table.now }
     ensures { result ≡ false → NoRule given.now x }
 {
     if given.layout.names <= x {
@@ -131,7 +124,6 @@ pub fn may_be_lost(given: &Given, x: usize) -> bool
 
 // Whether y is not defined by a conjunction.
 pub fn is_plain(given: &Given, y: usize) -> bool
-    requires { Rowed given.now.layout.names given.now.second.table.now }
     ensures { Tells result (PlainColumn given.now y) }
 {
     given.layout.names <= y || !given.second.has_kind(y, Kind::DefinedConjunction)

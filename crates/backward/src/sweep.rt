@@ -4,7 +4,7 @@ ghost use Rattle.release.specs.Tables.{kind_at, Shaped};
 ghost use Rattle.marks.specs.Squares.{Room};
 ghost use Rattle.marks.specs.Passes.{Pass, Closed, Below};
 ghost use Rattle.layout.specs.Layouts.{mark_square};
-ghost use Rattle.backward.specs.Rules.{Setting, setting_stays, Rows, Named, NameLost, PartLost, PlainLost, Own, Step, Cell, Row, Column, Quiet};
+ghost use Rattle.backward.specs.Rules.{Setting, setting_stays, follows_step, Rows, Named, NameLost, PartLost, PlainLost, Own, Follows, Step, Cell, Row, Column, Quiet};
 
 use crate::consequences::deal;
 use crate::rules::{column_lost, is_plain, may_be_lost, some_part_lost};
@@ -23,7 +23,7 @@ pub fn look_at_name(given: &Given, work: &mut [u8], x: usize) -> bool
     requires x_le_names { x ≤ given.now.layout.names }
     ensures { Pass (NameLost given.now) (mark_square given.now.layout) (Row (NameLost given.now) given.now.layout x) work.old work.new result }
 {
-    if given.layout.has_name(given.chosen_names, x) {
+    if given.has_name(x) {
         let marks = given.layout.mark_square();
         let mut row = [0u8; Line::LENGTH];
         given.layout.second_square().join(work, x, &mut row);
@@ -130,8 +130,9 @@ fn look_at_names(given: &Given, work: &mut [u8]) -> bool
     changed | top
 }
 
-// The rules of backward marks, by which a square is closed.
-#[derive(Clone, Copy)]
+// The rules of backward marks, by which a square is closed. What marks by them are functions and no methods here: a method would have as many
+// parameters, and its clauses one field more to go through. `Setting` stands in their contracts, as it says of the memory what `given` asks.
+#[derive(Clone, Copy, Debug, PartialEq, Eq)]
 struct LostBelow<'a> {
     given: &'a Given<'a>,
 }
@@ -143,7 +144,11 @@ impl<'a> Rules for LostBelow<'a> {
 
     ghost allowed = { λ r. Step r.given.now };
 
+    ghost follows = { λ r. Follows r.given.now };
+
     ghost done = { λ r. Quiet r.given.now };
+
+    ghost wider = { λ r w x y f. follows_step f };
 
     ghost stays = { λ r w v grows h. setting_stays grows h };
 

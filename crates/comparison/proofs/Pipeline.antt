@@ -1,8 +1,8 @@
 -- The four squares one after the other, and the result: what each call asks follows from what the calls before it gave.
 --   first_asks, second_asks, both_included         the two classifications, and what they give together
 --   unchanged, below_room, turned_second, prepared             the second square turned behind its rows: memory that is ready
---   first_rowed, names_long, PutBy, handed         what finding edges asks, what marks are put by, and what is handed on of the signature
---   comparing, forward_asks, forward_below, backward_asks, all_marked     the marks
+--   first_rowed, second_rowed, names_long, PutBy, handed         what finding edges asks, what marks are put by, and what is handed on of the signature
+--   comparing, forward_asks, backward_asks, all_marked     the marks
 --   readable, marking                              what writing the result bytes asks and gives
 --   given_in, compared, compared_again             what the comparison gives
 use mathlib.Core.Path.{◌≡◌, refl, sym, ap, ◌∙◌}
@@ -18,8 +18,6 @@ use lib.ListN.{length, get_or, take}
 use lib.Seq.{ext_get_or, get_or-take, length-take-le}
 use Rattle.el.proofs.Tests.{which}
 use Rattle.release.specs.Files.{most_names}
-use Rattle.release.proofs.Checks.{header_sound}
-use Rattle.release.proofs.Linked.{no_header_fault}
 use Rattle.signature.specs.Bytes.{signature_fault}
 use Rattle.marks.specs.declared.Square.{Square}
 use Rattle.marks.specs.Squares.{most_cells, span, place, behind, Room, Area, Unmarked, Touches, Kept, Apart, Frame}
@@ -31,12 +29,12 @@ use Rattle.classification.proofs.AxiomRows.{ranges}
 use Rattle.classification.proofs.Meaning.{inclusions_stay}
 use Rattle.layout.specs.declared.Layout.{Layout}
 use Rattle.layout.specs.declared.Given as layout
-use Rattle.layout.specs.Layouts.{mark_square, Rowed, Setting}
+use Rattle.layout.specs.Tables.{Rowed}
+use Rattle.layout.specs.Layouts.{mark_square}
 use Rattle.layout.specs.Findings.{Found, Handed}
 use Rattle.layout.specs.Comparing.{Comparing}
-use Rattle.layout.proofs.Findings.{found_edges}
 use Rattle.layout.proofs.Comparing.{rowed, setting}
-use Rattle.forward.specs.Rules.{Beneath}
+use Rattle.forward.specs.Rules.{Beneath, Setting}
 use Rattle.forward.specs.Forward.{ForwardMarked, Forwarded, ForwardFrom}
 use Rattle.backward.specs.Backward.{Backwarded, BackwardFrom}
 use Rattle.comparison.specs.Bytes.{Readable, Written}
@@ -59,24 +57,24 @@ unfolding size
 size_cells n h = mul-le-mul {n₁ = suc n} {m₁ = suc n} {n₂ = 4096} {m₂ = 4096} (omega arith) (omega arith)
 
 -- hints behind the first square
-module _ {s t : List ℕ} {n : ℕ} {w v u : List ℕ} (b : BothIncluded s t n (size n) w v) (r : Kept (square_at n 0) v u) where
-  after : (base : ℕ) → size n ≤ base → RowsSame (square_at n base) v u
-  after base h = record { byte = λ i l f. r.extends.frame.past i (omega arith) }
+module _ {r : Releases} {w v u : List ℕ} (b : BothIncluded r w v) (kept : Kept (square_at r.names 0) v u) where
+  after : (base : ℕ) → size r.names ≤ base → RowsSame (square_at r.names base) v u
+  after base h = record { byte = λ i l f. kept.extends.frame.past i (omega arith) }
 
-  pub both_kept : BothIncluded s t n (size n) w u
+  pub both_kept : BothIncluded r w u
   both_kept = record {
-    long = r.extends.frame.long ∙ b.long;
-    past = λ i h. r.extends.frame.past i (omega arith) ∙ b.past i h;
-    first = record { sound = λ x y h l m. b.first.sound x y h l (r.marks x y h l m); complete = λ x y h l p. r.extends.stays x y (b.first.complete x y h l p) };
+    long = kept.extends.frame.long ∙ b.long;
+    past = λ i h. kept.extends.frame.past i (omega arith) ∙ b.past i h;
+    first = record { sound = λ x y h l m. b.first.sound x y h l (kept.marks x y h l m); complete = λ x y h l p. kept.extends.stays x y (b.first.complete x y h l p) };
     second = record {
-      sound = λ x y h l m. b.second.sound x y h l (marked_same (after (size n) (omega arith)) h l m);
-      complete = λ x y h l p. same_marked (after (size n) (omega arith)) h l (b.second.complete x y h l p);
+      sound = λ x y h l m. b.second.sound x y h l (marked_same (after (size r.names) (omega arith)) h l m);
+      complete = λ x y h l p. same_marked (after (size r.names) (omega arith)) h l (b.second.complete x y h l p);
     };
-    zero = λ i h l. r.extends.frame.past i (omega arith) ∙ b.zero i h l;
+    zero = λ i h l. kept.extends.frame.past i (omega arith) ∙ b.zero i h l;
   }
 
 -- the second square turned behind its rows
-pub unchanged : {n k : ℕ} {w : List ℕ} → n < 1 → SecondTurned n k w w
+pub unchanged : {r : Releases} {w : List ℕ} → r.names < 1 → SecondTurned r w w
 unchanged h = record { long = refl; before = λ i l. refl; past = λ i l. refl; turned = λ l. absurd (omega arith) }
 
 pub below_after : (n k : ℕ) {p : Square} → p ≡ behind (square_at n k) 1 → k + span n ≤ p.base
@@ -87,52 +85,52 @@ pub below_names : (n k : ℕ) {p : Square} → p ≡ behind (square_at n k) 1 �
 unfolding behind
 below_names n k is = rw is refl
 
-module _ {n : ℕ} {w : List ℕ} (few : n ≤ most_names) (long : 4 * size n ≤ length w) (some : 0 < n) where
-  pub second_area : Area (square_at n (size n)) w
+module _ (r : Releases) {w : List ℕ} (long : 4 * size r.names ≤ length w) (some : 0 < r.names) where
+  pub second_area : Area (square_at r.names (size r.names)) w
   second_area = record {
-    room = record { small = record { few = omega arith; near = omega (arith, size_cells n few) }; fits = omega (arith, span_size n) };
+    room = record { small = record { few = omega (arith, r.few); near = omega (arith, size_cells r.names r.few) }; fits = omega (arith, span_size r.names) };
     lent = omega arith;
-    near = omega (arith, size_cells n few);
+    near = omega (arith, size_cells r.names r.few);
   }
 
-  module _ {p : Square} (is : p ≡ behind (square_at n (size n)) 1) where
+  module _ {p : Square} (is : p ≡ behind (square_at r.names (size r.names)) 1) where
     pub below_room : Room p w
     unfolding behind
-    below_room = rw is (record { small = record { few = omega arith; near = omega (arith, size_cells n few, two_spans n some) }; fits = omega (arith, two_spans n some) })
+    below_room = rw is (record { small = record { few = omega (arith, r.few); near = omega (arith, size_cells r.names r.few, two_spans r.names some) }; fits = omega (arith, two_spans r.names some) })
 
-    pub turned_second : {w1 w2 : List ℕ} → Touches p w w1 → Touches p w1 w2 → Turned (square_at n (size n)) w2 p w2 → SecondTurned n (size n) w w2
+    pub turned_second : {w1 w2 : List ℕ} → Touches p w w1 → Touches p w1 w2 → Turned (square_at r.names (size r.names)) w2 p w2 → SecondTurned r w w2
     unfolding behind
     turned_second {w1} {w2} c t turned =
         let all = touches_further c t in
-        let base : p.base ≡ size n + 1 * span n = ap (λ (q : Square). q.base) is in
-        let names : p.names ≡ n = ap (λ (q : Square). q.names) is in
-        let rows : span p.names ≡ span n = ap span names in
+        let base : p.base ≡ size r.names + 1 * span r.names = ap (λ (q : Square). q.base) is in
+        let names : p.names ≡ r.names = ap (λ (q : Square). q.names) is in
+        let rows : span p.names ≡ span r.names = ap span names in
         record {
           long = all.long;
           before = λ i l. all.before i (omega (arith, base));
-          past = λ i l. all.past i (omega (arith, base, rows, two_spans n some));
+          past = λ i l. all.past i (omega (arith, base, rows, two_spans r.names some));
           turned = λ l. rw is at turned;
         }
 
-module _ {s t : List ℕ} {n k : ℕ} {w v u : List ℕ} (b : BothIncluded s t n k w v) (r : SecondTurned n k v u) where
-  still : (base : ℕ) → base ≤ k → RowsSame (square_at n base) v u
-  still base h = record { byte = λ i l f. r.before i (omega arith) }
+module _ {r : Releases} {w v u : List ℕ} (b : BothIncluded r w v) (turn : SecondTurned r v u) where
+  still : (base : ℕ) → base ≤ size r.names → RowsSame (square_at r.names base) v u
+  still base h = record { byte = λ i l f. turn.before i (omega arith) }
 
-  pub prepared : Prepared s t n k w u
+  pub prepared : Prepared r w u
   prepared = record {
-    long = r.long ∙ b.long;
-    past = λ i h. r.past i (omega arith) ∙ b.past i h;
+    long = turn.long ∙ b.long;
+    past = λ i h. turn.past i (omega arith) ∙ b.past i h;
     ready = record {
       first = record {
         sound = λ x y h l m. b.first.sound x y h l (marked_same (still 0 (omega arith)) h l m);
         complete = λ x y h l p. same_marked (still 0 (omega arith)) h l (b.first.complete x y h l p);
       };
       second = record {
-        sound = λ x y h l m. b.second.sound x y h l (marked_same (still k (omega arith)) h l m);
-        complete = λ x y h l p. same_marked (still k (omega arith)) h l (b.second.complete x y h l p);
+        sound = λ x y h l m. b.second.sound x y h l (marked_same (still (size r.names) (omega arith)) h l m);
+        complete = λ x y h l p. same_marked (still (size r.names) (omega arith)) h l (b.second.complete x y h l p);
       };
-      turned = r.turned;
-      zero = λ i h l. r.past i h ∙ b.zero i h l;
+      turned = turn.turned;
+      zero = λ i h l. turn.past i h ∙ b.zero i h l;
     };
   }
 
@@ -158,14 +156,11 @@ module _ {r : Releases} {w : List ℕ} (both : BothGiven r w) where
   abbrev k : ℕ
   k = size n
 
-  pub few : n ≤ most_names
-  few = omega (arith, both.first_names, (header_sound s (no_header_fault s both.first.accepted)).names)
-
   pub small : k ≤ most_cells
-  small = size_cells n few
+  small = size_cells n r.few
 
   pub room_at : (base : ℕ) → base ≤ 3 * k → (v : List ℕ) → length v ≡ length w → Room (square_at n base) v
-  room_at base h v long = record { small = record { few = omega (arith, few); near = omega (arith, small) }; fits = omega (arith, span_size n, both.room) }
+  room_at base h v long = record { small = record { few = omega (arith, r.few); near = omega (arith, small) }; fits = omega (arith, span_size n, both.room) }
 
   pub area_at : (base : ℕ) → base ≤ 3 * k → (v : List ℕ) → length v ≡ length w → Area (square_at n base) v
   area_at base h v long = record { room = room_at base h v long; lent = omega (arith, both.room); near = omega (arith, small) }
@@ -188,7 +183,7 @@ module _ {r : Releases} {w : List ℕ} (both : BothGiven r w) where
       }
 
       module _ {w3 : List ℕ} (d : Classified t (square_at n k) w2 w3) where
-        pub both_included : BothIncluded s t n k w w3
+        pub both_included : BothIncluded r w w3
         both_included = record {
           long = d.frame.long ∙ (c.frame.long ∙ z.long);
           past = λ i h. d.frame.past i (omega (arith, span_size n)) ∙ (c.frame.past i (omega (arith, span_size n)) ∙ z.past i h);
@@ -199,11 +194,14 @@ module _ {r : Releases} {w : List ℕ} (both : BothGiven r w) where
 
   -- the square of marks lies at a base, behind those of the inclusions
   abbrev layout_at : ℕ → Layout
-  layout_at base = record { names = n; roles = r.roles; first = 0; second = k; marks = base }
+  layout_at base = record { names = n; roles = r.roles; first = 0; second = k; marks = base; few = r.few }
 
   -- what is handed on of the signature
   pub first_rowed : Rowed n r.first.table.now
   first_rowed = rowed (ranges both.first both.first_names)
+
+  pub second_rowed : Rowed n r.second.table.now
+  second_rowed = rowed (ranges both.second both.second_names)
 
   pub long_enough : (g : List ℕ) → signature_fault n r.roles g ≡ 0 → n + r.roles ≤ length g
   long_enough g accepted = signature_long n r.roles g accepted
@@ -234,25 +232,25 @@ module _ {r : Releases} {w : List ℕ} (both : BothGiven r w) where
     }
 
   -- marks
-  module _ (ready : Ready s t n k w) where
+  module _ (ready : Ready r w) where
     unmarked : (base : ℕ) → 2 * k ≤ base → base ≤ 3 * k → Unmarked (square_at n base) w
     unmarked base h l = record {
       none = λ x y i j m. zero_unmarked
           (ready.zero (place (square_at n base) x y) (omega (arith, place_from_lem (square_at n base) x y)) (omega (arith, place_below (square_at n base) x y i j, span_size n))) m;
     }
 
-    pub forward_below : 1 ≤ n → Beneath (forward_layout n r.roles k) w
-    forward_below some = record { room = below_room few (omega (arith, both.room)) some refl; turned = ready.turned some; apart = omega (arith, two_spans n some) }
+    forward_below : 1 ≤ n → Beneath (forward_layout r) w
+    forward_below some = record { room = below_room r (omega (arith, both.room)) some refl; turned = ready.turned some; apart = omega (arith, two_spans n some) }
 
-    module _ {g : List ℕ} {h : layout.Given} (by : PutBy g r (forward_layout n r.roles k) h) where
+    module _ {g : List ℕ} {h : layout.Given} (by : PutBy g r (forward_layout r) h) where
       comparing_first : Comparing s t h w
       comparing_first = comparing by (omega arith) (omega arith) refl ready.first ready.second (unmarked (2 * k) (omega arith) (omega arith))
 
       pub forward_asks : Setting h w
-      forward_asks = setting comparing_first (rw (by.layout, by.first) (found_edges by.found))
+      forward_asks = record { places = setting comparing_first; below = rw by.layout forward_below }
 
-      module _ {w2 : List ℕ} (f : ForwardFrom h w w2) {i : layout.Given} (also : PutBy g r (backward_layout n r.roles k) i) where
-        forth : Forwarded g s t (forward_layout n r.roles k) w w2
+      module _ {w2 : List ℕ} (f : ForwardFrom h w w2) {i : layout.Given} (also : PutBy g r (backward_layout r) i) where
+        forth : Forwarded g s t (forward_layout r) w w2
         forth = rw by.layout at (f.of_releases g s t (handed by) comparing_first)
 
         pub backward_asks : Comparing s t i w2
@@ -261,9 +259,9 @@ module _ {r : Releases} {w : List ℕ} (both : BothGiven r w) where
             (inclusions_stay forth.frame (inl (omega (arith, span_size n))) ready.second)
             (frame_unmarked forth.frame (inr (omega (arith, span_size n))) (unmarked (3 * k) (omega arith) (omega arith)))
 
-        pub all_marked : {w3 : List ℕ} → BackwardFrom i w2 w3 → AllMarked g s t n r.roles k w w3
+        pub all_marked : {w3 : List ℕ} → BackwardFrom i w2 w3 → AllMarked g r w w3
         all_marked {w3} b =
-            let back : Backwarded g s t (backward_layout n r.roles k) w2 w3 = rw (also.layout, also.first, also.second) at (b.of_signature g (handed also)) in
+            let back : Backwarded g s t (backward_layout r) w2 w3 = rw (also.layout, also.first, also.second) at (b.of_signature g (handed also)) in
             record {
               long = back.frame.long ∙ forth.frame.long;
               before = λ j h. back.frame.before j (omega arith) ∙ forth.frame.before j h;
@@ -273,8 +271,8 @@ module _ {r : Releases} {w : List ℕ} (both : BothGiven r w) where
             }
 
   -- the result
-  module _ {g v : List ℕ} (marked : AllMarked g s t n r.roles k w v) where
-    pub readable : signature_fault n r.roles g ≡ 0 → Readable g (forward_layout n r.roles k) (backward_layout n r.roles k) v
+  module _ {g v : List ℕ} (marked : AllMarked g r w v) where
+    pub readable : signature_fault n r.roles g ≡ 0 → Readable g (forward_layout r) (backward_layout r) v
     readable accepted = record {
       signature = long_enough g accepted;
       same_names = refl;
@@ -282,7 +280,7 @@ module _ {r : Releases} {w : List ℕ} (both : BothGiven r w) where
       backward = room_at (3 * k) (omega arith) v marked.long;
     }
 
-    pub marking : {o p : List ℕ} → Written g (forward_layout n r.roles k) (backward_layout n r.roles k) v n o p → Marking g s t n r.roles k o p w v
+    pub marking : {o p : List ℕ} → Written g (forward_layout r) (backward_layout r) v n o p → Marking g r o p w v
     marking written = record {
       reported = record { long = written.long; byte = λ c h. is_byte refl refl h marked.forward marked.backward (written.byte c h); rest = written.past };
       long = marked.long;
@@ -304,19 +302,19 @@ given_in long given = record {
 }
 
 -- what the comparison gives
-module _ {g s t : List ℕ} {n m : ℕ} {r p w v : List ℕ} where
-  pub compared : {w1 u : List ℕ} → Prepared s t n (size n) w w1 → Marking g s t n m (size n) r p w1 v → Zeroed (4 * size n) v u → Compared g s t n m r p w u
+module _ {g : List ℕ} {r : Releases} {o p w v : List ℕ} where
+  pub compared : {w1 u : List ℕ} → Prepared r w w1 → Marking g r o p w1 v → Zeroed (4 * size r.names) v u → Compared g r o p w u
   compared ready marks cleared = record {
     reported = marks.reported;
     zero = λ i h. cleared.zero i (omega arith);
     past = λ i h. cleared.past i (omega arith) ∙ (marks.past i (omega arith) ∙ ready.past i (omega arith));
   }
 
-  pub compared_again : {u : List ℕ} → Ready s t n (size n) w → Marking g s t n m (size n) r p w v → ZeroedBetween (2 * size n) (4 * size n) v u → ComparedAgain g s t n m r p w u
+  pub compared_again : {u : List ℕ} → Ready r w → Marking g r o p w v → ZeroedBetween (2 * size r.names) (4 * size r.names) v u → ComparedAgain g r o p w u
   compared_again {u} ready marks unmarks = record
-      { reported = marks.reported; same = ext_get_or 0 u w (unmarks.long ∙ marks.long) (λ i l. by_place i (which (ltb i (2 * size n))) (which (ltb i (4 * size n)))) }
+      { reported = marks.reported; same = ext_get_or 0 u w (unmarks.long ∙ marks.long) (λ i l. by_place i (which (ltb i (2 * size r.names))) (which (ltb i (4 * size r.names)))) }
     where
-      by_place : (i : ℕ) → (ltb i (2 * size n) ≡ true) ⊎ (ltb i (2 * size n) ≡ false) → (ltb i (4 * size n) ≡ true) ⊎ (ltb i (4 * size n) ≡ false) → get_or u i 0 ≡ get_or w i 0
-      by_place i (inl h) _ = let l = ltb-true i (2 * size n) h in unmarks.before i l ∙ marks.before i l
-      by_place i (inr h) (inl j) = let l = ltb-false i (2 * size n) h in let f = ltb-true i (4 * size n) j in unmarks.zero i l f ∙ sym (ready.zero i l f)
-      by_place i (inr h) (inr j) = let l = ltb-false i (4 * size n) j in unmarks.past i l ∙ marks.past i l
+      by_place : (i : ℕ) → (ltb i (2 * size r.names) ≡ true) ⊎ (ltb i (2 * size r.names) ≡ false) → (ltb i (4 * size r.names) ≡ true) ⊎ (ltb i (4 * size r.names) ≡ false) → get_or u i 0 ≡ get_or w i 0
+      by_place i (inl h) _ = let l = ltb-true i (2 * size r.names) h in unmarks.before i l ∙ marks.before i l
+      by_place i (inr h) (inl j) = let l = ltb-false i (2 * size r.names) h in let f = ltb-true i (4 * size r.names) j in unmarks.zero i l f ∙ sym (ready.zero i l f)
+      by_place i (inr h) (inr j) = let l = ltb-false i (4 * size r.names) j in unmarks.past i l ∙ marks.past i l

@@ -1,17 +1,19 @@
--- What a comparison asks and gives: signature bytes g, two releases r with the files s and t, n names and m roles, the memory w.
---   BothGiven r w                   accepted releases with their tables, and memory for four squares
---   Given g r w                     and an accepted signature
---   BothIncluded s t n k w v        the memory w became v: the first two squares, of k cells each, hold the inclusions of the releases, the others are
---                                   0, and later bytes are as before
---   Ready s t n k v                 so it is in v, and the second square is turned behind its rows: all that signatures share
---   Prepared s t n k w v            the memory w became v, which is ready; later bytes are as before
---   AllMarked g s t n m k w v       the memory w became v: the last two squares hold forward marks and backward marks, and all else
---                                   is as before
---   ZeroedBetween a b w v           the memory w became v: 0 from the place a to the place b, and all else is as before
---   Reported g s t n m r p          the result r became p: the bytes of the n names, later ones as before
---   Marking g s t n m k r p w v     so it is, and the memory changed in the last two squares alone
---   Compared g s t n m r p w v      so it is, and the memory w became v: 0 as far as the four squares go, later bytes as before
---   ComparedAgain g s t n m r p w v     so it is, and the memory is as it was
+-- What a comparison asks and gives: signature bytes g, releases r, the memory w, the result o.
+--   forward_layout r, backward_layout r     where the marks are read and written: four squares lie one after the other
+--   BothGiven r w                 accepted releases with their tables, and memory for four squares
+--   Given g r w                   and an accepted signature
+--   BothIncluded r w v            the memory w became v: the first two squares hold the inclusions of the releases, the others are 0, and
+--                                 later bytes are as before
+--   SecondTurned r w v            the memory w became v: the second square is turned behind its rows, and all else is as before
+--   Ready r v                     so it is in v, and the first two squares are filled: all that signatures share
+--   Prepared r w v                the memory w became v, which is ready; later bytes are as before
+--   AllMarked g r w v             the memory w became v: the last two squares hold forward marks and backward marks, and all else is as
+--                                 before
+--   ZeroedBetween a b w v         the memory w became v: 0 from the place a to the place b, and all else is as before
+--   Reported g r o p              the result o became p: the bytes of the names, later ones as before
+--   Marking g r o p w v           so it is, and the memory changed in the last two squares alone
+--   Compared g r o p w v          so it is, and the memory w became v: 0 as far as the four squares go, later bytes as before
+--   ComparedAgain g r o p w v     so it is, and the memory is as it was
 use Rattle.std.specs.Prelude.{◌≡◌, List, ℕ, ◌+◌, ◌*◌, ◌≤◌, ◌<◌, length, get_or}
 use Rattle.el.specs.Comparison.{IsByte}
 use Rattle.release.specs.Files.{names_of, axioms_of}
@@ -27,12 +29,11 @@ use Rattle.comparison.specs.declared.Releases.{Releases}
 use Rattle.forward.specs.Forward.{ForwardMarked}
 use Rattle.backward.specs.Backward.{BackwardMarked}
 
--- the four squares one after the other
-abbrev pub forward_layout : ℕ → ℕ → ℕ → Layout
-forward_layout n m k = record { names = n; roles = m; first = 0; second = k; marks = 2 * k }
+abbrev pub forward_layout : Releases → Layout
+forward_layout r = record { names = r.names; roles = r.roles; first = 0; second = size r.names; marks = 2 * size r.names; few = r.few }
 
-abbrev pub backward_layout : ℕ → ℕ → ℕ → Layout
-backward_layout n m k = record { names = n; roles = m; first = 0; second = k; marks = 3 * k }
+abbrev pub backward_layout : Releases → Layout
+backward_layout r = record { names = r.names; roles = r.roles; first = 0; second = size r.names; marks = 3 * size r.names; few = r.few }
 
 abbrev pub square_at : ℕ → ℕ → Square
 square_at n base = record { base = base; names = n }
@@ -48,37 +49,37 @@ pub record Given (g : List ℕ) (r : Releases) (w : List ℕ) : Type 0 where
   pub both : BothGiven r w
   pub signature : signature_fault r.names r.roles g ≡ 0
 
-pub record BothIncluded (s t : List ℕ) (n k : ℕ) (w v : List ℕ) : Type 0 where
+pub record BothIncluded (r : Releases) (w v : List ℕ) : Type 0 where
   pub long : length v ≡ length w
-  pub past : (i : ℕ) → 4 * k ≤ i → get_or v i 0 ≡ get_or w i 0
-  pub first : Inclusions s (square_at n 0) v
-  pub second : Inclusions t (square_at n k) v
-  pub zero : (i : ℕ) → 2 * k ≤ i → i < 4 * k → get_or v i 0 ≡ 0
+  pub past : (i : ℕ) → 4 * size r.names ≤ i → get_or v i 0 ≡ get_or w i 0
+  pub first : Inclusions r.first.file.now (square_at r.names 0) v
+  pub second : Inclusions r.second.file.now (square_at r.names (size r.names)) v
+  pub zero : (i : ℕ) → 2 * size r.names ≤ i → i < 4 * size r.names → get_or v i 0 ≡ 0
 
--- the memory w became v: the second square is turned behind its rows, in memory lent for it, and all else is as before
-pub record SecondTurned (n k : ℕ) (w v : List ℕ) : Type 0 where
+-- in memory lent for it
+pub record SecondTurned (r : Releases) (w v : List ℕ) : Type 0 where
   pub long : length v ≡ length w
-  pub before : (i : ℕ) → i < k + span n → get_or v i 0 ≡ get_or w i 0
-  pub past : (i : ℕ) → 2 * k ≤ i → get_or v i 0 ≡ get_or w i 0
-  pub turned : 1 ≤ n → Turned (square_at n k) v (behind (square_at n k) 1) v
+  pub before : (i : ℕ) → i < size r.names + span r.names → get_or v i 0 ≡ get_or w i 0
+  pub past : (i : ℕ) → 2 * size r.names ≤ i → get_or v i 0 ≡ get_or w i 0
+  pub turned : 1 ≤ r.names → Turned (square_at r.names (size r.names)) v (behind (square_at r.names (size r.names)) 1) v
 
-pub record Ready (s t : List ℕ) (n k : ℕ) (v : List ℕ) : Type 0 where
-  pub first : Inclusions s (square_at n 0) v
-  pub second : Inclusions t (square_at n k) v
-  pub turned : 1 ≤ n → Turned (square_at n k) v (behind (square_at n k) 1) v
-  pub zero : (i : ℕ) → 2 * k ≤ i → i < 4 * k → get_or v i 0 ≡ 0
+pub record Ready (r : Releases) (v : List ℕ) : Type 0 where
+  pub first : Inclusions r.first.file.now (square_at r.names 0) v
+  pub second : Inclusions r.second.file.now (square_at r.names (size r.names)) v
+  pub turned : 1 ≤ r.names → Turned (square_at r.names (size r.names)) v (behind (square_at r.names (size r.names)) 1) v
+  pub zero : (i : ℕ) → 2 * size r.names ≤ i → i < 4 * size r.names → get_or v i 0 ≡ 0
 
-pub record Prepared (s t : List ℕ) (n k : ℕ) (w v : List ℕ) : Type 0 where
+pub record Prepared (r : Releases) (w v : List ℕ) : Type 0 where
   pub long : length v ≡ length w
-  pub past : (i : ℕ) → 4 * k ≤ i → get_or v i 0 ≡ get_or w i 0
-  pub ready : Ready s t n k v
+  pub past : (i : ℕ) → 4 * size r.names ≤ i → get_or v i 0 ≡ get_or w i 0
+  pub ready : Ready r v
 
-pub record AllMarked (g s t : List ℕ) (n m k : ℕ) (w v : List ℕ) : Type 0 where
+pub record AllMarked (g : List ℕ) (r : Releases) (w v : List ℕ) : Type 0 where
   pub long : length v ≡ length w
-  pub before : (i : ℕ) → i < 2 * k → get_or v i 0 ≡ get_or w i 0
-  pub past : (i : ℕ) → 4 * k ≤ i → get_or v i 0 ≡ get_or w i 0
-  pub forward : ForwardMarked g s t (forward_layout n m k) v
-  pub backward : BackwardMarked g s t (backward_layout n m k) v
+  pub before : (i : ℕ) → i < 2 * size r.names → get_or v i 0 ≡ get_or w i 0
+  pub past : (i : ℕ) → 4 * size r.names ≤ i → get_or v i 0 ≡ get_or w i 0
+  pub forward : ForwardMarked g r.first.file.now r.second.file.now (forward_layout r) v
+  pub backward : BackwardMarked g r.first.file.now r.second.file.now (backward_layout r) v
 
 pub record ZeroedBetween (a b : ℕ) (w v : List ℕ) : Type 0 where
   pub long : length v ≡ length w
@@ -86,22 +87,22 @@ pub record ZeroedBetween (a b : ℕ) (w v : List ℕ) : Type 0 where
   pub zero : (i : ℕ) → a ≤ i → i < b → get_or v i 0 ≡ 0
   pub past : (i : ℕ) → b ≤ i → get_or v i 0 ≡ get_or w i 0
 
-pub record Reported (g s t : List ℕ) (n m : ℕ) (r p : List ℕ) : Type 0 where
-  pub long : length p ≡ length r
-  pub byte : (a : ℕ) → a < n → IsByte (signature_of n m g) (axioms_of s) (axioms_of t) a (get_or p a 0)
-  pub rest : (i : ℕ) → n ≤ i → get_or p i 0 ≡ get_or r i 0
+pub record Reported (g : List ℕ) (r : Releases) (o p : List ℕ) : Type 0 where
+  pub long : length p ≡ length o
+  pub byte : (a : ℕ) → a < r.names → IsByte (signature_of r.names r.roles g) (axioms_of r.first.file.now) (axioms_of r.second.file.now) a (get_or p a 0)
+  pub rest : (i : ℕ) → r.names ≤ i → get_or p i 0 ≡ get_or o i 0
 
-pub record Marking (g s t : List ℕ) (n m k : ℕ) (r p w v : List ℕ) : Type 0 where
-  pub reported : Reported g s t n m r p
+pub record Marking (g : List ℕ) (r : Releases) (o p w v : List ℕ) : Type 0 where
+  pub reported : Reported g r o p
   pub long : length v ≡ length w
-  pub before : (i : ℕ) → i < 2 * k → get_or v i 0 ≡ get_or w i 0
-  pub past : (i : ℕ) → 4 * k ≤ i → get_or v i 0 ≡ get_or w i 0
+  pub before : (i : ℕ) → i < 2 * size r.names → get_or v i 0 ≡ get_or w i 0
+  pub past : (i : ℕ) → 4 * size r.names ≤ i → get_or v i 0 ≡ get_or w i 0
 
-pub record Compared (g s t : List ℕ) (n m : ℕ) (r p w v : List ℕ) : Type 0 where
-  pub reported : Reported g s t n m r p
-  pub zero : (i : ℕ) → i < 4 * size n → get_or v i 0 ≡ 0
-  pub past : (i : ℕ) → 4 * size n ≤ i → get_or v i 0 ≡ get_or w i 0
+pub record Compared (g : List ℕ) (r : Releases) (o p w v : List ℕ) : Type 0 where
+  pub reported : Reported g r o p
+  pub zero : (i : ℕ) → i < 4 * size r.names → get_or v i 0 ≡ 0
+  pub past : (i : ℕ) → 4 * size r.names ≤ i → get_or v i 0 ≡ get_or w i 0
 
-pub record ComparedAgain (g s t : List ℕ) (n m : ℕ) (r p w v : List ℕ) : Type 0 where
-  pub reported : Reported g s t n m r p
+pub record ComparedAgain (g : List ℕ) (r : Releases) (o p w v : List ℕ) : Type 0 where
+  pub reported : Reported g r o p
   pub same : v ≡ w

@@ -4,6 +4,7 @@
 --   edge_by                               there is an edge
 --   no_partner_stays                      where there is no partner, marks put later give none
 --   seen_stays                            what is asked holds after marks are seen
+--   named, named_stays                    what is asked to mark names is there, and stays
 --   edges_lost                            marks put where a line has nothing, as steps of the rules;  by_name_pass, by_edge_pass: as passes
 --   row_quiet, row_lost                   what is answered of all nodes at once
 --   edge_lost, cell_kept, cell_lost, cells_to, cells_end     the edge of a name at one node, and at those that its line leaves open
@@ -19,24 +20,25 @@ use mathlib.Core.Logic.{◌⊎◌, inl, inr}
 use Prim.Native.Nat.{ℕ, suc, ◌+◌, ◌≤◌, ◌<◌}
 use native.Mathlib.Omega.{arith}
 use native.Mathlib.Decide.{ℕ_discrete, dec_lt}
-use Rattle.release.specs.Tables.{role_at, filler_at}
+use Rattle.release.specs.Tables.{role_at, filler_at, HasSuccessor}
 use Rattle.marks.specs.declared.Square.{Square}
 use Rattle.marks.specs.Squares as squares
 use Rattle.marks.specs.Squares.{behind, Small, Room, First, Nowhere, Marked, NotMarked, Apart, Frame, Put}
 use Rattle.marks.specs.Passes.{Grows, Pass, Below, FromRow}
 use Rattle.marks.specs.Lines.{Has, Spans, Empty, Joined, Missing, Full}
 use Rattle.marks.specs.Inclusions.{Taking, Takes}
-use Rattle.marks.proofs.Squares.{not_true, marked_frame}
+use Rattle.marks.proofs.Squares.{not_true, marked_frame, frame_room}
 use Rattle.marks.proofs.Passes.{grows_frame, marks_stay, grows_as, pass_by, pass_as, pass_with, pass_both, put_pass, kept_grows}
 use Rattle.marks.proofs.Handing.{stays_anywhere}
 use Rattle.layout.specs.declared.Layout.{Layout}
 use Rattle.layout.specs.declared.Given.{Given}
 use Rattle.layout.specs.Searches.{SomeBelow, EachBelow}
-use Rattle.layout.specs.Layouts.{first_square, second_square, below_square, mark_square, chosen, has_edge}
+use Rattle.layout.specs.Tables.{has_edge}
+use Rattle.layout.specs.Layouts.{first_square, second_square, below_square, mark_square, chosen}
 use Rattle.layout.proofs.Layouts.{second_apart}
 use Rattle.layout.proofs.Searches.{each_more, each_to}
-use Rattle.forward.specs.Rules.{Beneath, Serves, Setting, setting_stays, NameLost, Partner, Successor, Edge, EdgeLost, Own, by_name, by_edge, FromAbove, Follows}
-use Rattle.forward.specs.Rules.{from_edge, from_above, Step, by_itself, by_above, JoinedBelow, Kept, LeftOpen, ByName, ByEdge, EdgeCell, RowLost, Looked, Row}
+use Rattle.forward.specs.Rules.{Beneath, beneath_stays, Serves, Setting, setting_stays, Named, NameLost, Partner, Edge, EdgeLost, Own, by_name, by_edge, FromAbove, Follows}
+use Rattle.forward.specs.Rules.{from_edge, from_above, Step, by_itself, by_above, follows_step, JoinedBelow, Kept, LeftOpen, ByName, ByEdge, EdgeCell, RowLost, Looked, Row}
 
 -- what lies below a name, by a row of the turned inclusions
 pub joined_below : {l : Layout} {w : List ℕ} {c : ℕ} {i j : List ℕ} {p : Square} → p ≡ below_square l → Beneath l w → c < l.names → Joined p w c i j → JoinedBelow l w c i j
@@ -128,8 +130,15 @@ module _ {given : Given} {x : ℕ} {w v : List ℕ} where
   pub row_lost : Grows (Follows given) (mark_square given.layout) w v → RowLost given x w v true
   row_lost grows = record { grows = grows; same = λ e. not_true e; done = λ e. not_true e }
 
+-- what those ask that mark names is there, and stays
+pub named : {given : Given} {w : List ℕ} → Setting given w → Named given w
+named s = record { marks = s.places.marks; below = s.below }
+
+pub named_stays : {R : List ℕ → ℕ → ℕ → Type 0} {given : Given} {w v : List ℕ} → Grows R (mark_square given.layout) w v → Named given w → Named given v
+named_stays grows s = record { marks = frame_room (grows_frame grows) s.marks; below = λ h. beneath_stays (grows_frame grows) (s.below h) }
+
 -- marks put where what lies below a name has nothing
-module _ {given : Given} {w : List ℕ} (s : Setting given w) {x : ℕ} {k i : List ℕ} (is_name : x < given.layout.names) (chosen_name : (chosen given.layout given.chosen_names.now).has_name x ≡ true)
+module _ {given : Given} {w : List ℕ} (s : Named given w) {x : ℕ} {k i : List ℕ} (is_name : x < given.layout.names) (chosen_name : (chosen given.layout given.chosen_names.now).has_name x ≡ true)
     (empty : Empty i) (joined : JoinedBelow given.layout w x i k) where
   name_missing : (u : List ℕ) (c y : ℕ) → Grows (Missing k x) (mark_square given.layout) w u → c ≤ given.layout.names → y ≤ given.layout.names → Missing k x u c y → NameLost given u c y
   name_missing u c y grows c_in y_in m = rw m.row
@@ -217,7 +226,7 @@ module _ {q : Square} {w : List ℕ} {x : ℕ} {k : List ℕ} {from : ℕ} where
 
 -- the search for a partner: a successor of a candidate that `end` is not marked with
 pub record FreeSuccessor (given : Given) (w : List ℕ) (z r c d : ℕ) : Type 0 where
-  pub successor : Successor given.second.table.now r c d
+  pub successor : HasSuccessor given.second.table.now c r d
   pub free : Marked (mark_square given.layout) w z d → ⊥
 
 -- marks of rows above
@@ -234,10 +243,6 @@ module _ {given : Given} {w v : List ℕ} where
 
 -- as steps of all rules
 module _ {given : Given} where
-  follows_step : {u : List ℕ} {x y : ℕ} → Follows given u x y → Step given u x y
-  follows_step (from_edge e) = by_itself (by_edge e)
-  follows_step (from_above f) = by_above f
-
   pub name_grows : {w v : List ℕ} → Grows (NameLost given) (mark_square given.layout) w v → Grows (Step given) (mark_square given.layout) w v
   name_grows grows = grows_as (λ u x y h i j f. by_itself (by_name f)) grows
 

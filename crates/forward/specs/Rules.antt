@@ -1,16 +1,16 @@
 -- The rules of forward marks, over what a comparison is given: the tables of the two releases, the squares in the memory w, and what is
 -- handed on of a signature, the bytes of its names and the edges found. Rows and columns are nodes: the names below n, then ⊤.
 --   Beneath l w                 w has the second release's inclusions turned, too: row c has what lies below c
+--   Setting given w             all that the functions ask;  Named given w: what those ask that mark names
 --   NameLost given w x y        x is a signature name, and not above y by the second release
 --   Serves b q w z r c          the restriction of c in the table b has the role r, and its filler is not marked in row z
 --   Partner given w z y r c     so it is, and y lies below c by the second release: c gives y an edge
---   Successor b r c z           the axiom of c in the table b gives c the successor z by the role r
---   NextSuccessor b r c from o  o is the first one from `from` on, if there is one
+--   NextSuccessor b r c from o  o is the first successor of c by the role r in the table b, from `from` on, if there is one
 --   Edge given x                the axiom of x gives an edge by the first release, with a signature role
 --   EdgeLost given w x y        the edge of x has no partner
 --   Own given w x y             x, y is lost by what x itself is: by its name, or by its edge
 --   FromAbove l w x y           x, y is lost since c, y is marked, and x lies below c by the first release
---   Follows given w x y         x, y is lost by the edge of x, or by what lies above x
+--   Follows given w x y         x, y is lost by the edge of x, or by what lies above x;  Followed given w v: w became v by such marks
 --   Step given w x y            a rule allows the mark x, y: it is lost by x itself, or by what lies above x
 --   JoinedBelow l w c i j       the line j is i, with what lies below c by the second release
 --   Kept given w z r k          the line k is what lies below a name that serves
@@ -24,11 +24,11 @@
 --   Taken l x c w               if x lies below c by the first release, row x has the marks of row c
 --   Row given x w               nothing is left to mark in row x
 -- Not here: what the rules mean (proofs/Meaning).
-use Rattle.std.specs.Prelude.{◌≡◌, Bool, true, false, List, ◌⊎◌, ℕ, suc, ◌+◌, ◌*◌, ◌≤◌, ◌<◌, length, Option}
+use Rattle.std.specs.Prelude.{◌≡◌, Bool, true, false, List, ◌⊎◌, ℕ, suc, ◌+◌, ◌*◌, ◌≤◌, ◌<◌, Option}
 use Rattle.std.specs.Option.{MatchOption}
 use Rattle.release.specs.declared.table.Row as table
-use Rattle.release.specs.Files.{most_names, restricts}
-use Rattle.release.specs.Tables.{kind_at, role_at, filler_at}
+use Rattle.release.specs.Files.{restricts}
+use Rattle.release.specs.Tables.{kind_at, role_at, filler_at, HasSuccessor}
 use Rattle.marks.specs.declared.Square.{Square}
 use Rattle.marks.specs.Squares.{span, behind, Room, Marked, Apart, Frame, Within, Next}
 use Rattle.marks.specs.Passes.{Grows, Below}
@@ -41,7 +41,8 @@ use Rattle.layout.specs.declared.Given.{Given}
 use Rattle.layout.specs.Searches.{SomeBelow}
 use Rattle.layout.specs.Layouts as layout
 use Rattle.layout.proofs.Layouts.{second_apart, below_apart, setting_stays as places_stay}
-use Rattle.layout.specs.Layouts.{first_square, second_square, below_square, mark_square, chosen, has_edge}
+use Rattle.layout.specs.Tables.{has_edge}
+use Rattle.layout.specs.Layouts.{first_square, second_square, below_square, mark_square, chosen}
 
 -- what is asked of the turned inclusions: they are there, and marks change neither them nor the others
 pub record Beneath (l : Layout) (w : List ℕ) : Type 0 where
@@ -52,12 +53,15 @@ pub record Beneath (l : Layout) (w : List ℕ) : Type 0 where
 -- what the functions ask; where there is no name there need be no room for the turned inclusions
 pub record Setting (given : Given) (w : List ℕ) : Type 0 where
   pub places : layout.Setting given w
-  pub bytes : given.layout.names ≤ length given.chosen_names.now
-  pub few : given.layout.names ≤ most_names
   pub below : 1 ≤ given.layout.names → Beneath given.layout w
 
--- both stay where marks are put
-beneath_stays : {l : Layout} {w v : List ℕ} → Frame (mark_square l) w v → Beneath l w → Beneath l v
+-- what those ask that mark names
+pub record Named (given : Given) (w : List ℕ) : Type 0 where
+  pub marks : Room (mark_square given.layout) w
+  pub below : 1 ≤ given.layout.names → Beneath given.layout w
+
+-- all stay where marks are put; these laws stand here, since an impl's law may cite specs/ of its crate, and not its proofs/
+pub beneath_stays : {l : Layout} {w v : List ℕ} → Frame (mark_square l) w v → Beneath l w → Beneath l v
 unfolding behind
 beneath_stays {l} f s = record {
   room = frame_room f s.room;
@@ -69,7 +73,7 @@ beneath_stays {l} f s = record {
 }
 
 pub setting_stays : {Rule : List ℕ → ℕ → ℕ → Type 0} {given : Given} {w v : List ℕ} → Grows Rule (mark_square given.layout) w v → Setting given w → Setting given v
-setting_stays grows s = record { places = places_stay grows s.places; bytes = s.bytes; few = s.few; below = λ h. beneath_stays (grows_frame grows) (s.below h) }
+setting_stays grows s = record { places = places_stay grows s.places; below = λ h. beneath_stays (grows_frame grows) (s.below h) }
 
 pub record NameLost (given : Given) (w : List ℕ) (x y : ℕ) : Type 0 where
   pub is_name : x < given.layout.names
@@ -86,18 +90,13 @@ pub record Partner (given : Given) (w : List ℕ) (z y r c : ℕ) : Type 0 where
   pub second : Marked (second_square given.layout) w y c
 
 -- the node that an edge ends at; a name has one axiom, so one at most
-pub record Successor (b : List table.Row) (r c z : ℕ) : Type 0 where
-  pub is_restriction : restricts (kind_at b c) ≡ true
-  pub role : role_at b c ≡ r
-  pub filler : filler_at b c ≡ z
-
 pub record FirstSuccessor (b : List table.Row) (r c from z : ℕ) : Type 0 where
   pub after : from ≤ z
-  pub before : (d : ℕ) → from ≤ d → d < z → Successor b r c d → ⊥
-  pub successor : Successor b r c z
+  pub before : (d : ℕ) → from ≤ d → d < z → HasSuccessor b c r d → ⊥
+  pub successor : HasSuccessor b c r z
 
 pub record NoSuccessor (b : List table.Row) (r c from : ℕ) : Type 0 where
-  pub none : (d : ℕ) → from ≤ d → Successor b r c d → ⊥
+  pub none : (d : ℕ) → from ≤ d → HasSuccessor b c r d → ⊥
 
 abbrev pub NextSuccessor : List table.Row → ℕ → ℕ → ℕ → Option ℕ → Type 0
 NextSuccessor b r c from o = MatchOption o (NoSuccessor b r c from) (FirstSuccessor b r c from)
@@ -125,9 +124,17 @@ pub data Follows (given : Given) (w : List ℕ) (x y : ℕ) : Type 0 where
   from_edge : EdgeLost given w x y → Follows given w x y
   from_above : FromAbove given.layout w x y → Follows given w x y
 
+abbrev pub Followed : Given → List ℕ → List ℕ → Type 0
+Followed given w v = Grows (Follows given) (mark_square given.layout) w v
+
 pub data Step (given : Given) (w : List ℕ) (x y : ℕ) : Type 0 where
   by_itself : Own given w x y → Step given w x y
   by_above : FromAbove given.layout w x y → Step given w x y
+
+-- stands here for the same reason
+pub follows_step : {given : Given} {w : List ℕ} {x y : ℕ} → Follows given w x y → Step given w x y
+follows_step (from_edge e) = by_itself (by_edge e)
+follows_step (from_above f) = by_above f
 
 -- lines of nodes
 pub record JoinedBelow (l : Layout) (w : List ℕ) (c : ℕ) (i j : List ℕ) : Type 0 where

@@ -1,17 +1,17 @@
 // What new marks of a row give: in the rows below it, and in those of the edges that end there. Where to look is read from hints, those
 // that classification left behind the inclusions of the two releases; each edge is tested at its pair, or for all nodes at once.
+// What is given, the memory and the rows that wait are three parameters: a struct of the three was tried in crate backward (consequences).
 ghost use Rattle.std.specs.Prelude.{◌≤◌, ◌<◌};
 ghost use Rattle.std.specs.Option.{IfSome};
-ghost use Rattle.release.specs.Files.{most_names};
 ghost use Rattle.marks.specs.Passes.{Grows, Pass, Anything};
 ghost use Rattle.marks.specs.Squares.{Room, Area};
 ghost use Rattle.marks.specs.Lines.{Spans};
-ghost use Rattle.layout.specs.Layouts.{Rowed, first_square, second_square, mark_square};
-ghost use Rattle.forward.specs.Rules.{Beneath, Setting, Edge, FromAbove, Follows, RowLost};
+ghost use Rattle.layout.specs.Layouts.{first_square, second_square, mark_square};
+ghost use Rattle.forward.specs.Rules.{Beneath, Setting, Edge, FromAbove, Follows, Followed, RowLost};
 
 use crate::kept::{join_below, keep_partners};
 use crate::partner::look_at_pair;
-use classification::hints::Hints;
+use classification::hints::{BELOW, FILLERS};
 use layout::Given;
 use marks::columns;
 use marks::line::Line;
@@ -42,7 +42,6 @@ pub fn lose_row(given: &Given, work: &mut [u8], x: usize) -> bool
 
 // Adds to the line what lies below the restrictions of the second release with this role and this filler.
 fn touch_by(given: &Given, work: &[u8], touched: &mut [u8], role: usize, filler: usize)
-    requires rowed { Rowed given.now.layout.names given.now.second.table.now }
     requires area { Area (second_square given.now.layout) work.now × Beneath given.now.layout work.now }
     requires spans { Spans given.now.layout.names touched.old }
     requires filler_le_names { filler ≤ given.now.layout.names }
@@ -50,10 +49,7 @@ fn touch_by(given: &Given, work: &[u8], touched: &mut [u8], role: usize, filler:
     // in variables of its own, so that a turn reads them from registers
     let second = given.second;
     let inclusions = given.layout.second_square();
-    let mut next = 0;
-    // no plainer as an iterator over hints: a struct, an impl and their clauses, for this one loop, as the others write what they search
-    while let Some(name) = inclusions.next_hint(work, Hints::FILLERS, filler, next) {
-        next = name + 1;
+    for name in inclusions.hinted(work, FILLERS, filler) {
         if name < inclusions.names && second.role(name) == role {
             join_below(given, work, touched, name);
         }
@@ -63,10 +59,8 @@ fn touch_by(given: &Given, work: &[u8], touched: &mut [u8], role: usize, filler:
 // Adds what lies below such restrictions for each filler among the new columns. A node that is not in the line has no partner with such a
 // filler, so the new marks take none from it.
 fn touch(given: &Given, work: &[u8], new: &[u8], touched: &mut [u8], role: usize)
-    requires rowed { Rowed given.now.layout.names given.now.second.table.now }
     requires area { Area (second_square given.now.layout) work.now × Beneath given.now.layout work.now }
     requires spans { Spans given.now.layout.names new.now × Spans given.now.layout.names touched.old }
-    requires names_le_most_names { given.now.layout.names ≤ most_names }
 {
     for filler in columns::of(new, given.layout.names) {
         touch_by(given, work, touched, role, filler);
@@ -84,7 +78,7 @@ fn find_left(
 ) -> Option<usize>
     requires room { Room (mark_square given.now.layout) work.now }
     requires spans { Spans given.now.layout.names touched.now }
-    requires x_le_names { (x ≤ given.now.layout.names) × (given.now.layout.names ≤ most_names) }
+    requires x_le_names { x ≤ given.now.layout.names }
     ensures { IfSome result (λ count. count ≤ FEW_NODES) }
 {
     let marks = given.layout.mark_square();
@@ -124,7 +118,7 @@ fn lose_touched(given: &Given, work: &mut [u8], touched: &[u8], x: usize) -> boo
     requires setting { Setting given.now work.old }
     requires spans { Spans given.now.layout.names touched.now }
     requires edge { Edge given.now x }
-    ensures { Grows (Follows given.now) (mark_square given.now.layout) work.old work.new }
+    ensures { Followed given.now work.old work.new }
 {
     let mut left = [0; FEW_NODES];
     match find_left(given, work, touched, &mut left, x) {
@@ -139,7 +133,7 @@ fn lose_edge(given: &Given, work: &mut [u8], new: &[u8], fresh: usize, x: usize)
     requires setting { Setting given.now work.old }
     requires spans { Spans given.now.layout.names new.now }
     requires edge { Edge given.now x }
-    ensures { Grows (Follows given.now) (mark_square given.now.layout) work.old work.new }
+    ensures { Followed given.now work.old work.new }
 {
     if FEW_BYTES < fresh {
         return lose_row(given, work, x);
@@ -161,12 +155,12 @@ fn lose_edges(
     requires setting { Setting given.now work.old }
     requires spans { Spans given.now.layout.names new.now }
     requires end_le_names { end ≤ given.now.layout.names }
-    ensures { Grows (Follows given.now) (mark_square given.now.layout) work.old work.new }
+    ensures { Followed given.now work.old work.new }
 {
     let inclusions = given.layout.first_square();
     let mut next = 0;
     // the loop writes the memory that it searches, so no iterator can hold it
-    while let Some(x) = inclusions.next_hint(work, Hints::FILLERS, end, next) {
+    while let Some(x) = inclusions.next_hint(work, FILLERS, end, next) {
         next = x + 1;
         if inclusions.names <= x || !given.edges[x] {
             continue;
@@ -177,7 +171,8 @@ fn lose_edges(
     }
 }
 
-// Hands the marks of row x on to each row below it.
+// Hands the marks of row x on to each row below it. Crate classification does so in one square, which is both here: one function for the two
+// would be handed two squares, a rule and what of the memory stays, for a loop of five lines.
 fn hand_down(given: &Given, work: &mut [u8], waiting: &mut Waiting, x: usize)
     requires area { Area (first_square given.now.layout) work.old × Room (mark_square given.now.layout) work.old }
     requires x_le_names { x ≤ given.now.layout.names }
@@ -187,7 +182,7 @@ fn hand_down(given: &Given, work: &mut [u8], waiting: &mut Waiting, x: usize)
     let inclusions = given.layout.first_square();
     let mut next = 0;
     // the loop writes the memory that it searches, so no iterator can hold it
-    while let Some(lower) = inclusions.next_hint(work, Hints::BELOW, x, next) {
+    while let Some(lower) = inclusions.next_hint(work, BELOW, x, next) {
         next = lower + 1;
         if marks.seems_within(work, x, lower) {
             continue;
@@ -203,7 +198,7 @@ fn hand_down(given: &Given, work: &mut [u8], waiting: &mut Waiting, x: usize)
 pub fn deal(given: &Given, work: &mut [u8], waiting: &mut Waiting, x: usize)
     requires setting { Setting given.now work.old }
     requires x_le_names { x ≤ given.now.layout.names }
-    ensures { Grows (Follows given.now) (mark_square given.now.layout) work.old work.new }
+    ensures { Followed given.now work.old work.new }
 {
     let marks = given.layout.mark_square();
     let mut new = [0u8; Line::LENGTH];

@@ -1,20 +1,18 @@
 // The nodes that keep a partner of an edge, as a line, and the next node that it leaves open.
 ghost use Rattle.std.specs.Prelude.{◌≡◌, true, ◌≤◌, ◌<◌};
 ghost use Rattle.el.proofs.Tests.{Tells};
-ghost use Rattle.release.specs.Files.{most_names};
 ghost use Rattle.release.specs.Tables.{role_at, filler_at};
 ghost use Rattle.marks.specs.Squares.{Small, Room};
 ghost use Rattle.marks.specs.Lines.{Spans, Empty, Full};
-ghost use Rattle.layout.specs.Layouts.{Rowed, second_square, below_square, mark_square};
+ghost use Rattle.layout.specs.Tables.{Rowed};
+ghost use Rattle.layout.specs.Layouts.{second_square, below_square, mark_square};
 ghost use Rattle.forward.specs.Rules.{Beneath, JoinedBelow, Serves, Kept, NextMissing};
 
 use layout::{Given, Layout};
-use marks::hints::Hint;
-use marks::{Square, line};
+use marks::{Square, hints, line};
 use release::terminology::Terminology;
 
-// Whether the name is a restriction of the second release with the role, to a node that `end` is not marked with. The role is
-// looked at first, since most names have another.
+// Whether the name is a restriction of the second release with the role, to a node that `end` is not marked with.
 fn serves(
     second: &Terminology,
     marks: Square,
@@ -28,13 +26,10 @@ fn serves(
     requires end_le_names { (end ≤ marks.names) × (name < marks.names) }
     ensures { Tells result (Serves second.now.table.now marks work.now end role name) }
 {
-    if second.role(name) != role {
-        return false;
+    match second.successor(name, role) {
+        Some(filler) => !marks.is_marked(work, end, filler),
+        None => false,
     }
-    if second.is_restriction(name) {
-        return !marks.is_marked(work, end, second.filler(name));
-    }
-    false
 }
 
 // The inclusions of the second release, turned: row c has what lies below the name c. They lie behind the others, where it was noted what
@@ -43,7 +38,7 @@ fn below(layout: Layout) -> Square
     requires { Small (second_square layout) }
     ensures { result ≡ below_square layout }
 {
-    layout.second_square().behind(Hint::SEEN)
+    layout.second_square().behind(hints::SEEN)
 }
 
 // Adds to the line what lies below the name by the second release.
@@ -58,10 +53,9 @@ pub fn join_below(given: &Given, work: &[u8], line: &mut [u8], name: usize)
 
 // Adds all nodes that have an edge with the role by the second release, to a node that `end` is not marked with.
 fn keep(given: &Given, work: &[u8], kept: &mut [u8], end: usize, role: usize)
-    requires rowed { Rowed given.now.layout.names given.now.second.table.now }
     requires room { Room (mark_square given.now.layout) work.now × Beneath given.now.layout work.now }
     requires spans { Spans given.now.layout.names kept.old × Empty kept.old }
-    requires end_le_names { (end ≤ given.now.layout.names) × (given.now.layout.names ≤ most_names) }
+    requires end_le_names { end ≤ given.now.layout.names }
     ensures { Kept given.now work.now end role kept.new }
 {
     // in variables of its own, so that a turn reads them from registers
@@ -80,10 +74,9 @@ fn keep(given: &Given, work: &[u8], kept: &mut [u8], end: usize, role: usize)
 // It stands in its callers' code, where the line is known to be apart from the work memory.
 #[inline(always)]
 pub fn keep_partners(given: &Given, work: &[u8], kept: &mut [u8], x: usize) -> bool
-    requires rowed { Rowed given.now.layout.names given.now.first.table.now × Rowed given.now.layout.names given.now.second.table.now }
     requires room { Room (mark_square given.now.layout) work.now × Beneath given.now.layout work.now }
     requires spans { Spans given.now.layout.names kept.old × Empty kept.old }
-    requires x_lt_names { (x < given.now.layout.names) × (filler_at given.now.first.table.now x ≤ given.now.layout.names) × (given.now.layout.names ≤ most_names) }
+    requires x_lt_names { (x < given.now.layout.names) × (filler_at given.now.first.table.now x ≤ given.now.layout.names) }
     ensures { Kept
         given.now work.now (filler_at given.now.first.table.now x) (role_at given.now.first.table.now x) kept.new
         × (result ≡ true → Full (mark_square given.now.layout) kept.new x work.now) }

@@ -1,10 +1,7 @@
 // Forward marks: the pairs x, y such that some signature concept lies above x by the first release and not above y by the second.
 #![tactic(auto)]
 
-ghost use Rattle.std.specs.Prelude.{◌≤◌, length};
-ghost use Rattle.release.specs.Files.{most_names};
-ghost use Rattle.layout.specs.Layouts.{Setting};
-ghost use Rattle.forward.specs.Rules.{Beneath};
+ghost use Rattle.forward.specs.Rules.{Setting};
 ghost use Rattle.forward.specs.Forward.{ForwardFrom};
 
 use crate::sweep::LostAbove;
@@ -22,10 +19,7 @@ mod sweep;
 // Marks those pairs. The inclusions of the second release are there also with rows and columns exchanged. The order, and what waits, are
 // hints.
 pub fn mark_lost_above(given: &Given, work: &mut [u8])
-    requires names_in_bounds { given.now.layout.names ≤ length given.now.chosen_names.now }
-    requires setting { Setting given.now work.old }
-    requires names_le_most_names { given.now.layout.names ≤ most_names }
-    requires beneath { 1 ≤ given.now.layout.names → Beneath given.now.layout work.old }
+    requires { Setting given.now work.old }
     ensures { ForwardFrom given.now work.old work.new }
 {
     let mut order = Order::new();

@@ -5,35 +5,26 @@ ghost use Rattle.release.specs.Tables.{HasRow};
 ghost use Rattle.marks.specs.Squares.{Room};
 ghost use Rattle.marks.specs.Passes.{Pass};
 ghost use Rattle.layout.specs.Searches.{SomeBelow};
-ghost use Rattle.layout.specs.Layouts.{Rowed, second_square, mark_square};
+ghost use Rattle.layout.specs.Layouts.{second_square, mark_square};
 ghost use Rattle.forward.specs.Rules.{Partner, NextSuccessor, Setting, Edge, Follows, EdgeCell};
 
 use layout::Given;
 use release::terminology::Terminology;
 
-// The first successor of the name by the role, from the node `from` on. A name has one axiom, so one successor at most. The role is
-// looked at first, since most names have another.
+// The first successor of the name by the role, from the node `from` on. A name has one axiom, so one successor at most.
 fn next_successor(second: &Terminology, role: usize, name: usize, from: usize) -> Option<usize>
     requires { HasRow second.now.table.now name }
     ensures { NextSuccessor second.now.table.now role name from result }
 {
-    if second.role(name) != role {
-        return None;
+    match second.successor(name, role) {
+        Some(filler) if from <= filler => Some(filler),
+        _ => None,
     }
-    let filler = second.filler(name);
-    if filler < from {
-        return None;
-    }
-    if second.is_restriction(name) {
-        return Some(filler);
-    }
-    None
 }
 
 // Whether y has an edge with the role by the second release, to a node that `end` is not marked with. The candidates are the names above
 // y by the second release, up to ⊤; of each, its successors by the role are looked at. The first partner ends both loops.
 fn has_partner(given: &Given, work: &[u8], end: usize, role: usize, y: usize) -> bool
-    requires rowed { Rowed given.now.layout.names given.now.second.table.now }
     requires room { Room (second_square given.now.layout) work.now × Room (mark_square given.now.layout) work.now }
     requires end_le_names { (end ≤ given.now.layout.names) × (y ≤ given.now.layout.names) }
     ensures { Tells result (SomeBelow (Partner given.now work.now end y role) given.now.layout.names) }

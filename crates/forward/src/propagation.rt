@@ -1,13 +1,12 @@
 // The first marks, row after row. That this misses nothing is not proved and need not be: the passes after it (sweep) find what it missed.
 // They find nothing, as a rule.
-ghost use Rattle.std.specs.Prelude.{◌≡◌, ◌≤◌, ◌<◌, length};
-ghost use Rattle.release.specs.Files.{most_names};
+ghost use Rattle.std.specs.Prelude.{◌≡◌, ◌≤◌, ◌<◌};
 ghost use Rattle.marks.specs.Squares.{Room};
 ghost use Rattle.marks.specs.Lines.{Spans};
 ghost use Rattle.marks.specs.Passes.{Grows};
 ghost use Rattle.marks.specs.declared.inclusions.Direction.TheVariants.{Down};
 ghost use Rattle.layout.specs.Layouts.{first_square, mark_square};
-ghost use Rattle.forward.specs.Rules.{Setting, NameLost, Follows, Step};
+ghost use Rattle.forward.specs.Rules.{Setting, Named, NameLost, Followed, Step};
 
 use crate::consequences::lose_row;
 use crate::sweep::look_at_name;
@@ -20,9 +19,7 @@ use marks::waiting::Waiting;
 
 // Writes an order in which ends come before their edges, and what lies above before what lies below, as far as that can be had: a hint.
 fn sort(given: &Given, work: &[u8], order: &mut Order)
-    requires names_in_bounds { given.now.layout.names ≤ length given.now.first.table.now }
-    requires room { Room (first_square given.now.layout) work.now }
-    requires names_le_most_names { given.now.layout.names ≤ most_names }
+    requires { Room (first_square given.now.layout) work.now }
 {
     let inclusions = given.layout.first_square();
     order.sort(work, inclusions, |x| {
@@ -36,7 +33,7 @@ fn sort(given: &Given, work: &[u8], order: &mut Order)
 
 // Marks each name of the signature with all that it is not above by the second release.
 fn mark_names(given: &Given, work: &mut [u8])
-    requires { Setting given.now work.old }
+    requires { Named given.now work.old }
     ensures { Grows (NameLost given.now) (mark_square given.now.layout) work.old work.new }
 {
     for x in 0..given.layout.names {
@@ -48,13 +45,10 @@ fn mark_names(given: &Given, work: &mut [u8])
 fn wait_for_above(given: &Given, work: &[u8], waiting: &mut Waiting, done: &[u8], x: usize)
     requires room { Room (first_square given.now.layout) work.now }
     requires spans { Spans given.now.layout.names done.now }
-    requires x_le_names { (x ≤ given.now.layout.names) × (given.now.layout.names ≤ most_names) }
+    requires x_le_names { x ≤ given.now.layout.names }
 {
     let inclusions = given.layout.first_square();
-    let mut next = 0;
-    // no plainer as an iterator over such columns: a struct, an impl and their clauses, for this one loop of the crate
-    while let Some(later) = inclusions.next_outside(work, x, done, next) {
-        next = later + 1;
+    for later in inclusions.outside(work, x, done) {
         if later != x {
             waiting.wait(later);
         }
@@ -66,7 +60,7 @@ fn first_edge(given: &Given, work: &mut [u8], waiting: &mut Waiting, done: &[u8]
     requires setting { Setting given.now work.old }
     requires spans { Spans given.now.layout.names done.now }
     requires x_lt_names { x < given.now.layout.names }
-    ensures { Grows (Follows given.now) (mark_square given.now.layout) work.old work.new }
+    ensures { Followed given.now work.old work.new }
 {
     if given.edges[x] {
         let end = given.first.filler(x);
@@ -80,7 +74,6 @@ fn first_edge(given: &Given, work: &mut [u8], waiting: &mut Waiting, done: &[u8]
 
 // Each row takes the marks of what lies above it by the first release.
 pub fn taking(given: &Given) -> Handing
-    requires { given.now.layout.names ≤ most_names }
     ensures direction { result.direction ≡ Down }
     ensures squares { (result.inclusions ≡ first_square given.now.layout) × (result.marks ≡ mark_square given.now.layout) }
 {
@@ -103,7 +96,7 @@ fn first_row(
     requires setting { Setting given.now work.old }
     requires spans { Spans given.now.layout.names done.now }
     requires x_le_names { x ≤ given.now.layout.names }
-    ensures { Grows (Follows given.now) (mark_square given.now.layout) work.old work.new }
+    ensures { Followed given.now work.old work.new }
 {
     taking(given).hand(work, done, x, near);
     wait_for_above(given, work, waiting, done, x);
@@ -116,16 +109,10 @@ fn first_row(
 fn first_rows(given: &Given, work: &mut [u8], waiting: &mut Waiting, done: &mut [u8], order: &Order)
     requires setting { Setting given.now work.old }
     requires spans { Spans given.now.layout.names done.old }
-    ensures { Grows (Follows given.now) (mark_square given.now.layout) work.old work.new }
+    ensures { Followed given.now work.old work.new }
 {
     let mut near = None;
-    for place in 0..=given.layout.names {
-        let Some(x) = order.at(place) else {
-            continue;
-        };
-        if given.layout.names < x {
-            continue;
-        }
+    for x in order.nodes(given.layout.names) {
         first_row(given, work, waiting, done, x, near);
         line::add(done, x);
         near = Some(x);

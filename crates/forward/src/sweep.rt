@@ -4,7 +4,7 @@ ghost use Rattle.marks.specs.Passes.{Pass, Below};
 ghost use Rattle.release.specs.Tables.{role_at, filler_at};
 ghost use Rattle.marks.specs.Lines.{Spans};
 ghost use Rattle.layout.specs.Layouts.{mark_square};
-ghost use Rattle.forward.specs.Rules.{Setting, setting_stays, NameLost, Edge, Follows, Step, Kept, ByName, ByEdge, EdgeCell, Looked, Row};
+ghost use Rattle.forward.specs.Rules.{Setting, setting_stays, follows_step, Named, NameLost, Edge, Follows, Step, Kept, ByName, ByEdge, EdgeCell, Looked, Row};
 
 use crate::consequences::deal;
 use crate::kept::{join_below, keep_partners, next_missing};
@@ -17,13 +17,14 @@ use marks::order::Order;
 use marks::rules::Rules;
 use marks::waiting::Waiting;
 
-// Marks the name x with all that it is not above by the second release, if it is in the signature. Whether a mark is new.
+// Marks the name x with all that it is not above by the second release, if it is in the signature. Whether a mark is new. Crate backward has
+// a function of this name, which joins another row and marks one column more; what the two share is no more than these few lines.
 pub fn look_at_name(given: &Given, work: &mut [u8], x: usize) -> bool
-    requires setting { Setting given.now work.old }
+    requires named { Named given.now work.old }
     requires x_lt_names { x < given.now.layout.names }
     ensures { Pass (NameLost given.now) (mark_square given.now.layout) (ByName given.now x) work.old work.new result }
 {
-    if given.layout.has_name(given.chosen_names, x) {
+    if given.has_name(x) {
         let mut kept = [0u8; Line::LENGTH];
         join_below(given, work, &mut kept, x);
         let marks = given.layout.mark_square();
@@ -85,8 +86,9 @@ fn look_at_names(given: &Given, work: &mut [u8]) -> bool
     changed
 }
 
-// The rules of forward marks, by which a square is closed.
-#[derive(Clone, Copy)]
+// The rules of forward marks, by which a square is closed. What marks by them are functions and no methods here: a method would have as many
+// parameters, and its clauses one field more to go through. `Setting` stands in their contracts, as it says of the memory what `given` asks.
+#[derive(Clone, Copy, Debug, PartialEq, Eq)]
 pub struct LostAbove<'a> {
     pub given: &'a Given<'a>,
 }
@@ -98,7 +100,11 @@ impl<'a> Rules for LostAbove<'a> {
 
     ghost allowed = { λ r. Step r.given.now };
 
+    ghost follows = { λ r. Follows r.given.now };
+
     ghost done = { λ r. Below (Row r.given.now) (suc r.given.now.layout.names) };
+
+    ghost wider = { λ r w x y f. follows_step f };
 
     ghost stays = { λ r w v grows h. setting_stays grows h };
 

@@ -21,7 +21,8 @@ use Rattle.classification.proofs.AxiomRows.{formed, ranges}
 use Rattle.classification.proofs.Meaning.{inclusions_stay, table_by}
 use Rattle.layout.specs.declared.Layout.{Layout}
 use Rattle.layout.specs.declared.Given.{Given}
-use Rattle.layout.specs.Layouts.{mark_square, chosen, Rowed, Edges, Setting}
+use Rattle.layout.specs.Tables.{Rowed}
+use Rattle.layout.specs.Layouts.{mark_square, chosen, Setting}
 use Rattle.layout.specs.Comparing.{Comparing}
 
 pub chosen_below : (l : Layout) (g : List ℕ) → NamesBelow l.names (chosen l g)
@@ -49,8 +50,8 @@ module _ {s t : List ℕ} {given : Given} {w : List ℕ} (c : Comparing s t give
   pub second_shaped : Shaped l.names t given.second.table.now
   second_shaped = ranges c.second_release c.second_names
 
-  pub setting : Edges l.names given.first.table.now given.edges.now → Setting given w
-  setting e = record { edges = e; first_table = rowed first_shaped; second_table = rowed second_shaped; first = c.first_room; second = c.second_room; marks = c.room; areas = c.areas }
+  pub setting : Setting given w
+  setting = record { first = c.first_room; second = c.second_room; marks = c.room; areas = c.areas }
 
   -- while the marks change
   module _ {v : List ℕ} (f : Frame (mark_square l) w v) where

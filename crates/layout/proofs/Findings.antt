@@ -14,7 +14,8 @@ use lib.Seq.{get_or-set_same, get_or-set_other}
 use Rattle.el.proofs.Tests.{Tells}
 use Rattle.release.specs.declared.table.Row as table
 use Rattle.layout.specs.declared.Given.{Given}
-use Rattle.layout.specs.Layouts.{chosen, has_edge, Edges}
+use Rattle.layout.specs.Tables.{has_edge, Edges}
+use Rattle.layout.specs.Layouts.{chosen}
 use Rattle.layout.specs.Findings.{RoleChosen, Found, Handed}
 
 -- what is told of the first k names

@@ -21,9 +21,6 @@ pub setting_stays : {Rule : List ℕ → ℕ → ℕ → Type 0} {given : Given}
 setting_stays grows s =
     let f = grows_frame grows in
     record {
-      edges = s.edges;
-      first_table = s.first_table;
-      second_table = s.second_table;
       first = frame_room f s.first;
       second = frame_room f s.second;
       marks = frame_room f s.marks;

@@ -9,7 +9,7 @@ use Rattle.release.specs.Files.{restricts}
 use Rattle.release.specs.Tables.{kind_at, role_at}
 use Rattle.signature.specs.Bytes.{signature_of}
 use Rattle.layout.specs.declared.Given.{Given}
-use Rattle.layout.specs.Layouts.{has_edge}
+use Rattle.layout.specs.Tables.{has_edge}
 
 pub record RoleChosen (g : List ℕ) (a : List table.Row) (n m x : ℕ) : Type 0 where
   pub is_restriction : restricts (kind_at a x) ≡ true

@@ -4,15 +4,9 @@
 --   mark_square l                      the square of the marks of the comparison
 --   below_square l                     the square of the second release's inclusions, turned
 --   chosen l g                        the signature that the bytes g give
---   has_edge edges x                   it was found that the name x has an edge
---   Rowed n t                         the table t has a row for each of n names, and its fillers are nodes
---   Edges n a edges                   something was found of each of n names, and only restrictions of the table a have an edge
---   Setting given w                   all of these are where the functions of a comparison read and write
-use Rattle.std.specs.Prelude.{ℕ, ◌≤◌, ◌<◌, ◌≡◌, Bool, true, false, List, length, get_or}
+--   Setting given w                   the squares are where the functions of a comparison read and write
+use Rattle.std.specs.Prelude.{List, ℕ}
 use Rattle.el.specs.Signatures.{Signature}
-use Rattle.release.specs.declared.table.Row as table
-use Rattle.release.specs.Files.{restricts}
-use Rattle.release.specs.Tables.{kind_at, filler_at}
 use Rattle.signature.specs.Bytes.{signature_of}
 use Rattle.marks.specs.declared.Square.{Square}
 use Rattle.marks.specs.Squares.{Room, Area, behind}
@@ -35,17 +29,6 @@ below_square l = behind (second_square l) 1
 abbrev pub chosen : Layout → List ℕ → Signature
 chosen l g = signature_of l.names l.roles g
 
-abbrev pub has_edge : List Bool → ℕ → Bool
-has_edge edges x = get_or edges x false
-
-pub record Rowed (n : ℕ) (t : List table.Row) : Type 0 where
-  pub rows : n ≤ length t
-  pub filler : (x : ℕ) → x < n → restricts (kind_at t x) ≡ true → filler_at t x ≤ n
-
-pub record Edges (n : ℕ) (a : List table.Row) (edges : List Bool) : Type 0 where
-  pub long : n ≤ length edges
-  pub restriction : (x : ℕ) → x < n → has_edge edges x ≡ true → restricts (kind_at a x) ≡ true
-
 -- the memory lent for the three squares is there
 pub record Areas (l : Layout) (w : List ℕ) : Type 0 where
   pub first : Area (first_square l) w
@@ -53,9 +36,6 @@ pub record Areas (l : Layout) (w : List ℕ) : Type 0 where
   pub marks : Area (mark_square l) w
 
 pub record Setting (given : Given) (w : List ℕ) : Type 0 where
-  pub edges : Edges given.layout.names given.first.table.now given.edges.now
-  pub first_table : Rowed given.layout.names given.first.table.now
-  pub second_table : Rowed given.layout.names given.second.table.now
   pub first : Room (first_square given.layout) w
   pub second : Room (second_square given.layout) w
   pub marks : Room (mark_square given.layout) w

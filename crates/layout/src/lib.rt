@@ -2,8 +2,9 @@
 // signature.
 #![tactic(auto)]
 
-ghost use Rattle.std.specs.Prelude.{◌≡◌, ◌≤◌, length};
-ghost use Rattle.layout.specs.Layouts.{first_square, second_square, mark_square, chosen};
+ghost use Rattle.std.specs.Prelude.{◌≤◌, length};
+ghost use Rattle.release.specs.Files.{most_names};
+ghost use Rattle.layout.specs.Tables.{Rowed, Edges};
 
 use marks::Square;
 use release::terminology::Terminology;
@@ -11,7 +12,8 @@ use release::terminology::Terminology;
 pub mod edges;
 
 // The numbers of names and roles, and where three squares begin in the work memory: the inclusions of the first release, those
-// of the second, and the marks of the comparison. Three places, since three squares would hold the number of names three times.
+// of the second, and the marks of the comparison. Three places, since three squares would hold the number of names three times. No code
+// reads the roles: with them a layout says which signature its marks are of (specs, `chosen`).
 #[derive(Clone, Copy, Debug, PartialEq, Eq)]
 pub struct Layout {
     pub names: usize,
@@ -19,9 +21,13 @@ pub struct Layout {
     pub first: usize,
     pub second: usize,
     pub marks: usize,
+    pub ghost few: { names ≤ most_names },
 }
 
 impl Layout {
+    ghost use Rattle.std.specs.Prelude.{◌≡◌, ◌≤◌, length};
+    ghost use Rattle.layout.specs.Layouts.{first_square, second_square, mark_square, chosen};
+
     // The square of the first release's inclusions.
     pub fn first_square(self) -> Square
         ensures { result ≡ first_square self }
@@ -62,12 +68,28 @@ impl Layout {
 }
 
 // What marks are put by: the bytes of the signature's names, whether each name has an edge with a role of it (edges), the two
-// terminologies, and the squares.
-#[derive(Clone, Copy)]
+// terminologies, and the squares. Each name has its byte, its edge and its rows.
+#[derive(Clone, Copy, Debug, PartialEq, Eq)]
 pub struct Given<'a> {
     pub chosen_names: &'a [u8],
     pub edges: &'a [bool],
     pub first: Terminology<'a>,
     pub second: Terminology<'a>,
     pub layout: Layout,
+    pub ghost names_in_bounds: { layout.names ≤ length chosen_names.now },
+    pub ghost edges_found: { Edges layout.names first.table.now edges.now },
+    pub ghost first_rowed: { Rowed layout.names first.table.now },
+    pub ghost second_rowed: { Rowed layout.names second.table.now },
+}
+
+impl<'a> Given<'a> {
+    ghost use Rattle.std.specs.Prelude.{◌≡◌};
+    ghost use Rattle.layout.specs.Layouts.{chosen};
+
+    // Whether a name is in the signature.
+    pub fn has_name(&self, name: usize) -> bool
+        ensures { result ≡ (chosen self.now.layout self.now.chosen_names.now).has_name name }
+    {
+        self.layout.has_name(self.chosen_names, name)
+    }
 }

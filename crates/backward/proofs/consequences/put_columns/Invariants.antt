@@ -1,12 +1,10 @@
 -- The loop's invariant: the marks grow by the rule.
 use Prim.Native.Nat.{suc, ◌-◌}
-use Rattle.marks.specs.Passes.{Grows}
-use Rattle.layout.specs.Layouts.{mark_square}
-use Rattle.backward.specs.Rules.{Follows}
+use Rattle.backward.specs.Rules.{Followed}
 use Rattle.backward.proofs.consequences.put_columns.Given as goal
 
-abbrev pub invariant-loop-z : goal.invariant-loop-z
-invariant-loop-z l = Grows (Follows l.given) (mark_square l.given.layout) l.initial.work l.work
+abbrev pub invariant-loop-name : goal.invariant-loop-name
+invariant-loop-name l = Followed l.given l.initial.work l.work
 
-abbrev pub decreases-loop-z : goal.decreases-loop-z
-decreases-loop-z l = suc l.given.layout.names - l.next
+abbrev pub decreases-loop-name : goal.decreases-loop-name
+decreases-loop-name l = suc l.given.layout.names - l.next

@@ -5,9 +5,9 @@ use Rattle.marks.specs.Passes.{none}
 use Rattle.marks.proofs.Passes.{grows_further, put_grows}
 use Rattle.backward.proofs.consequences.put_over.Goals as goal
 
-pub loop-z-init : goal.loop-z-init
-loop-z-init c = none
+pub loop-name-init : goal.loop-name-init
+loop-name-init c = none
 
-pub loop-z-preserved : goal.loop-z-preserved
-loop-z-preserved c = grows_further c.loop-z.invariant
+pub loop-name-preserved : goal.loop-name-preserved
+loop-name-preserved c = grows_further c.loop-name.invariant
     (put_grows c.put.ensures (record { row = refl; filled = rw c.role-role.ensures at (c.is_filled.ensures.sound c.if-not-is_filled.false); filler = omega arith }))

@@ -1,16 +1,22 @@
 -- The conjuncts of y are asked one after the other, until x is marked with one.
-use Rattle.std.proofs.Common.{rules, refl, tests, arith}
-use Rattle.std.proofs.lemmas.Iterator.{cases_from_any, YieldsList-from_range}
-use Rattle.el.proofs.Tests.{Tells}
-use Rattle.layout.specs.Searches.{SomeBelow}
-use Rattle.backward.specs.Rules.{ColumnPart}
-use Rattle.backward.proofs.Searched.{some_told}
+use Rattle.std.proofs.Common.{rules, refl, tests, arith, ℕ}
+use Rattle.el.proofs.Tests.{tells_as}
+use Rattle.release.proofs.PartWalks.{has_parts}
+use Rattle.release.proofs.PartTests.{callable, tells_some}
+use Rattle.marks.specs.Squares.{Marked}
+use Rattle.layout.specs.Layouts.{mark_square}
 use Rattle.backward.proofs.rules.some_part_lost.Goals as goal
+
+pub parts-requires : goal.parts-requires
+parts-requires c = has_parts (record { shaped = c.requires.shaped; is_name = c.requires.x_le_names.1; is_conjunctive = rw c.requires.x_le_names.2 refl })
+
+pub any-requires-clause-callable : goal.any-requires-clause-callable
+any-requires-clause-callable c = callable c.parts.ensures (λ y q k. search (rules, tests)) (λ i y l e a b d f k m n o p q.
+    let within = c.requires.shaped.part _ i c.requires.x_le_names.1 (rw c.requires.x_le_names.2 refl) l in
+    rw c.mark_square-marks.ensures (c.requires.room, (c.requires.x_le_names.0, omega (arith, e, within))))
 
 pub returns : goal.returns
 returns c =
-    let D = ColumnPart c.args.given.now c.args.work.now c.args.x c.args.y in
-    let asked = cases_from_any _ _ _ D (λ i. D i → ⊥) c.any.ensures.ran
-    (YieldsList-from_range 0 c.count.result c.count.result refl (omega arith)) (λ i q k. search (rules, tests)) (λ i q k. search (rules, tests)) in
-    let told : Tells c.any.result (SomeBelow D c.count.result) = some_told c.count.result c.any.result asked in
-    rw c.count.ensures at told
+    let D = λ (part : ℕ). Marked (mark_square c.args.given.now.layout) c.args.work.now c.args.x part in
+    tells_as (λ z. record { it = z.index; below = z.among; holds = record { marked = z.holds } }) (λ z. record { index = z.it; among = z.below; holds = z.holds.marked })
+    (tells_some D c.parts.ensures c.any.ensures.ran (λ y q k. search (rules, tests)) (λ y q k. search (rules, tests)))

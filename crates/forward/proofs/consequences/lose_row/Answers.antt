@@ -7,7 +7,7 @@ use Rattle.forward.proofs.Tested.{edges_lost, by_edge_pass, row_quiet, row_lost}
 use Rattle.forward.proofs.consequences.lose_row.Goals as goal
 
 pub keep_partners-requires-clause-spans : goal.keep_partners-requires-clause-spans
-keep_partners-requires-clause-spans c = (record { inside = omega (arith, c.requires.setting.few) }, empty_zeros 128)
+keep_partners-requires-clause-spans c = (record { inside = omega (arith, c.args.given.now.layout.few) }, empty_zeros 128)
 
 pub returns-then-keep_partners : goal.returns-then-keep_partners
 returns-then-keep_partners c =

@@ -6,7 +6,7 @@ use Rattle.forward.proofs.Tested.{edge_by, by_edge_pass, by_edge_none}
 use Rattle.forward.proofs.sweep.look_at_edge.Goals as goal
 
 pub keep_partners-requires-clause-spans : goal.keep_partners-requires-clause-spans
-keep_partners-requires-clause-spans c = (record { inside = omega (arith, c.requires.setting.few) }, empty_zeros 128)
+keep_partners-requires-clause-spans c = (record { inside = omega (arith, c.args.given.now.layout.few) }, empty_zeros 128)
 
 pub returns-then-keep_partners : goal.returns-then-keep_partners
 returns-then-keep_partners c =

@@ -1,11 +1,14 @@
 -- All names, one after the other. Invariant: a pass after which nothing is left to mark by the names before this one.
 use Rattle.marks.proofs.Passes.{turns_none, turn_both}
 use Rattle.forward.specs.Rules.{setting_stays}
-use Rattle.forward.proofs.Tested.{looked}
+use Rattle.forward.proofs.Tested.{named, looked}
 use Rattle.forward.proofs.sweep.look_at_names.Goals as goal
 
 pub loop-x-init : goal.loop-x-init
 loop-x-init c = (c.requires, turns_none)
+
+pub look_at_name-name-requires-clause-named : goal.look_at_name-name-requires-clause-named
+look_at_name-name-requires-clause-named c = named c.loop-x.invariant.0
 
 pub look_at_edge-edge-requires-clause-setting : goal.look_at_edge-edge-requires-clause-setting
 look_at_edge-edge-requires-clause-setting c = setting_stays c.look_at_name-name.ensures.grows c.loop-x.invariant.0

@@ -14,5 +14,5 @@ loop-x-preserved c = found_more c.has_chosen_role.result (omega arith) c.loop-x.
 
 pub returns : goal.returns
 returns c =
-    let all : length (take c.args.names c.args.edges.now) ≡ c.args.names = length-take-le c.args.names c.args.edges.now c.requires.names_in_bounds in
+    let all : length (take c.args.signature.now.names c.args.edges.now) ≡ c.args.signature.now.names = length-take-le c.args.signature.now.names c.args.edges.now c.requires.names_in_bounds in
     found_end _ (omega (arith, all, c.loop-x.auto.edge-items)) (omega (arith, all)) c.loop-x.invariant

@@ -3,4 +3,4 @@ use Rattle.layout.proofs.Findings.{FoundTo}
 use Rattle.layout.proofs.edges.find_edges.Given as goal
 
 abbrev pub invariant-loop-x : goal.invariant-loop-x
-invariant-loop-x l = FoundTo l.signature l.first.table.now l.names l.roles l.x l.edge-items
+invariant-loop-x l = FoundTo l.signature.bytes.now l.first.table.now l.signature.names l.signature.roles l.x l.edge-items

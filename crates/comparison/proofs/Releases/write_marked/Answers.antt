@@ -1,12 +1,6 @@
 -- What marking gives is what writing the bytes asks.
-use Rattle.comparison.proofs.Pipeline.{few, readable, marking}
-use Rattle.comparison.proofs.write_marked.Goals as goal
-
-pub forward_layout-forward-requires : goal.forward_layout-forward-requires
-forward_layout-forward-requires c = few c.requires.given.both
-
-pub backward_layout-backward-requires : goal.backward_layout-backward-requires
-backward_layout-backward-requires c = few c.requires.given.both
+use Rattle.comparison.proofs.Pipeline.{readable, marking}
+use Rattle.comparison.proofs.Releases.write_marked.Goals as goal
 
 pub write_bytes-requires-clause-readable : goal.write_bytes-requires-clause-readable
 write_bytes-requires-clause-readable c = rw (c.forward_layout-forward.ensures, c.backward_layout-backward.ensures) (readable c.requires.given.both c.mark.ensures c.requires.given.signature)
