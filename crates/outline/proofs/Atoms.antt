@@ -3,7 +3,7 @@
 --   atoms_more           one atom more at the end
 --   root_own, root_other     a root by its first atom, of its own or another root's
 -- Not here: what the atoms mean (Roots).
-use mathlib.Core.Path.{◌≡◌, refl, sym, ap, ◌∙◌}
+use mathlib.Core.Path.{◌≡◌, refl, ap, ◌∙◌}
 use mathlib.Core.List.{List, [], ◌∷◌, ◌++◌}
 use Prim.Native.Nat.{ℕ, zero, suc, ◌+◌, ◌≤◌, ◌<◌}
 use native.Mathlib.Numerals.{add-one}
@@ -14,7 +14,7 @@ use lib.ListN.{length, set}
 use lib.Seq.{get_or-set_same, get_or-set_other}
 use Rattle.el.specs.Concepts.{top, both}
 use Rattle.outline.specs.declared.Atom.{Atom}
-use Rattle.outline.specs.Atoms.{atom, value_at, owner_at, child_at, blank, atom_at, atoms_from, atom_concept, root_of}
+use Rattle.outline.specs.Atoms.{value_of, child_number, Rooted, value_at, owner_at, child_at, blank, atom_at, atoms_from, atom_concept, root_of}
 
 -- an atom put
 module _ (o : List Atom) (i : ℕ) (a : Atom) where
@@ -28,70 +28,61 @@ pub record Written (n k c : ℕ) (o : List Atom) : Type 0 where
   pub owner : (i : ℕ) → i < c → owner_at o i < k
   pub child : (i : ℕ) → i < c → child_at o i < k
   pub named : (i : ℕ) → i < c → child_at o i ≡ 0 → value_at o i < n
+  pub rooted : (i : ℕ) → i < c → Rooted (atom_at o i)
   pub later : (i j : ℕ) → i < c → j ≤ i → 0 < child_at o i → owner_at o j < child_at o i
 
 pub written_none : {n k : ℕ} {o : List Atom} → Written n k 0 o
-written_none = record { owner = λ i h. absurd (omega arith); child = λ i h. absurd (omega arith); named = λ i h. absurd (omega arith); later = λ i j h. absurd (omega arith) }
+written_none = record {
+  owner = λ i h. absurd (omega arith);
+  child = λ i h. absurd (omega arith);
+  named = λ i h. absurd (omega arith);
+  rooted = λ i h. absurd (omega arith);
+  later = λ i j h. absurd (omega arith);
+}
 
 -- an atom more: a name of an old root; or an ∃ of one, with a new root
-module _ {n k c : ℕ} {o : List Atom} (before : Written n k c o) (v w u l : ℕ) (h : c < length o) (old_owner : w < k) (more : k ≤ l) (child_in : u < l)
-    (a_name : u ≡ 0 → v < n) (new_child : 0 < u → k ≤ u) where
+module _ {n k c : ℕ} {o : List Atom} (before : Written n k c o) (a : Atom) (l : ℕ) (h : c < length o) (old_owner : a.owner < k) (more : k ≤ l) (child_inside : child_number a < l)
+    (a_name : child_number a ≡ 0 → value_of a < n) (is_rooted : Rooted a) (new_child : 0 < child_number a → k ≤ child_number a) where
   abbrev after : List Atom
-  after = set o c (atom v w u)
+  after = set o c a
 
-  there : atom_at after c ≡ atom v w u
-  there = put_there o c (atom v w u) h
+  there : atom_at after c ≡ a
+  there = put_there o c a h
 
-  value_there : value_at after c ≡ v
-  value_there = ap (λ (a : Atom). a.value) there
+  old : (j : ℕ) → j < c → atom_at after j ≡ atom_at o j
+  old j z = put_other o c a j z
 
-  owner_there : owner_at after c ≡ w
-  owner_there = ap (λ (a : Atom). a.owner) there
-
-  child_there : child_at after c ≡ u
-  child_there = ap (λ (a : Atom). a.child) there
-
-  module _ (j : ℕ) (z : j < c) where
-    value_before : value_at after j ≡ value_at o j
-    value_before = ap (λ (a : Atom). a.value) (put_other o c (atom v w u) j z)
-
-    owner_before : owner_at after j ≡ owner_at o j
-    owner_before = ap (λ (a : Atom). a.owner) (put_other o c (atom v w u) j z)
-
-    child_before : child_at after j ≡ child_at o j
-    child_before = ap (λ (a : Atom). a.child) (put_other o c (atom v w u) j z)
+  -- what holds of each atom before and of the new one holds of each
+  each : (P : Atom → Type 0) → ((j : ℕ) → j < c → P (atom_at o j)) → P a → (j : ℕ) → j < c + 1 → P (atom_at after j)
+  each P before_each new j m = elim (ℕ_discrete j c) [
+    | yes e ↦ rw (e, there) new
+    | no e ↦ let z : j < c = omega arith in rw (old j z) (before_each j z)
+  ]
 
   owner_at_lem : (j : ℕ) → j < c + 1 → owner_at after j < k
-  owner_at_lem j m = elim (ℕ_discrete j c) [
-    | yes e ↦ rw (e, owner_there) old_owner
-    | no e ↦ let z : j < c = omega arith in rw (owner_before j z) (before.owner j z)
-  ]
-
-  child_at_lem : (j : ℕ) → j < c + 1 → child_at after j < l
-  child_at_lem j m = elim (ℕ_discrete j c) [
-    | yes e ↦ rw (e, child_there) child_in
-    | no e ↦ let z : j < c = omega arith in rw (child_before j z) (omega (arith, before.child j z))
-  ]
-
-  named_at : (j : ℕ) → j < c + 1 → child_at after j ≡ 0 → value_at after j < n
-  named_at j m z0 = elim (ℕ_discrete j c) [
-    | yes e ↦ rw (e, value_there) (a_name (sym child_there ∙ rw e at z0))
-    | no e ↦ let z : j < c = omega arith in rw (value_before j z) (before.named j z (sym (child_before j z) ∙ z0))
-  ]
+  owner_at_lem = each (λ b. b.owner < k) before.owner old_owner
 
   later_at : (i j : ℕ) → i < c + 1 → j ≤ i → 0 < child_at after i → owner_at after j < child_at after i
   later_at i j m g p = elim (ℕ_discrete i c) [
     | yes e ↦ (
-        let z : child_at after i ≡ u = rw e child_there in
+        let z : child_at after i ≡ child_number a = rw (e, there) refl in
         omega (arith, owner_at_lem j (omega arith), new_child (omega (arith, z)), z))
     | no e ↦ (
         let z : i < c = omega arith in
         let y : j < c = omega arith in
-        omega (arith, owner_before j y, child_before i z, before.later i j z g (omega (arith, child_before i z))))
+        let child_same : child_at after i ≡ child_at o i = ap child_number (old i z) in
+        let owner_same : owner_at after j ≡ owner_at o j = ap (λ (b : Atom). b.owner) (old j y) in
+        omega (arith, owner_same, child_same, before.later i j z g (omega (arith, child_same))))
   ]
 
   pub written_more : Written n l (c + 1) after
-  written_more = record { owner = λ j m. omega (arith, owner_at_lem j m); child = child_at_lem; named = named_at; later = later_at }
+  written_more = record {
+    owner = λ j m. omega (arith, owner_at_lem j m);
+    child = each (λ b. child_number b < l) (λ j z. omega (arith, before.child j z)) child_inside;
+    named = each (λ b. child_number b ≡ 0 → value_of b < n) before.named a_name;
+    rooted = each Rooted before.rooted is_rooted;
+    later = later_at;
+  }
 
 -- atoms as lists
 atoms_same : (o p : List Atom) (i c : ℕ) → ((j : ℕ) → j < i + c → atom_at o j ≡ atom_at p j) → atoms_from o i c ≡ atoms_from p i c

@@ -16,7 +16,7 @@ use Rattle.el.specs.Concepts.{Concept, top, name, both, some}
 use Rattle.el.specs.Axioms.{Axiom}
 use Rattle.el.specs.Derivability.{same, to_top, one, other, meet, under, chain}
 use Rattle.outline.specs.declared.Atom.{Atom}
-use Rattle.outline.specs.Atoms.{atom, root_of, Same}
+use Rattle.outline.specs.Atoms.{named, restricted, root_of, Same}
 
 pub data Pending : Type 0 where
   awaits : ℕ → Concept → Pending
@@ -24,10 +24,10 @@ pub data Pending : Type 0 where
 pub data Reads : List Pending → ℕ → List Atom → Type 0 where
   done : {k : ℕ} → Reads [] k []
   read_top : {k o : ℕ} {ps : List Pending} {rest : List Atom} → Reads ps k rest → Reads (awaits o top ∷ ps) k rest
-  read_name : {k o b : ℕ} {ps : List Pending} {rest : List Atom} → Reads ps k rest → Reads (awaits o (name b) ∷ ps) k (atom b o 0 ∷ rest)
+  read_name : {k o b : ℕ} {ps : List Pending} {rest : List Atom} → Reads ps k rest → Reads (awaits o (name b) ∷ ps) k (named b o ∷ rest)
   read_both : {k o : ℕ} {c d : Concept} {ps : List Pending} {rest : List Atom} → Reads (awaits o c ∷ (awaits o d ∷ ps)) k rest → Reads (awaits o (both c d) ∷ ps) k rest
   read_some : {k o r : ℕ} {c : Concept} {ps : List Pending} {rest : List Atom} → Reads (awaits (suc k) c ∷ ps) (suc (suc k)) rest
-      → Reads (awaits o (some r c) ∷ ps) (suc k) (atom r o (suc k) ∷ rest)
+      → Reads (awaits o (some r c) ∷ ps) (suc k) (restricted r o (suc k) ∷ rest)
 
 abbrev pub pending_of : List Pending → ℕ → Concept
 pending_of [] o = top
@@ -76,7 +76,7 @@ module _ {al : List Axiom} where
         let z : pending_of (awaits (suc k) c ∷ ps) (suc k) ≡ both c top = rw (eq-eqb (suc k) (suc k) refl, none_pending ps (suc k) h) in
         same_chain same_without_top (rw z at (means (suc k) (omega arith)))
 
-    some_means : (p role o : ℕ) → o < suc k → Same al (pending_of (awaits p (some role c) ∷ ps) o) (root_of (atom role p (suc k) ∷ rest) o)
+    some_means : (p role o : ℕ) → o < suc k → Same al (pending_of (awaits p (some role c) ∷ ps) o) (root_of (restricted role p (suc k) ∷ rest) o)
     unfolding root_of
     some_means p role o l = by_test (eqb p o) (rw (ne_eqb (suc k) o (λ z. omega arith)) at (means o (omega arith)))
       where

@@ -1,9 +1,10 @@
--- The turns of outlining: one law for each kind byte.
+-- The turns of outlining, by the constructor that is read.
 --   Stacked a i ps       the stack a holds the owners of the i pending concepts ps, the first one last
 --   Await w n m ps t     t is the bytes of the pending concepts, their names of w bytes and below n and their roles below m
 --   Numbers r p k c      the numbers of the loop, where r is still to be read, p concepts are pending, and k roots and c atoms are written
 --   State ..             what is pending and what is written, where the text is that of a concept
-use mathlib.Core.Path.{◌≡◌, refl, sym, ap, ◌∙◌}
+--   .._by k ..           what the turn of the constructor k leaves of the roots, the atoms and the stack
+use mathlib.Core.Path.{◌≡◌, refl, sym, ◌∙◌}
 use mathlib.Core.Bool.{true}
 use mathlib.Core.List.{List, [], ◌∷◌, ◌++◌, append_assoc, append-nil}
 use Prim.Native.Nat.{ℕ, zero, suc, ◌+◌, ◌*◌, ◌-◌, ◌≤◌, ◌<◌}
@@ -11,18 +12,22 @@ use native.Mathlib.Numerals.{add-one}
 use native.Mathlib.Omega.{arith}
 use borrow.Author.Tests.{ltb-true}
 use lib.Dec.{ltb}
-use lib.ListN.{length, get_or, set, drop, length-set, length-drop}
+use lib.ListN.{length, get_or, set, drop, length-set}
 use lib.Seq.{get_or-set_same, get_or-set_other}
 use Rattle.el.specs.Concepts.{Concept, some}
 use Rattle.el.proofs.Tests.{and_left, and_right}
-use Rattle.std.specs.Prelude.{Option, Some, None, MatchOption, IsSome}
+use Rattle.std.specs.Prelude.{Option, Some, None, IsSome}
 use Rattle.std.specs.Borrow.{Bor}
 use Rattle.release.specs.Versions.{width}
 use Rattle.release.specs.declared.number.Version.{Version}
 use Rattle.release.specs.declared.number.Version.TheVariants.{One, Two}
 use Rattle.concept.specs.Bytes.{number, Spelled, is_top, is_name, is_both, is_some, is_within, IsTextOf}
 use Rattle.outline.specs.declared.Atom.{Atom}
-use Rattle.outline.specs.Atoms.{atom, BeginsWith, atoms_from, Outlined, Outlinable}
+use Rattle.outline.specs.declared.Constructor.{Constructor}
+use Rattle.outline.specs.declared.Constructor.TheVariants.{Top, Name, Conjunction, Restriction}
+use Rattle.outline.specs.Constructors.{arity, atoms_of, found, split, SplitAs}
+use Rattle.outline.specs.Atoms.{named, restricted, atoms_from, Outlined, Outlinable}
+use Rattle.outline.proofs.Constructors.{no_split, SameSplit, same_split, name_split, begun, splits, lengths}
 use Rattle.outline.proofs.Roots.{Pending, awaits, Reads, done, read_top, read_name, read_both, read_some, OwnersBelow, owners_more, reads_mean, same_chain, same_without_top}
 use Rattle.outline.proofs.Atoms.{Written, written_none, written_more, atoms_more}
 
@@ -57,119 +62,123 @@ pub record States (w : ℕ) (s r : List ℕ) (pending roots count : ℕ) (owners
   pub room : 128 ≤ length atoms
   pub of : (n m : ℕ) (c : Concept) → IsTextOf w n m c s → State w n m c r pending roots count owners atoms
 
--- a text by its first byte, in two ways
-record Same (b k : ℕ) (u t : List ℕ) : Type 0 where
-  byte : k ≡ b
-  rest : t ≡ u
+-- what a turn writes, by the constructor that it reads
+abbrev pub roots_by : Constructor → ℕ → ℕ
+roots_by Top roots = roots
+roots_by (Name x) roots = roots
+roots_by Conjunction roots = roots
+roots_by (Restriction r) roots = roots + 1
 
-same_first : {r : List ℕ} {b k : ℕ} {u t : List ℕ} → r ≡ k ∷ t → r ≡ b ∷ u → Same b k u t
-same_first {b = b} {k = k} {u = u} {t = t} e f = let z : k ∷ t ≡ b ∷ u = sym e ∙ f in record { byte = cc; rest = cc }
+abbrev pub count_by : Constructor → ℕ → ℕ
+count_by Top count = count
+count_by (Name x) count = count + 1
+count_by Conjunction count = count
+count_by (Restriction r) count = count + 1
+
+abbrev pub owners_by : Constructor → ℕ → ℕ → List ℕ → List ℕ
+owners_by Top top roots owners = owners
+owners_by (Name x) top roots owners = owners
+owners_by Conjunction top roots owners = set owners (top + 1) (get_or owners top 0)
+owners_by (Restriction r) top roots owners = set owners top roots
+
+abbrev pub atoms_by : Constructor → ℕ → ℕ → ℕ → List Atom → List Atom
+atoms_by Top owner roots count atoms = atoms
+atoms_by (Name x) owner roots count atoms = set atoms count (named x owner)
+atoms_by Conjunction owner roots count atoms = atoms
+atoms_by (Restriction r) owner roots count atoms = set atoms count (restricted r owner roots)
+
+record Counted (k : Constructor) (roots count : ℕ) : Type 0 where
+  more : count_by k count ≡ count + atoms_of k
+  kept : roots ≤ roots_by k roots
+  few : roots_by k roots ≤ roots + atoms_of k
+
+counted : (k : Constructor) (roots count : ℕ) → Counted k roots count
+counted Top roots count = record { more = omega arith; kept = omega arith; few = omega arith }
+counted (Name x) roots count = record { more = omega arith; kept = omega arith; few = omega arith }
+counted Conjunction roots count = record { more = omega arith; kept = omega arith; few = omega arith }
+counted (Restriction r) roots count = record { more = omega arith; kept = omega arith; few = omega arith }
+
+owners_long : (k : Constructor) (top roots : ℕ) (owners : List ℕ) → length (owners_by k top roots owners) ≡ length owners
+owners_long Top top roots owners = refl
+owners_long (Name x) top roots owners = refl
+owners_long Conjunction top roots owners = simp length-set refl
+owners_long (Restriction r) top roots owners = simp length-set refl
+
+atoms_long : (k : Constructor) (owner roots count : ℕ) (atoms : List Atom) → length (atoms_by k owner roots count atoms) ≡ length atoms
+atoms_long Top owner roots count atoms = refl
+atoms_long (Name x) owner roots count atoms = simp length-set refl
+atoms_long Conjunction owner roots count atoms = refl
+atoms_long (Restriction r) owner roots count atoms = simp length-set refl
+
+-- ∃: its filler is pending, a new root
+new_root : {ps : List Pending} {o role : ℕ} {d : Concept} (b : ℕ) (later : List Atom) → b ≡ suc (b - 1) → Reads (awaits b d ∷ ps) (b + 1) later
+    → Reads (awaits o (some role d) ∷ ps) b (restricted role o b ∷ later)
+new_root zero later x q = absurd (omega arith)
+new_root (suc b) later x q = read_some (rw (add-one (suc b)) at q)
 
 module _ {w n m : ℕ} {c : Concept} {r : List ℕ} {roots count : ℕ} {owners : List ℕ} {atoms : List Atom} where
-  -- where a concept is pending, there is a byte; after the kind bytes 1 and 3 there are more
-  has_byte : {pending : ℕ} → State w n m c r pending roots count owners atoms → 0 < pending → 1 ≤ length r
-  has_byte (state bottom text await below reads written) p = absurd (omega arith)
-  has_byte (state (onto e st) text (one is_top within rest) below reads written) p = omega (arith, ap length text)
-  has_byte (state (onto e st) text (one (is_name long is after) within rest) below reads written) p = omega (arith, ap length text)
-  has_byte (state (onto e st) text (one (is_both first second) within rest) below reads written) p = omega (arith, ap length text)
-  has_byte (state (onto e st) text (one (is_some filler) within rest) below reads written) p = omega (arith, ap length text)
+  -- where a concept is pending, the text begins with one
+  not_cut : {pending : ℕ} → State w n m c r pending roots count owners atoms → 0 < pending → split w r ≡ None → ⊥
+  not_cut (state bottom text await below reads written) p cut = absurd (omega arith)
+  not_cut (state (onto e st) text (one spelled within rest) below reads written) p cut = no_split (sym (rw text at cut) ∙ (begun spelled).is)
 
-  module _ {k : ℕ} {t : List ℕ} (first : r ≡ k ∷ t) where
-    has_name : {pending : ℕ} → State w n m c r pending roots count owners atoms → 0 < pending → k ≡ 1 → w ≤ length t
-    has_name (state bottom text await below reads written) p z = absurd (omega arith)
-    has_name (state (onto e st) text (one is_top within rest) below reads written) p z = absurd (omega (arith, (same_first first text).byte))
-    has_name (state (onto e st) text (one (is_name long is after) within rest) below reads written) p z = rw (same_first first text).rest long
-    has_name (state (onto e st) text (one (is_both one_half other_half) within rest) below reads written) p z = absurd (omega (arith, (same_first first text).byte))
-    has_name (state (onto e st) text (one (is_some filler) within rest) below reads written) p z = absurd (omega (arith, (same_first first text).byte))
-
+  module _ {k : Constructor} {t : List ℕ} (first : split w r ≡ found k t) (some_root : 1 ≤ roots) (l : count < length atoms) where
+    read : {pending : ℕ} → State w n m c r pending roots count owners atoms → 0 < pending → pending < length owners
+        → State w n m c t (pending - 1 + arity k) (roots_by k roots) (count_by k count) (owners_by k (pending - 1) roots owners)
+        (atoms_by k (get_or owners (pending - 1) 0) roots count atoms)
+    read (state bottom text await below reads written) p h = absurd (omega arith)
     -- ⊤: nothing is written
-    top_read : {pending : ℕ} → State w n m c r pending roots count owners atoms → 0 < pending → k ≡ 0 → State w n m c t (pending - 1) roots count owners atoms
-    top_read (state bottom text await below reads written) p z = absurd (omega arith)
-    top_read (state (onto {i = i} e st) text (one is_top within rest) below reads written) p z =
-        let y : suc i - 1 ≡ i = omega arith in
-        rw y (state st (same_first first text).rest rest below.1 (λ later q. reads later (read_top q)) written)
-    top_read (state (onto e st) text (one (is_name long is after) within rest) below reads written) p z = absurd (omega (arith, (same_first first text).byte))
-    top_read (state (onto e st) text (one (is_both one_half other_half) within rest) below reads written) p z = absurd (omega (arith, (same_first first text).byte))
-    top_read (state (onto e st) text (one (is_some filler) within rest) below reads written) p z = absurd (omega (arith, (same_first first text).byte))
-
-    -- a name: an atom, and a concept fewer is pending
-    name_read : {pending x : ℕ} {u : List ℕ} → State w n m c r pending roots count owners atoms → 0 < pending → k ≡ 1 → BeginsWith w t x u → 1 ≤ roots → count < length atoms
-        → State w n m c u (pending - 1) roots (count + 1) owners (set atoms count (atom x (get_or owners (pending - 1) 0) 0))
-    name_read (state bottom text await below reads written) p z begins g l = absurd (omega arith)
-    name_read (state (onto e st) text (one is_top within rest) below reads written) p z begins g l = absurd (omega (arith, (same_first first text).byte))
-    name_read {x = x} (state (onto {i = i} e st) text (one {o = o} (is_name {x = y} long is after) within rest) below reads written) p z begins g l =
-        let there = (same_first first text).rest in
-        let value : x ≡ y = sym begins.value ∙ (ap (number w) there ∙ is) in
-        let h : suc i - 1 ≡ i = omega arith in
-        rw (h, e, value) (
+    read (state (onto {i = i} e st) text (one (is_top {t = u}) within rest) below reads written) p h =
+        let same : SameSplit k Top t u = same_split w (0 ∷ u) (rw text at first) refl in
+        let y : suc i - 1 + 0 ≡ i = omega arith in
+        rw (same.first, y) (state st same.rest rest below.1 (λ later q. reads later (read_top q)) written)
+    -- a name: an atom
+    read (state (onto {i = i} e st) text (one {o = o} (is_name {x = x} {s = u} long is after) within rest) below reads written) p h =
+        let same : SameSplit k (Name (number w u)) t (drop w u) = same_split w (1 ∷ u) (rw text at first) (name_split w u long) in
+        let z : suc i - 1 ≡ i = omega arith in
+        let y : i + 0 ≡ i = omega arith in
+        rw (same.first, z, y, e, is) (
         state
         st
-        (sym begins.rest ∙ (ap (drop w) there ∙ after))
+        (same.rest ∙ after)
         rest
         below.1
-        (λ later q. rw (atoms_more atoms count (atom y o 0) l, append_assoc) (reads (atom y o 0 ∷ later) (read_name q)))
-        (written_more written y o 0 roots l below.0 (omega arith) (omega arith) (λ u. ltb-true _ _ within) (λ u. absurd (omega arith))))
-    name_read (state (onto e st) text (one (is_both one_half other_half) within rest) below reads written) p z begins g l = absurd (omega (arith, (same_first first text).byte))
-    name_read (state (onto e st) text (one (is_some filler) within rest) below reads written) p z begins g l = absurd (omega (arith, (same_first first text).byte))
-
+        (λ later q. rw (atoms_more atoms count (named x o) l, append_assoc) (reads (named x o ∷ later) (read_name q)))
+        (written_more written (named x o) roots l below.0 (omega arith) (omega arith) (λ u. ltb-true _ _ within) tt (λ u. absurd (omega arith))))
     -- ⊓: two concepts of one owner
-    both_read : {pending : ℕ} → State w n m c r pending roots count owners atoms → 0 < pending → k ≡ 2 → pending < length owners
-        → State w n m c t (pending + 1) roots count (set owners pending (get_or owners (pending - 1) 0)) atoms
-    both_read (state bottom text await below reads written) p z l = absurd (omega arith)
-    both_read (state (onto e st) text (one is_top within rest) below reads written) p z l = absurd (omega (arith, (same_first first text).byte))
-    both_read (state (onto e st) text (one (is_name long is after) within rest) below reads written) p z l = absurd (omega (arith, (same_first first text).byte))
-    both_read (state (onto {i = i} e st) text (one {o = o} (is_both {c = d} {d = f} one_half other_half) within rest) below reads written) p z l =
-        let y : suc i - 1 ≡ i = omega arith in
-        rw (y, e, add-one (suc i)) (
+    read (state (onto {i = i} e st) text (one {o = o} (is_both {c = d} {d = f} {s = u} one_half other_half) within rest) below reads written) p h =
+        let same : SameSplit k Conjunction t u = same_split w (2 ∷ u) (rw text at first) refl in
+        let z : suc i - 1 ≡ i = omega arith in
+        let y : i + 2 ≡ suc (suc i) = omega arith in
+        rw (same.first, z, y, e, add-one i) (
         state
-        (onto (get_or-set_same owners (suc i) o 0 l) (onto (get_or-set_other owners (suc i) i o 0 (λ u. omega arith) ∙ e) (stack_kept (suc i) o (omega arith) st)))
-        (same_first first text).rest
+        (onto (get_or-set_same owners (suc i) o 0 h) (onto (get_or-set_other owners (suc i) i o 0 (λ u. omega arith) ∙ e) (stack_kept (suc i) o (omega arith) st)))
+        same.rest
         (one one_half (and_left (is_within n m d) (is_within n m f) within) (one other_half (and_right (is_within n m d) (is_within n m f) within) rest))
         (below.0, (below.0, below.1))
         (λ later q. reads later (read_both q))
         written)
-    both_read (state (onto e st) text (one (is_some filler) within rest) below reads written) p z l = absurd (omega (arith, (same_first first text).byte))
-
-    module _ (not0 : k ≡ 0 → ⊥) (not1 : k ≡ 1 → ⊥) (not2 : k ≡ 2 → ⊥) where
-      has_role : {pending : ℕ} → State w n m c r pending roots count owners atoms → 0 < pending → 1 ≤ length t
-      has_role (state bottom text await below reads written) p = absurd (omega arith)
-      has_role (state (onto e st) text (one is_top within rest) below reads written) p = absurd (not0 (same_first first text).byte)
-      has_role (state (onto e st) text (one (is_name long is after) within rest) below reads written) p = absurd (not1 (same_first first text).byte)
-      has_role (state (onto e st) text (one (is_both one_half other_half) within rest) below reads written) p = absurd (not2 (same_first first text).byte)
-      has_role (state (onto e st) text (one (is_some filler) within rest) below reads written) p = omega (arith, ap length (same_first first text).rest)
-
-      -- ∃: an atom, and its filler is pending, a new root
-      some_read : {pending j : ℕ} {u : List ℕ} → State w n m c r pending roots count owners atoms → 0 < pending → t ≡ j ∷ u → 1 ≤ roots → pending ≤ length owners
-          → count < length atoms → State w n m c u pending (roots + 1) (count + 1) (set owners (pending - 1) roots) (set atoms count (atom j (get_or owners (pending - 1) 0) roots))
-      some_read (state bottom text await below reads written) p f g h l = absurd (omega arith)
-      some_read (state (onto e st) text (one is_top within rest) below reads written) p f g h l = absurd (not0 (same_first first text).byte)
-      some_read (state (onto e st) text (one (is_name long is after) within rest) below reads written) p f g h l = absurd (not1 (same_first first text).byte)
-      some_read (state (onto e st) text (one (is_both one_half other_half) within rest) below reads written) p f g h l = absurd (not2 (same_first first text).byte)
-      some_read (state (onto {i = i} e st) text (one {o = o} {ps = ps} (is_some {r = role} {c = d} filler) within rest) below reads written) p f g h l =
-          let second = same_first f (same_first first text).rest in
-          let z : suc i - 1 ≡ i = omega arith in
-          let x : roots ≡ suc (roots - 1) = omega arith in
-          rw (z, e, second.byte) (
-          state
-          (onto (get_or-set_same owners i roots 0 (omega arith)) (stack_kept i roots (omega arith) st))
-          second.rest
-          (one filler (and_right (ltb role m) (is_within n m d) within) rest)
-          (omega arith, owners_more ps (omega arith) below.1)
-          (λ later q. rw (atoms_more atoms count (atom role o roots) l, append_assoc) (reads (atom role o roots ∷ later) (new_root roots later x q)))
-          (written_more written role o roots (roots + 1) l below.0 (omega arith) (omega arith) (λ u. absurd (omega arith)) (λ u. omega arith)))
-        where
-          new_root : (b : ℕ) (later : List Atom) → b ≡ suc (b - 1) → Reads (awaits b d ∷ ps) (b + 1) later → Reads (awaits o (some role d) ∷ ps) b (atom role o b ∷ later)
-          new_root zero later x q = absurd (omega arith)
-          new_root (suc b) later x q = read_some (rw (add-one (suc b)) at q)
+    -- ∃: an atom, and its filler is pending, a new root
+    read (state (onto {i = i} e st) text (one {o = o} {ps = ps} (is_some {r = role} {c = d} {s = u} filler) within rest) below reads written) p h =
+        let same : SameSplit k (Restriction role) t u = same_split w (3 ∷ (role ∷ u)) (rw text at first) refl in
+        let z : suc i - 1 ≡ i = omega arith in
+        let x : roots ≡ suc (roots - 1) = omega arith in
+        rw (same.first, z, e, add-one i) (
+        state
+        (onto (get_or-set_same owners i roots 0 (omega arith)) (stack_kept i roots (omega arith) st))
+        same.rest
+        (one filler (and_right (ltb role m) (is_within n m d) within) rest)
+        (omega arith, owners_more ps (omega arith) below.1)
+        (λ later q. rw (atoms_more atoms count (restricted role o roots) l, append_assoc) (reads (restricted role o roots ∷ later) (new_root roots later x q)))
+        (written_more written (restricted role o roots) (roots + 1) l below.0 (omega arith) (omega arith) (λ u. absurd (omega arith)) (omega arith) (λ u. omega arith)))
 
 pub some_width : (v : Version) → 1 ≤ width v
 some_width One = omega arith
 some_width Two = omega arith
 
--- a name is found where there are bytes enough
-pub split_in : {w : ℕ} (s : List ℕ) (o : Option (ℕ × Bor (List ℕ))) → MatchOption o (length s < w) (λ p. BeginsWith w s p.0 p.1.now) → w ≤ length s → IsSome o
-split_in s (Some p) found h = refl
-split_in s None found h = absurd (omega arith)
+split_in : (w : ℕ) (s : List ℕ) (o : Option (Constructor × Bor (List ℕ))) → SplitAs w s o → (split w s ≡ None → ⊥) → IsSome o
+split_in w s (Some p) is not_none = refl
+split_in w s None is not_none = absurd (not_none is)
 
 -- the start
 pub starts : {w : ℕ} {s owners : List ℕ} {atoms : List Atom} → Outlinable w s → 128 ≤ length atoms → 256 ≤ length owners → get_or owners 0 0 ≡ 0 → States w s s 1 1 0 owners atoms
@@ -181,80 +190,37 @@ starts given room stack whole = record {
   of = λ n m c text. state (onto whole bottom) refl (one text.bytes text.within nothing) (omega arith, tt) (λ rest q. q) written_none;
 }
 
--- the turns, for the text that outlining is asked for
+-- a turn, for the text that outlining is asked for
 module _ {w : ℕ} {s r : List ℕ} {pending roots count : ℕ} {owners : List ℕ} {atoms : List Atom} (states : States w s r pending roots count owners atoms) (p : 0 < pending) where
-  pub byte_there : Outlinable w s → 1 ≤ length r
-  byte_there given = has_byte (states.of _ _ _ given.text) p
+  pub split_there : Outlinable w s → (o : Option (Constructor × Bor (List ℕ))) → SplitAs w r o → IsSome o
+  split_there given o is = split_in w r o is (not_cut (states.of _ _ _ given.text) p)
 
-  module _ {k : ℕ} {t : List ℕ} (e : r ≡ k ∷ t) where
-    pub name_there : Outlinable w s → k ≡ 1 → w ≤ length t
-    name_there given z = has_name e (states.of _ _ _ given.text) p z
-
-    pub role_there : Outlinable w s → (k ≡ 0 → ⊥) → (k ≡ 1 → ⊥) → (k ≡ 2 → ⊥) → 1 ≤ length t
-    role_there given not0 not1 not2 = has_role e not0 not1 not2 (states.of _ _ _ given.text) p
-
-    pub top_turn : k ≡ 0 → States w s t (pending - 1) roots count owners atoms
-    top_turn z = record {
-      numbers = record {
-        high = omega (arith, states.numbers.high, ap length e);
-        few = omega (arith, states.numbers.few, ap length e);
-        some_root = states.numbers.some_root;
-        roots_few = states.numbers.roots_few;
-      };
-      stack = states.stack;
-      room = states.room;
-      of = λ n m c text. top_read e (states.of n m c text) p z;
-    }
-
-    pub both_turn : k ≡ 2 → States w s t (pending + 1) roots count (set owners pending (get_or owners (pending - 1) 0)) atoms
-    both_turn z = record {
-      numbers = record {
-        high = omega (arith, states.numbers.high, ap length e);
-        few = omega (arith, states.numbers.few, ap length e);
-        some_root = states.numbers.some_root;
-        roots_few = states.numbers.roots_few;
-      };
-      stack = simp length-set states.stack;
-      room = states.room;
-      of = λ n m c text. both_read e (states.of n m c text) p z (omega (arith, states.numbers.high, states.stack, ap length e));
-    }
-
-    pub name_turn : {x : ℕ} {u : List ℕ} → 1 ≤ w → k ≡ 1 → BeginsWith w t x u → States w s u (pending - 1) roots (count + 1) owners (set atoms count (atom x (get_or owners (pending - 1) 0) 0))
-    name_turn {u = u} some_width z begins =
-        let shorter : length u + w ≡ length t = omega (arith, length-drop w t, ap length begins.rest, begins.long) in
-        record {
+  module _ {k : Constructor} {t : List ℕ} (first : split w r ≡ found k t) where
+    -- as the branch of the constructor j gives it, where `more` concepts are pending anew
+    pub turn : {j : Constructor} {more : ℕ} → 1 ≤ w → k ≡ j → more ≡ arity k → States w s t (pending - 1 + more) (roots_by j roots) (count_by j count) (owners_by j (pending - 1) roots owners)
+        (atoms_by j (get_or owners (pending - 1) 0) roots count atoms)
+    turn some_width is more_is =
+        let counts = counted k roots count in
+        let long = lengths (splits r first) in
+        rw (more_is, ← is) record {
           numbers = record {
-            high = omega (arith, states.numbers.high, ap length e);
-            few = omega (arith, states.numbers.few, ap length e, begins.long);
-            some_root = states.numbers.some_root;
-            roots_few = omega (arith, states.numbers.roots_few);
+            high = omega (arith, states.numbers.high, long.concepts);
+            few = omega (arith, states.numbers.few, long.atoms some_width, counts.more);
+            some_root = omega (arith, states.numbers.some_root, counts.kept);
+            roots_few = omega (arith, states.numbers.roots_few, counts.few, counts.more);
           };
-          stack = states.stack;
-          room = simp length-set states.room;
-          of = λ n m c text. name_read e (states.of n m c text) p z begins states.numbers.some_root (omega (arith, states.numbers.few, states.room));
+          stack = rw (owners_long k (pending - 1) roots owners) states.stack;
+          room = rw (atoms_long k (get_or owners (pending - 1) 0) roots count atoms) states.room;
+          of = λ n m c text. read first states.numbers.some_root (omega (arith, states.numbers.few, states.room, long.shorter)) (states.of n m c text) p
+              (omega (arith, states.numbers.high, states.stack, long.shorter));
         }
-
-    pub some_turn : {j : ℕ} {u : List ℕ} → t ≡ j ∷ u → (k ≡ 0 → ⊥) → (k ≡ 1 → ⊥) → (k ≡ 2 → ⊥)
-        → States w s u pending (roots + 1) (count + 1) (set owners (pending - 1) roots) (set atoms count (atom j (get_or owners (pending - 1) 0) roots))
-    some_turn f not0 not1 not2 = record {
-      numbers = record {
-        high = omega (arith, states.numbers.high, ap length e, ap length f);
-        few = omega (arith, states.numbers.few, ap length e, ap length f);
-        some_root = omega arith;
-        roots_few = omega (arith, states.numbers.roots_few);
-      };
-      stack = simp length-set states.stack;
-      room = simp length-set states.room;
-      of = λ n m c text. some_read e not0 not1 not2 (states.of n m c text) p f states.numbers.some_root
-          (omega (arith, states.numbers.high, states.stack)) (omega (arith, states.numbers.few, states.room, ap length e, ap length f));
-    }
 
 -- the end
 pub ends : {w : ℕ} {s r : List ℕ} {pending roots count : ℕ} {owners : List ℕ} {atoms : List Atom} → States w s r pending roots count owners atoms → pending ≤ 0
-    → (n m : ℕ) (c : Concept) → IsTextOf w n m c s → (k : ℕ) → k ≡ roots → Outlined n c atoms (record { atoms = count; roots = k })
+    → (n m : ℕ) (c : Concept) → IsTextOf w n m c s → (k : ℕ) → k ≡ roots → Outlined n c (record { atoms = atoms; extent = record { atoms = count; roots = k } })
 ends {w} {r = r} {roots = roots} {count = count} {owners = owners} {atoms = atoms} states p n m c text k e = by_state (states.of n m c text) p
   where
-    by_state : {i : ℕ} → State w n m c r i roots count owners atoms → i ≤ 0 → Outlined n c atoms (record { atoms = count; roots = k })
+    by_state : {i : ℕ} → State w n m c r i roots count owners atoms → i ≤ 0 → Outlined n c (record { atoms = atoms; extent = record { atoms = count; roots = k } })
     by_state (state (onto f st) t await below reads written) z = absurd (omega arith)
     by_state (state bottom t await below reads written) z =
         let all_read = rw append-nil at (reads [] done) in
@@ -268,6 +234,7 @@ ends {w} {r = r} {roots = roots} {count = count} {owners = owners} {atoms = atom
             owner = written.owner;
             child = written.child;
             named = written.named;
+            rooted = written.rooted;
             later = written.later;
           };
           means = λ al. same_chain same_without_top (reads_mean all_read (omega arith, tt) 0 (omega arith));

@@ -1,2 +1,3 @@
 -- The outline of a concept.
+pub mod Constructors
 pub mod Atoms

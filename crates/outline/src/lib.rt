@@ -6,54 +6,40 @@ ghost use Rattle.std.specs.Prelude.{◌≡◌, ℕ, ◌≤◌, ◌<◌, length, 
 ghost use Rattle.el.specs.Concepts.{Concept};
 ghost use Rattle.release.specs.Versions.{width};
 ghost use Rattle.concept.specs.Bytes.{IsTextOf, concept_ok};
-ghost use Rattle.outline.specs.Atoms.{atom, BeginsWith, child_of, Outlinable, Outlined};
+ghost use Rattle.outline.specs.Atoms.{BeginsWith, value_of, child_of, ChildGiven, Outlinable, Outlined};
+ghost use Rattle.outline.specs.Constructors.{arity, is_known, SplitAs};
 
 use concept::LONGEST;
 use release::number::Version;
 
-// A conjunct of a root: a name, or an ∃ with the root that is its filler. Three numbers and no enum, so that an outline is 768 bytes of a stack,
-// since there is no heap; `child` tells the two apart.
+// A name, or an ∃ with the root that is its filler. A role is one byte, so that an atom takes six bytes and an outline 768 of a stack: there is no heap.
+#[derive(Clone, Copy, Debug, PartialEq, Eq)]
+pub enum Conjunct {
+    Name(u16),
+    Restriction { role: u8, filler: u16 },
+}
+
+// A conjunct, and the root that it is one of.
 #[derive(Clone, Copy, Debug, PartialEq, Eq)]
 pub struct Atom {
-    // The name, or the role.
-    pub value: u16,
-    // The root that the atom is a conjunct of.
     pub owner: u16,
-    // The root that is the filler of an ∃; for a name 0, the whole concept, which is no filler.
-    pub child: u16,
+    pub conjunct: Conjunct,
 }
 
 impl Atom {
     pub const BLANK: Atom = Atom {
-        value: 0,
         owner: 0,
-        child: 0,
+        conjunct: Conjunct::Name(0),
     };
 
-    fn name(name: u16, owner: u16) -> Atom
-        ensures { result ≡ atom name owner 0 }
-    {
-        Atom {
-            value: name,
-            owner,
-            child: 0,
-        }
-    }
-
-    fn restriction(role: u16, owner: u16, filler: u16) -> Atom
-        ensures { result ≡ atom role owner filler }
-    {
-        Atom {
-            value: role,
-            owner,
-            child: filler,
-        }
-    }
-
+    // The name, or the role.
     pub fn value(self) -> usize
-        ensures { result ≡ self.value }
+        ensures { result ≡ value_of self }
     {
-        usize::from(self.value)
+        match self.conjunct {
+            Conjunct::Name(name) => usize::from(name),
+            Conjunct::Restriction { role, .. } => usize::from(role),
+        }
     }
 
     pub fn owner(self) -> usize
@@ -64,11 +50,12 @@ impl Atom {
 
     // The root that is the filler of an ∃.
     pub fn child(self) -> Option<usize>
-        ensures { result ≡ child_of self }
+        ensures is { result ≡ child_of self }
+        ensures given { ChildGiven self result }
     {
-        match self.child {
-            0 => None,
-            root => Some(usize::from(root)),
+        match self.conjunct {
+            Conjunct::Name(_) => None,
+            Conjunct::Restriction { filler, .. } => Some(usize::from(filler)),
         }
     }
 }
@@ -94,16 +81,62 @@ pub struct Outline {
 fn split_name(bytes: &[u8], version: Version) -> Option<(u16, &[u8])>
     ensures { MatchOption result (length bytes.now < width version) (λ p. BeginsWith (width version) bytes.now p.0 p.1.now) }
 {
-    match (version, bytes) {
-        (Version::One, [low, rest @ ..]) => Some((u16::from(*low), rest)),
-        (Version::Two, [low, high, rest @ ..]) => Some((u16::from_le_bytes([*low, *high]), rest)),
+    let rest = bytes.get(version.width()..)?;
+    // a number of two bytes at most; no `From` leads from usize to u16
+    Some((version.number(bytes, 0) as u16, rest))
+}
+
+// What the text of a concept begins with: ⊤, a name, ⊓, or ∃ with its role.
+#[derive(Clone, Copy)]
+enum Constructor {
+    Top,
+    Name(u16),
+    Conjunction,
+    Restriction(u8),
+}
+
+impl Constructor {
+    // How many concepts it is put before.
+    fn arity(self) -> usize
+        ensures { result ≡ arity self }
+    {
+        match self {
+            Constructor::Top | Constructor::Name(_) => 0,
+            Constructor::Restriction(_) => 1,
+            Constructor::Conjunction => 2,
+        }
+    }
+
+    // Whether its name is one of so many, or its role.
+    fn is_within(self, names: usize, roles: usize) -> bool
+        ensures { result ≡ is_known names roles self }
+    {
+        match self {
+            Constructor::Name(name) => usize::from(name) < names,
+            Constructor::Restriction(role) => usize::from(role) < roles,
+            Constructor::Top | Constructor::Conjunction => true,
+        }
+    }
+}
+
+// The constructor that the bytes begin with, and the bytes after it; none where they begin with none or are too few.
+fn split_constructor(bytes: &[u8], version: Version) -> Option<(Constructor, &[u8])>
+    ensures { SplitAs (width version) bytes.now result }
+{
+    match bytes {
+        [0, rest @ ..] => Some((Constructor::Top, rest)),
+        [1, rest @ ..] => {
+            let (name, rest) = split_name(rest, version)?;
+            Some((Constructor::Name(name), rest))
+        }
+        [2, rest @ ..] => Some((Constructor::Conjunction, rest)),
+        [3, role, rest @ ..] => Some((Constructor::Restriction(*role), rest)),
         _ => None,
     }
 }
 
 // Whether the bytes are one concept and nothing else, at most 255 of them. One pass without recursion, so that
-// no bytes make the stack deep. `pending` counts the concepts still to be read. The first byte of a concept is matched as a number, here and in `of`:
-// both match all of it, so an enum of its kinds would be no plainer.
+// no bytes make the stack deep. `pending` counts the concepts still to be read.
 pub fn is_text(bytes: &[u8], version: Version, names: usize, roles: usize) -> bool
     ensures { result ≡ concept_ok (width version) names roles bytes.now }
 {
@@ -113,43 +146,16 @@ pub fn is_text(bytes: &[u8], version: Version, names: usize, roles: usize) -> bo
     }
     let mut rest = bytes;
     let mut pending: usize = 1;
-    // a byte may add to what is pending: there is no range to go over
+    // ⊓ adds to what is pending: there is no range to go over
     while 0 < pending {
-        let [kind, after @ ..] = rest else {
+        let Some((first, after)) = split_constructor(rest, version) else {
             return false;
         };
-        match *kind {
-            0 => {
-                rest = after;
-                pending -= 1;
-            }
-            1 => {
-                let Some((name, after)) = split_name(after, version) else {
-                    return false;
-                };
-                let is_name = usize::from(name) < names;
-                if !is_name {
-                    return false;
-                }
-                rest = after;
-                pending -= 1;
-            }
-            2 => {
-                rest = after;
-                pending += 1;
-            }
-            3 => {
-                let [role, after @ ..] = after else {
-                    return false;
-                };
-                let is_role = usize::from(*role) < roles;
-                if !is_role {
-                    return false;
-                }
-                rest = after;
-            }
-            _ => return false,
+        if !first.is_within(names, roles) {
+            return false;
         }
+        pending = pending - 1 + first.arity();
+        rest = after;
     }
     rest.is_empty()
 }
@@ -163,12 +169,12 @@ impl Outline {
         &self.atoms[..self.extent.atoms]
     }
 
-    // The outline of an accepted concept, in one pass over its bytes. A byte 2 makes two concepts of one, so there is a stack of those
+    // The outline of an accepted concept, in one pass over its bytes. ⊓ makes two concepts of one, so there is a stack of those
     // still to be read, an array since there is no heap: `owners` has the root of each, the next one last. It is not one function with `is_text`, since
     // both concepts of a question are tested before one is built: refusals have an order.
     pub fn of(bytes: &[u8], version: Version) -> Outline
         requires { Outlinable (width version) bytes.now }
-        ensures { (n m : ℕ) (c : Concept) → IsTextOf (width version) n m c bytes.now → Outlined n c result.atoms result.extent }
+        ensures { (n m : ℕ) (c : Concept) → IsTextOf (width version) n m c bytes.now → Outlined n c result }
     {
         let mut atoms = [Atom::BLANK; ATOMS];
         let mut owners = [0u16; LONGEST + 1];
@@ -176,33 +182,26 @@ impl Outline {
         let mut pending: usize = 1;
         let mut roots: u16 = 1;
         let mut count: usize = 0;
-        // as in `is_text`
+        // ⊓ adds to what is pending here too
         while 0 < pending {
+            let (first, after) = split_constructor(rest, version).unwrap();
             let top = pending - 1;
             let owner = owners[top];
-            let (kind, after) = rest.split_first().unwrap();
-            match *kind {
-                0 => {
-                    rest = after;
-                    pending = top;
-                }
-                1 => {
-                    let (name, after) = split_name(after, version).unwrap();
-                    atoms[count] = Atom::name(name, owner);
-                    rest = after;
+            rest = after;
+            pending = top + first.arity();
+            match first {
+                Constructor::Top => {}
+                Constructor::Name(name) => {
+                    let conjunct = Conjunct::Name(name);
+                    atoms[count] = Atom { owner, conjunct };
                     count += 1;
-                    pending = top;
                 }
-                2 => {
-                    owners[pending] = owner;
-                    rest = after;
-                    pending += 1;
-                }
-                _ => {
-                    let (role, after) = after.split_first().unwrap();
-                    atoms[count] = Atom::restriction(u16::from(*role), owner, roots);
-                    owners[top] = roots;
-                    rest = after;
+                Constructor::Conjunction => owners[top + 1] = owner,
+                Constructor::Restriction(role) => {
+                    let filler = roots;
+                    let conjunct = Conjunct::Restriction { role, filler };
+                    atoms[count] = Atom { owner, conjunct };
+                    owners[top] = filler;
                     count += 1;
                     roots += 1;
                 }

@@ -6,28 +6,27 @@ use mathlib.Core.List.{List}
 use Prim.Native.Nat.{ℕ, ◌+◌, ◌≤◌, ◌<◌}
 use native.Mathlib.Omega.{arith}
 use Rattle.el.proofs.Tests.{Tells, tells_as}
-use Rattle.release.specs.declared.table.Row as table
-use Rattle.marks.specs.declared.Square.{Square}
 use Rattle.marks.specs.Lines.{Has, Spans, Added}
 use Rattle.marks.proofs.Squares.{refuted}
 use Rattle.outline.specs.declared.Atom.{Atom}
 use Rattle.points.specs.declared.Grid.{Grid}
+use Rattle.points.specs.declared.Classified.{Classified}
 use Rattle.points.specs.Grids.{most_nodes, cell, Set, Adds}
 use Rattle.points.specs.Nodes.{Serves, Leads, NodeReaches, NodeBelow, below_name, below_some, Inclusive, OfAtom}
 use Rattle.points.proofs.Grids.{adds_more, adds_skipped, adds_row}
 
 -- a line of names that do not serve
-pub record IdleBefore (t : List table.Row) (n : ℕ) (l : Grid) (r j : ℕ) (k : List ℕ) : Type 0 where
-  pub spans : Spans n k
-  pub none : (b : ℕ) → Has k b → Serves t l r j b → ⊥
+pub record IdleBefore (g : Classified) (l : Grid) (r j : ℕ) (k : List ℕ) : Type 0 where
+  pub spans : Spans g.square.names k
+  pub none : (b : ℕ) → Has k b → Serves g l r j b → ⊥
 
 -- no name before e leads
-pub record NoneBefore (t : List table.Row) (q : Square) (w : List ℕ) (l : Grid) (x r j e : ℕ) : Type 0 where
-  pub none : (b : ℕ) → b < e → b < q.names → Leads t q w l x r j b → ⊥
+pub record NoneBefore (g : Classified) (l : Grid) (x r j e : ℕ) : Type 0 where
+  pub none : (b : ℕ) → b < e → b < g.square.names → Leads g l x r j b → ⊥
 
 -- losing nodes changes the row of the atom's owner only, and reads that of its child
-pub same_reach : {t : List table.Row} {q : Square} {w : List ℕ} {l v : Grid} {x r j : ℕ} → Inclusive t q w → ((z : ℕ) → z < most_nodes → Set v j z → Set l j z)
-    → NodeReaches t q w l x r j → NodeReaches t q w v x r j
+pub same_reach : {g : Classified} {l v : Grid} {x r j : ℕ} → Inclusive g → ((z : ℕ) → z < most_nodes → Set v j z → Set l j z)
+    → NodeReaches g l x r j → NodeReaches g v x r j
 same_reach inclusive f reaches =
     let k = reaches.leads in
     record {
@@ -41,23 +40,23 @@ same_reach inclusive f reaches =
       };
     }
 
-module _ {t : List table.Row} {q : Square} {w : List ℕ} {b : Atom} (given : OfAtom t q w b) {P Q : ℕ → Type 0} {l : Grid} {e : ℕ} {v : Grid} (adds : Adds b.owner e P Q l v) where
-  as_before : {x : ℕ} → NodeBelow t q w b v x → NodeBelow t q w b l x
+module _ {g : Classified} {b : Atom} (given : OfAtom g b) {P Q : ℕ → Type 0} {l : Grid} {e : ℕ} {v : Grid} (adds : Adds b.owner e P Q l v) where
+  as_before : {x : ℕ} → NodeBelow g b v x → NodeBelow g b l x
   as_before (below_name c m) = below_name c m
   as_before (below_some c m) = below_some c (same_reach given.inclusive (λ z h k. adds.old _ z k) m)
 
-  as_after : {x : ℕ} → NodeBelow t q w b l x → NodeBelow t q w b v x
+  as_after : {x : ℕ} → NodeBelow g b l x → NodeBelow g b v x
   as_after (below_name c m) = below_name c m
   as_after (below_some c m) = below_some c (same_reach given.inclusive (λ z h. adds_row adds _ z (λ same. omega (arith, given.atom.later c)) h) m)
 
-  tells_before : {r : Bool} {x : ℕ} → Tells r (NodeBelow t q w b v x) → Tells r (NodeBelow t q w b l x)
+  tells_before : {r : Bool} {x : ℕ} → Tells r (NodeBelow g b v x) → Tells r (NodeBelow g b l x)
   tells_before tells = tells_as as_before as_after tells
 
-module _ {t : List table.Row} {q : Square} {w : List ℕ} {b : Atom} (given : OfAtom t q w b) {l : Grid} {e : ℕ} {v : Grid}
-    (adds : Adds b.owner e (λ x. NodeBelow t q w b l x → ⊥) (NodeBelow t q w b l) l v) {r : Bool} (tells : Tells r (NodeBelow t q w b v e)) where
-  pub node_lost : {u : Grid} (row : ℕ) → row ≡ b.owner → e ≤ q.names → r ≡ false → Added (cell row e) v.rows u.rows
-      → Adds b.owner (e + 1) (λ x. NodeBelow t q w b l x → ⊥) (NodeBelow t q w b l) l u
+module _ {g : Classified} {b : Atom} (given : OfAtom g b) {l : Grid} {e : ℕ} {v : Grid}
+    (adds : Adds b.owner e (λ x. NodeBelow g b l x → ⊥) (NodeBelow g b l) l v) {r : Bool} (tells : Tells r (NodeBelow g b v e)) where
+  pub node_lost : {u : Grid} (row : ℕ) → row ≡ b.owner → e ≤ g.square.names → r ≡ false → Added (cell row e) v.rows u.rows
+      → Adds b.owner (e + 1) (λ x. NodeBelow g b l x → ⊥) (NodeBelow g b l) l u
   node_lost row is h z added = adds_more adds (refuted (tells_before given adds tells) z) (omega (arith, given.inclusive.few)) (rw is at added)
 
-  pub node_kept : r ≡ true → Adds b.owner (e + 1) (λ x. NodeBelow t q w b l x → ⊥) (NodeBelow t q w b l) l v
+  pub node_kept : r ≡ true → Adds b.owner (e + 1) (λ x. NodeBelow g b l x → ⊥) (NodeBelow g b l) l v
   node_kept z = adds_skipped adds ((tells_before given adds tells).sound z)

@@ -2,57 +2,55 @@
 -- the atom's owner loses roots, since only the row of its child is read.
 use mathlib.Core.Path.{◌≡◌}
 use mathlib.Core.Bool.{Bool, true, false}
-use mathlib.Core.List.{List}
 use Prim.Native.Nat.{ℕ, ◌+◌, ◌<◌}
 use native.Mathlib.Omega.{arith}
 use Rattle.el.proofs.Tests.{Tells, tells_as}
-use Rattle.release.specs.declared.table.Row as table
-use Rattle.marks.specs.declared.Square.{Square}
 use Rattle.marks.specs.Lines.{Added}
 use Rattle.marks.proofs.Squares.{refuted}
 use Rattle.outline.specs.declared.Atom.{Atom}
-use Rattle.outline.specs.declared.Extent.{Extent}
-use Rattle.outline.specs.Atoms.{atom_at, owner_at}
+use Rattle.outline.specs.Atoms.{child_number, atom_at, owner_at}
 use Rattle.points.specs.declared.Grid.{Grid}
+use Rattle.points.specs.declared.Classified.{Classified}
+use Rattle.points.specs.declared.Subsumee.{Subsumee}
 use Rattle.points.specs.Grids.{most_roots, most_nodes, cell, Set, Adds}
-use Rattle.points.specs.Roots.{AtomReaches, name_reaches, some_reaches, RootBelowAtom, root_below_name, root_below_some, OfAtom}
+use Rattle.points.specs.Roots.{outline_of, AtomReaches, name_reaches, some_reaches, RootBelowAtom, root_below_name, root_below_some, OfAtom}
 use Rattle.points.proofs.Grids.{adds_more, adds_skipped, adds_row}
 
 -- no atom of the root before e
-pub record NoneBefore (t : List table.Row) (q : Square) (w : List ℕ) (o : List Atom) (ln l : Grid) (k r j e : ℕ) : Type 0 where
-  pub none : (i : ℕ) → i < e → owner_at o i ≡ k → AtomReaches t q w (atom_at o i) ln l r j → ⊥
+pub record NoneBefore (g : Classified) (c : Subsumee) (ln l : Grid) (k r j e : ℕ) : Type 0 where
+  pub none : (i : ℕ) → i < e → owner_at (outline_of c).atoms i ≡ k → AtomReaches g (atom_at (outline_of c).atoms i) ln l r j → ⊥
 
 -- losing roots changes the row of the atom's owner only, and reads that of its child
-same_reaching : {t : List table.Row} {q : Square} {w : List ℕ} {c : Atom} {ln l v : Grid} {r j : ℕ} → c.child < most_roots → ((z : ℕ) → z < most_nodes → Set v j z → Set l j z)
-    → AtomReaches t q w c ln l r j → AtomReaches t q w c ln v r j
+same_reaching : {g : Classified} {c : Atom} {ln l v : Grid} {r j : ℕ} → child_number c < most_roots → ((z : ℕ) → z < most_nodes → Set v j z → Set l j z)
+    → AtomReaches g c ln l r j → AtomReaches g c ln v r j
 same_reaching h f (name_reaches k m) = name_reaches k m
 same_reaching h f (some_reaches k e m) = some_reaches k e (λ z. m (f _ (omega arith) z))
 
-module _ {s : List ℕ} {t : List table.Row} {q : Square} {w : List ℕ} {o : List Atom} {x : Extent} {a : Grid} {b : Atom} {ln : Grid} (given : OfAtom s t q w o x b) {l : Grid} where
+module _ {g : Classified} {c : Subsumee} {b : Atom} {ln : Grid} (given : OfAtom g c b) {l : Grid} where
   module _ {P Q : ℕ → Type 0} {e : ℕ} {v : Grid} (adds : Adds b.owner e P Q l v) where
-    as_before : {k : ℕ} → RootBelowAtom s t q w o x.atoms a b ln v k → RootBelowAtom s t q w o x.atoms a b ln l k
-    as_before (root_below_name c m) = root_below_name c m
-    as_before (root_below_some c m) = root_below_some c
+    as_before : {k : ℕ} → RootBelowAtom g c b ln v k → RootBelowAtom g c b ln l k
+    as_before (root_below_name z m) = root_below_name z m
+    as_before (root_below_some y m) = root_below_some y
         (record { by = m.by; is_atom = m.is_atom; owner = m.owner; reaches = same_reaching (given.from.each m.by m.is_atom).child (λ z h k. adds.old _ z k) m.reaches })
 
-    as_after : {k : ℕ} → RootBelowAtom s t q w o x.atoms a b ln l k → RootBelowAtom s t q w o x.atoms a b ln v k
-    as_after (root_below_name c m) = root_below_name c m
-    as_after (root_below_some c m) = root_below_some c
+    as_after : {k : ℕ} → RootBelowAtom g c b ln l k → RootBelowAtom g c b ln v k
+    as_after (root_below_name z m) = root_below_name z m
+    as_after (root_below_some y m) = root_below_some y
         (record {
           by = m.by;
           is_atom = m.is_atom;
           owner = m.owner;
-          reaches = same_reaching (given.from.each m.by m.is_atom).child (λ z h. adds_row adds _ z (λ same. omega (arith, given.atom.later c)) h) m.reaches;
+          reaches = same_reaching (given.from.each m.by m.is_atom).child (λ z h. adds_row adds _ z (λ same. omega (arith, given.atom.later y)) h) m.reaches;
         })
 
-    tells_before : {r : Bool} {k : ℕ} → Tells r (RootBelowAtom s t q w o x.atoms a b ln v k) → Tells r (RootBelowAtom s t q w o x.atoms a b ln l k)
+    tells_before : {r : Bool} {k : ℕ} → Tells r (RootBelowAtom g c b ln v k) → Tells r (RootBelowAtom g c b ln l k)
     tells_before tells = tells_as as_before as_after tells
 
-  module _ {e : ℕ} {v : Grid} (adds : Adds b.owner e (λ k. RootBelowAtom s t q w o x.atoms a b ln l k → ⊥) (RootBelowAtom s t q w o x.atoms a b ln l) l v) {r : Bool}
-      (tells : Tells r (RootBelowAtom s t q w o x.atoms a b ln v e)) where
-    pub root_lost : {u : Grid} (row : ℕ) → row ≡ b.owner → e < x.roots → r ≡ false → Added (cell row e) v.rows u.rows
-        → Adds b.owner (e + 1) (λ k. RootBelowAtom s t q w o x.atoms a b ln l k → ⊥) (RootBelowAtom s t q w o x.atoms a b ln l) l u
+  module _ {e : ℕ} {v : Grid} (adds : Adds b.owner e (λ k. RootBelowAtom g c b ln l k → ⊥) (RootBelowAtom g c b ln l) l v) {r : Bool}
+      (tells : Tells r (RootBelowAtom g c b ln v e)) where
+    pub root_lost : {u : Grid} (row : ℕ) → row ≡ b.owner → e < (outline_of c).extent.roots → r ≡ false → Added (cell row e) v.rows u.rows
+        → Adds b.owner (e + 1) (λ k. RootBelowAtom g c b ln l k → ⊥) (RootBelowAtom g c b ln l) l u
     root_lost row is h z added = adds_more adds (refuted (tells_before adds tells) z) (omega (arith, given.from.few)) (rw is at added)
 
-    pub root_kept : r ≡ true → Adds b.owner (e + 1) (λ k. RootBelowAtom s t q w o x.atoms a b ln l k → ⊥) (RootBelowAtom s t q w o x.atoms a b ln l) l v
+    pub root_kept : r ≡ true → Adds b.owner (e + 1) (λ k. RootBelowAtom g c b ln l k → ⊥) (RootBelowAtom g c b ln l) l v
     root_kept z = adds_skipped adds ((tells_before adds tells).sound z)

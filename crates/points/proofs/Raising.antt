@@ -2,18 +2,15 @@
 -- its owner gains names, since only the row of its child is read.
 use mathlib.Core.Path.{◌≡◌}
 use mathlib.Core.Bool.{Bool, true, false}
-use mathlib.Core.List.{List}
 use Prim.Native.Nat.{ℕ, ◌+◌, ◌<◌}
 use native.Mathlib.Omega.{arith}
 use Rattle.el.proofs.Tests.{Tells, tells_as}
 use Rattle.release.specs.Files.{joins, restricts}
-use Rattle.release.specs.Tables.{part_at}
-use Rattle.release.specs.declared.table.Row as table
-use Rattle.marks.specs.declared.Square.{Square}
 use Rattle.marks.specs.Lines.{Added}
 use Rattle.marks.proofs.Squares.{refuted}
 use Rattle.outline.specs.declared.Atom.{Atom}
 use Rattle.points.specs.declared.Grid.{Grid}
+use Rattle.points.specs.declared.Classified.{Classified}
 use Rattle.points.specs.Grids.{most_nodes, cell, Set, Adds}
 use Rattle.points.specs.Above.{Ranges, RootBelow, top_above, parts_above, name_above, AtomBelow, name_below, some_below, OfAtom}
 use Rattle.points.proofs.Grids.{adds_more, adds_skipped, adds_row}
@@ -24,35 +21,31 @@ kind_2_joins e = rw e
 pub kind_4_restricts : {k : ℕ} → k ≡ 4 → restricts k ≡ true
 kind_4_restricts e = rw e
 
--- conjuncts passed
-pub record PartsBefore (s : List ℕ) (t : List table.Row) (a : Grid) (k y i : ℕ) : Type 0 where
-  pub each : (j : ℕ) → j < i → Set a k (part_at s t y j)
-
 -- the same by another grid with the same row
-pub same_row : {n : ℕ} {s : List ℕ} {t : List table.Row} {a b : Grid} {k y : ℕ} → Ranges n s t → ((z : ℕ) → z < most_nodes → Set a k z → Set b k z) → RootBelow n s t a k y → RootBelow n s t b k y
+pub same_row : {g : Classified} {a b : Grid} {k y : ℕ} → Ranges g → ((z : ℕ) → z < most_nodes → Set a k z → Set b k z) → RootBelow g a k y → RootBelow g b k y
 same_row ranges f (top_above e) = top_above e
 same_row {y = y} ranges f (parts_above h e p) = parts_above h e (record { each = λ i l. f _ (omega (arith, ranges.few, ranges.shaped.part y i h (kind_2_joins e) l)) (p.each i l) })
 same_row ranges f (name_above h e m) = name_above h e (f _ (omega (arith, ranges.few)) m)
 
 -- raising an atom changes the row of its owner only, and reads that of its child
-module _ {s : List ℕ} {t : List table.Row} {q : Square} {w : List ℕ} {c : Atom} (given : OfAtom s t q w c) {a : Grid} {P Q : ℕ → Type 0} {e : ℕ} {b : Grid} (adds : Adds c.owner e P Q a b) where
-  as_before : {y : ℕ} → AtomBelow s t q w c b y → AtomBelow s t q w c a y
+module _ {g : Classified} {c : Atom} (given : OfAtom g c) {a : Grid} {P Q : ℕ → Type 0} {e : ℕ} {b : Grid} (adds : Adds c.owner e P Q a b) where
+  as_before : {y : ℕ} → AtomBelow g c b y → AtomBelow g c a y
   as_before (name_below z k m) = name_below z k m
   as_before (some_below z k r m) = some_below z k r (same_row given.ranges (λ x h. adds_row adds _ x (λ same. omega (arith, given.atom.later k)) h) m)
 
-  as_after : {y : ℕ} → AtomBelow s t q w c a y → AtomBelow s t q w c b y
+  as_after : {y : ℕ} → AtomBelow g c a y → AtomBelow g c b y
   as_after (name_below z k m) = name_below z k m
   as_after (some_below z k r m) = some_below z k r (same_row given.ranges (λ x h k. adds.old _ x k) m)
 
-  pub tells_before : {r : Bool} {y : ℕ} → Tells r (AtomBelow s t q w c b y) → Tells r (AtomBelow s t q w c a y)
+  pub tells_before : {r : Bool} {y : ℕ} → Tells r (AtomBelow g c b y) → Tells r (AtomBelow g c a y)
   tells_before tells = tells_as as_before as_after tells
 
 -- the turns
-module _ {s : List ℕ} {t : List table.Row} {q : Square} {w : List ℕ} {c : Atom} (given : OfAtom s t q w c) {a : Grid} {e : ℕ} {b : Grid}
-    (adds : Adds c.owner e (AtomBelow s t q w c a) (λ y. AtomBelow s t q w c a y → ⊥) a b) {r : Bool} (tells : Tells r (AtomBelow s t q w c b e)) where
-  pub raise_sets : {v : Grid} (row : ℕ) → row ≡ c.owner → e < q.names → r ≡ true → Added (cell row e) b.rows v.rows
-      → Adds c.owner (e + 1) (AtomBelow s t q w c a) (λ y. AtomBelow s t q w c a y → ⊥) a v
+module _ {g : Classified} {c : Atom} (given : OfAtom g c) {a : Grid} {e : ℕ} {b : Grid}
+    (adds : Adds c.owner e (AtomBelow g c a) (λ y. AtomBelow g c a y → ⊥) a b) {r : Bool} (tells : Tells r (AtomBelow g c b e)) where
+  pub raise_sets : {v : Grid} (row : ℕ) → row ≡ c.owner → e < g.square.names → r ≡ true → Added (cell row e) b.rows v.rows
+      → Adds c.owner (e + 1) (AtomBelow g c a) (λ y. AtomBelow g c a y → ⊥) a v
   raise_sets row is h z added = adds_more adds ((tells_before given adds tells).sound z) (omega (arith, given.ranges.few)) (rw is at added)
 
-  pub raise_skips : r ≡ false → Adds c.owner (e + 1) (AtomBelow s t q w c a) (λ y. AtomBelow s t q w c a y → ⊥) a b
+  pub raise_skips : r ≡ false → Adds c.owner (e + 1) (AtomBelow g c a) (λ y. AtomBelow g c a y → ⊥) a b
   raise_skips z = adds_skipped adds (refuted (tells_before given adds tells) z)

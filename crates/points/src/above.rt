@@ -9,68 +9,63 @@ use outline::Atom;
 use release::Kind;
 
 impl Classified<'_> {
-    // Whether all conjuncts of y are in row k.
-    fn has_parts(&self, above: &Grid, k: usize, y: usize) -> bool
-        requires { InRow self.now.square.names self.now.terminology.file.now self.now.terminology.table.now k y }
-        ensures { Tells result (PartsSet self.now.terminology.file.now self.now.terminology.table.now above.now k y) }
+    // Whether all conjuncts of a name are in the row of a root.
+    fn has_parts(&self, above: &Grid, root: usize, name: usize) -> bool
+        requires { InRow self.now root name }
+        ensures { Tells result (PartsSet self.now above.now root name) }
     {
-        let count = self.terminology.count(y);
-        for i in 0..count {
-            let part = self.terminology.part(y, i);
-            if !above.has(k, part) {
-                return false;
-            }
-        }
-        true
+        self.terminology
+            .parts(name)
+            .all(|part| above.has(root, part))
     }
 
-    // Whether root k lies below the node y.
-    pub fn is_above(&self, above: &Grid, k: usize, y: usize) -> bool
-        requires ranges { Ranges self.now.square.names self.now.terminology.file.now self.now.terminology.table.now }
-        requires k_lt_most_roots { (k < most_roots) × (y ≤ self.now.square.names) }
-        ensures { Tells result (RootBelow self.now.square.names self.now.terminology.file.now self.now.terminology.table.now above.now k y) }
+    // Whether a root lies below a node.
+    pub fn is_above(&self, above: &Grid, root: usize, node: usize) -> bool
+        requires ranges { Ranges self.now }
+        requires root_lt_most_roots { (root < most_roots) × (node ≤ self.now.square.names) }
+        ensures { Tells result (RootBelow self.now above.now root node) }
     {
-        if y == self.square.names {
+        if node == self.square.names {
             return true;
         }
-        if self.terminology.has_kind(y, Kind::DefinedConjunction) {
-            return self.has_parts(above, k, y);
+        if self.terminology.has_kind(node, Kind::DefinedConjunction) {
+            return self.has_parts(above, root, node);
         }
-        above.has(k, y)
+        above.has(root, node)
     }
 
-    // Whether an atom lies below the name y, which is not defined by a conjunction.
-    fn atom_below(&self, atom: Atom, above: &Grid, y: usize) -> bool
-        requires of_atom { OfAtom self.now.terminology.file.now self.now.terminology.table.now self.now.square self.now.work.now atom }
-        requires y_lt_names { y < self.now.square.names }
-        ensures { Tells result (AtomBelow self.now.terminology.file.now self.now.terminology.table.now self.now.square self.now.work.now atom above.now y) }
+    // Whether an atom lies below a name that is not defined by a conjunction.
+    fn atom_below(&self, atom: Atom, above: &Grid, name: usize) -> bool
+        requires of_atom { OfAtom self.now atom }
+        requires name_lt_names { name < self.now.square.names }
+        ensures { Tells result (AtomBelow self.now atom above.now name) }
     {
-        if self.terminology.has_kind(y, Kind::DefinedConjunction) {
+        if self.terminology.has_kind(name, Kind::DefinedConjunction) {
             return false;
         }
         let Some(filler) = atom.child() else {
-            return self.square.is_marked(self.work, atom.value(), y);
+            return self.square.is_marked(self.work, atom.value(), name);
         };
-        if !self.terminology.has_kind(y, Kind::DefinedRestriction) {
+        if !self.terminology.has_kind(name, Kind::DefinedRestriction) {
             return false;
         }
-        let same_role = self.terminology.role(y) == atom.value();
+        let same_role = self.terminology.role(name) == atom.value();
         if !same_role {
             return false;
         }
-        let node = self.terminology.filler(y);
+        let node = self.terminology.filler(name);
         self.is_above(above, filler, node)
     }
 
     // Puts the names above an atom into the row of its owner.
     pub fn raise(&self, atom: Atom, above: &mut Grid)
-        requires { OfAtom self.now.terminology.file.now self.now.terminology.table.now self.now.square self.now.work.now atom }
-        ensures { Risen self.now.terminology.file.now self.now.terminology.table.now self.now.square self.now.work.now atom above.old above.new }
+        requires { OfAtom self.now atom }
+        ensures { Risen self.now atom above.old above.new }
     {
         let row = atom.owner();
-        for y in 0..self.square.names {
-            if self.atom_below(atom, above, y) {
-                above.add(row, y);
+        for name in 0..self.square.names {
+            if self.atom_below(atom, above, name) {
+                above.add(row, name);
             }
         }
     }

@@ -6,9 +6,10 @@ ghost use Rattle.std.specs.Prelude.{◌<◌};
 ghost use Rattle.el.proofs.Tests.{Tells};
 ghost use Rattle.marks.specs.Lines.{Added};
 ghost use Rattle.points.specs.Grids.{most_roots, most_nodes, cell, Set};
+ghost use Rattle.points.specs.Nodes.{RestrictionOf};
 
 use marks::{Square, line};
-use outline::Outline;
+use outline::{Atom, Outline};
 use release::terminology::Terminology;
 
 pub mod above;
@@ -31,23 +32,23 @@ pub struct Grid {
 impl Grid {
     pub const BLANK: Grid = Grid { rows: [0; AREA] };
 
-    pub fn has(&self, k: usize, y: usize) -> bool
-        requires { (k < most_roots) × (y < most_nodes) }
-        ensures { Tells result (Set self.now k y) }
+    pub fn has(&self, row: usize, place: usize) -> bool
+        requires { (row < most_roots) × (place < most_nodes) }
+        ensures { Tells result (Set self.now row place) }
     {
-        line::has(&self.rows, NODES * k + y)
+        line::has(&self.rows, NODES * row + place)
     }
 
-    fn add(&mut self, k: usize, y: usize)
-        requires { (k < most_roots) × (y < most_nodes) }
-        ensures { Added (cell k y) self.old.rows self.new.rows }
+    fn add(&mut self, row: usize, place: usize)
+        requires { (row < most_roots) × (place < most_nodes) }
+        ensures { Added (cell row place) self.old.rows self.new.rows }
     {
-        line::add(&mut self.rows, NODES * k + y);
+        line::add(&mut self.rows, NODES * row + place);
     }
 }
 
 // An accepted release, and the square of the inclusions between its nodes.
-#[derive(Clone, Copy)]
+#[derive(Clone, Copy, Debug, PartialEq, Eq)]
 pub struct Classified<'a> {
     pub terminology: Terminology<'a>,
     pub work: &'a [u8],
@@ -55,18 +56,42 @@ pub struct Classified<'a> {
 }
 
 // A concept C of which is asked whether it lies below another: its outline, and the rows of the names above its roots.
-#[derive(Clone, Copy)]
+#[derive(Clone, Copy, Debug, PartialEq, Eq)]
 pub struct Subsumee<'a> {
     pub outline: &'a Outline,
     pub above: &'a Grid,
 }
 
+// An atom of D: the grid of which the rows have lost the nodes that do not lie below the roots of D, and a line of names by which no node lies below
+// the atom, where it is an ∃.
+#[derive(Clone, Copy, Debug, PartialEq, Eq)]
+pub struct Subsumer<'a> {
+    pub atom: Atom,
+    pub lost: &'a Grid,
+    pub idle: &'a [u8],
+}
+
 // An ∃ of D, a role over a root: the grid of which the root's row has lost the nodes that do not lie below it, and a line of names by which no
 // node lies below the ∃.
-#[derive(Clone, Copy)]
+#[derive(Clone, Copy, Debug, PartialEq, Eq)]
 pub struct Restriction<'a> {
     pub role: usize,
     pub root: usize,
     pub lost: &'a Grid,
     pub idle: &'a [u8],
+}
+
+impl<'a> Subsumer<'a> {
+    // The ∃ that the atom is, if it is one.
+    fn restriction(&self) -> Option<Restriction<'a>>
+        ensures { RestrictionOf self.now result }
+    {
+        let root = self.atom.child()?;
+        Some(Restriction {
+            role: self.atom.value(),
+            root,
+            lost: self.lost,
+            idle: self.idle,
+        })
+    }
 }

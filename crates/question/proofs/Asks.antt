@@ -10,13 +10,15 @@ use native.Mathlib.Omega.{arith}
 use borrow.Author.Tests.{lt-ltb, le-ltb, ne_eqb}
 use lib.ListN.{length}
 use Rattle.std.specs.Prelude.{Ok, Err}
+use Rattle.std.specs.Borrow.{Bor}
 use Rattle.el.specs.Concepts.{Concept}
 use Rattle.el.specs.Derivability.{IsAnswer}
-use Rattle.release.specs.Files.{fault, first_of, width_of, names_of, roles_of, axioms_of}
+use Rattle.release.specs.Files.{fault, first_of, header_length, width_of, names_of, roles_of, axioms_of}
 use Rattle.release.specs.Readings.{checked, counts_in}
 use Rattle.release.specs.Refusals.{Numbers, file_number, file_refusal}
-use Rattle.release.specs.Tables.{ReleaseRead}
+use Rattle.release.specs.Tables.{HasHeader, ReleaseRead}
 use Rattle.release.specs.declared.table.Row as table
+use Rattle.release.specs.declared.terminology.Terminology.{Terminology}
 use Rattle.release.specs.declared.Counts.{Counts}
 use Rattle.release.specs.declared.refusals.FileRefusal.{FileRefusal}
 use Rattle.release.proofs.Checks.{header_sound, is_release, counts_are}
@@ -42,49 +44,74 @@ pub few_names : (s : List ℕ) → fault s ≡ 0 → names_of s < most_nodes
 few_names s ok = omega (arith, (header_sound s (linked.no_header_fault s ok)).names)
 
 -- answering
-module _ {s : List ℕ} {t : List table.Row} {width : ℕ} {c d w : List ℕ} {n : ℕ} (given : ToAnswer s t width c d w n) where
-  abbrev square : Square
-  square = record { base = 0; names = n }
+module _ {x : Terminology} {c d w : List ℕ} (given : ToAnswer x c d w) where
+  few : names_of x.file.now < most_nodes
+  few = few_names x.file.now given.release.accepted
 
-  pub few : n < most_nodes
-  few = omega (arith, given.names, few_names s given.release.accepted)
+  pub few_of : {n : ℕ} → n ≡ names_of x.file.now → n < most_nodes
+  few_of e = omega (arith, few)
 
-  room_in : {v : List ℕ} → length v ≡ length w → Room square v
-  room_in long = record { small = record { few = omega (arith, few); near = omega arith }; fits = omega (arith, span_size n, given.room) }
+  long_header : header_length (width_of x.file.now) ≤ length x.file.now
+  long_header = (header_sound x.file.now (linked.no_header_fault x.file.now given.release.accepted)).long
 
-  area_in : {v : List ℕ} → length v ≡ length w → Area square v
-  area_in long = record { room = room_in long; lent = omega (arith, given.room); near = omega (arith, size_small n (omega (arith, few)), size_is n) }
+  pub three : 3 < length x.file.now
+  three = omega (arith, long_header)
 
-  text : {b : List ℕ} → text_ok s b ≡ true → IsTextOf width n (roles_of s) (concept_in s b) b
-  text {b} ok = rw (given.names, given.width_is) (accepted_is_text (width_of s) (names_of s) (roles_of s) b ok)
+  pub has_header : {width : ℕ} → width ≡ width_of x.file.now → HasHeader width x.file.now
+  has_header e = record { is = e; inside = rw e long_header }
 
-  module _ {cells : ℕ} (is : cells ≡ size n) {v : List ℕ} (zeroed : Zeroed cells w v) where
-    pub to_classify : Unclassified s t (record { base = 0; names = n }) v
-    to_classify = record { release = given.release; names = given.names; area = area_in zeroed.long; unmarked = zeroed_unmarked zeroed (omega (arith, is, span_size n)) }
+  module _ {width n : ℕ} (width_is : width ≡ width_of x.file.now) (names : n ≡ names_of x.file.now) where
+    abbrev square : Square
+    square = record { base = 0; names = n }
 
-    module _ {u : List ℕ} (classified : Classified s (record { base = 0; names = n }) v u) where
-      pub to_decide : ToDecide s t (record { base = 0; names = n }) u width c d
-      to_decide = record {
-        world = record { release = given.release; names = given.names; few = few; room = room_in (classified.frame.long ∙ zeroed.long); inclusions = classified.inclusions };
-        roles = roles_of s;
-        below = concept_in s c;
-        above = concept_in s d;
-        below_text = text given.below;
-        above_text = text given.above;
-      }
+    room_in : {v : List ℕ} → length v ≡ length w → Room square v
+    room_in long = record { small = record { few = omega (arith, few_of names); near = omega arith }; fits = omega (arith, span_size n, given.room, ap size names) }
 
-      pub answered : {x : List ℕ} {r : Bool} → Zeroed (4 * cells) u x
-          → ((k m : ℕ) (a b : Concept) → IsTextOf width k m a c → IsTextOf width k m b d → IsAnswer (axioms_of s) a b (answer_number r)) → Answered s c d w x r
-      answered {x} cleared held =
-          let z : cells ≡ size (names_of s) = is ∙ ap size given.names in
-          record {
-            held = held n (roles_of s) (concept_in s c) (concept_in s d) (text given.below) (text given.above);
-            cleared = rw (← z) record {
-              long = cleared.long ∙ (classified.frame.long ∙ zeroed.long);
-              zero = cleared.zero;
-              past = λ i h. cleared.past i h ∙ (classified.frame.past i (omega (arith, is, span_size n)) ∙ zeroed.past i (omega arith));
-            };
-          }
+    area_in : {v : List ℕ} → length v ≡ length w → Area square v
+    area_in long = record {
+      room = room_in long;
+      lent = omega (arith, given.room, ap size names);
+      near = omega (arith, size_small n (omega (arith, few_of names)), size_is n);
+    }
+
+    text : {b : List ℕ} → text_ok x.file.now b ≡ true → IsTextOf width n (roles_of x.file.now) (concept_in x.file.now b) b
+    text {b} ok = rw (names, width_is) (accepted_is_text (width_of x.file.now) (names_of x.file.now) (roles_of x.file.now) b ok)
+
+    module _ {cells : ℕ} (is : cells ≡ size n) {v : List ℕ} (zeroed : Zeroed cells w v) where
+      pub to_classify : Unclassified x.file.now x.table.now (record { base = 0; names = n }) v
+      to_classify = record { release = given.release; names = names; area = area_in zeroed.long; unmarked = zeroed_unmarked zeroed (omega (arith, is, span_size n)) }
+
+      module _ {u : Bor (List ℕ)} (classified : Classified x.file.now (record { base = 0; names = n }) v u.now) where
+        pub to_decide : ToDecide (record { terminology = x; work = u; square = record { base = 0; names = n } }) width c d
+        to_decide = record {
+          world = record {
+            release = given.release;
+            names = names;
+            few = few_of names;
+            room = room_in (classified.frame.long ∙ zeroed.long);
+            inclusions = classified.inclusions;
+          };
+          roles = roles_of x.file.now;
+          below = concept_in x.file.now c;
+          above = concept_in x.file.now d;
+          below_text = text given.below;
+          above_text = text given.above;
+        }
+
+      module _ {u : List ℕ} (classified : Classified x.file.now (record { base = 0; names = n }) v u) where
+        pub answered : {length : ℕ} {y : List ℕ} {r : Bool} → length ≡ 4 * size n → Zeroed length u y
+            → ((k m : ℕ) (a b : Concept) → IsTextOf width k m a c → IsTextOf width k m b d → IsAnswer (axioms_of x.file.now) a b (answer_number r))
+            → Answered x.file.now c d w y r
+        answered {length} all cleared held =
+            let z : length ≡ 4 * size (names_of x.file.now) = omega (arith, ap size names) in
+            record {
+              held = held n (roles_of x.file.now) (concept_in x.file.now c) (concept_in x.file.now d) (text given.below) (text given.above);
+              cleared = rw (← z) record {
+                long = cleared.long ∙ (classified.frame.long ∙ zeroed.long);
+                zero = cleared.zero;
+                past = λ i h. cleared.past i h ∙ (classified.frame.past i (omega (arith, is, span_size n)) ∙ zeroed.past i (omega (arith, is)));
+              };
+            }
 
 -- refusals
 first_positive : (f k : ℕ) → 0 < f → first_of f k ≡ f
@@ -139,28 +166,26 @@ module _ {s : List ℕ} {t : List table.Row} {counts : Counts} (read : ReleaseRe
         unfolding refusal_number refusal_side
         refuses_above e = refused_as s c d w refusals.WrongAbove (omega arith) (rw (ok, tested c below z, tested d above e)) (rw (ok, tested c below z, tested d above e))
 
-        module _ (e : x ≡ true) {cells : ℕ} (size_is : cells ≡ size counts.names) where
-          pub refuses_memory : length w < 4 * cells → AskedAs s c d w w (Err refusals.ShortWork)
+        module _ (e : x ≡ true) {all : ℕ} (all_is : all ≡ 4 * size counts.names) where
+          pub refuses_memory : length w < all → AskedAs s c d w w (Err refusals.ShortWork)
           unfolding refusal_number refusal_side
           refuses_memory h =
-              let short : length w < 4 * size (names_of s) = omega (arith, size_is, ap size names_are) in
+              let short : length w < 4 * size (names_of s) = omega (arith, ap size names_are) in
               refused_as s c d w refusals.ShortWork (omega arith) (rw (ok, tested c below z, tested d above e, lt-ltb _ _ short)) (rw (ok, tested c below z, tested d above e))
 
-          module _ (h : 4 * cells ≤ length w) where
-            pub to_answer : ToAnswer s t width c d w counts.names
-            to_answer = record {
-              release = is_release read;
-              width_is = width_is;
-              names = names_are;
-              below = tested c below z;
-              above = tested d above e;
-              room = omega (arith, size_is);
+          module _ (h : all ≤ length w) where
+            pub to_answer : (y : Terminology) → y.file.now ≡ s → y.table.now ≡ t → ToAnswer y c d w
+            to_answer y file table = record {
+              release = rw (file, table) (is_release read);
+              below = rw file (tested c below z);
+              above = rw file (tested d above e);
+              room = rw file (omega (arith, ap size names_are));
             }
 
             none_refused : refusal_number s c d w ≡ 0
             unfolding refusal_number
             none_refused =
-                let long : 4 * size (names_of s) ≤ length w = omega (arith, size_is, ap size names_are) in
+                let long : 4 * size (names_of s) ≤ length w = omega (arith, ap size names_are) in
                 rw (ok, tested c below z, tested d above e, le-ltb _ _ long)
 
             pub answers : {v : List ℕ} {b : Bool} → Answered s c d w v b → AskedAs s c d w v (Ok b)

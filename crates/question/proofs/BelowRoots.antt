@@ -14,18 +14,17 @@ use Rattle.el.specs.Derivability.{Derives, same, one, other, under}
 use Rattle.el.specs.Terminologies.{Terminology}
 use Rattle.el.proofs.Derivations.{◌▹◌}
 use Rattle.el.proofs.Terminologies.{top_below_some, both_below_some, some_below_some}
-use Rattle.release.specs.Files.{axioms_of}
-use Rattle.release.specs.declared.table.Row as table
-use Rattle.marks.specs.declared.Square.{Square}
 use Rattle.classification.proofs.Nodes.{at_name}
 use Rattle.outline.specs.declared.Atom.{Atom}
-use Rattle.outline.specs.declared.Extent.{Extent}
-use Rattle.outline.specs.Atoms.{atom_at, value_at, owner_at, child_at, atoms_from, atom_concept, root_of, Shape}
+use Rattle.outline.specs.declared.Outline.{Outline}
+use Rattle.outline.specs.Atoms.{child_number, value_of, atom_at, value_at, owner_at, child_at, atoms_from, written, atom_concept, root_of, Shape}
 use Rattle.outline.proofs.Atoms.{root_own, root_other, root_none}
 use Rattle.points.specs.declared.Grid.{Grid}
+use Rattle.points.specs.declared.Classified.{Classified}
+use Rattle.points.specs.declared.Subsumee.{Subsumee}
 use Rattle.points.specs.Grids.{most_roots}
-use Rattle.points.specs.Roots.{AtomReaches, name_reaches, some_reaches, RootReaches, RootBelowAtom, root_below_name, root_below_some}
-use Rattle.question.specs.Evaluation.{World, Above, KeptRow, node_point, root_point}
+use Rattle.points.specs.Roots.{outline_of, AtomReaches, name_reaches, some_reaches, RootReaches, RootBelowAtom, root_below_name, root_below_some}
+use Rattle.question.specs.Evaluation.{World, axioms_in, Above, KeptRow, node_point, root_point}
 use Rattle.question.proofs.Worlds.{terminology}
 use Rattle.question.proofs.AboveRoots.{some_atom, root_below_sound, root_below_complete}
 use Rattle.question.proofs.BelowAtoms.{reach_sound, reach_complete}
@@ -92,81 +91,86 @@ module _ {al : List Axiom} (o : List Atom) where
       ]
       by_owner (no e) f = f (rw (root_other o j left k e) at p)
 
-module _ {n : ℕ} {o : List Atom} {r : Extent} (shape : Shape n o r) where
+module _ {n : ℕ} {o : Outline} (shape : Shape n o) where
   -- the filler of an ∃ is the whole root
-  child_whole : (i : ℕ) → i < r.atoms → 0 < child_at o i → root_of (atoms_from o (suc i) (r.atoms - suc i)) (child_at o i) ≡ root_point o r (child_at o i)
+  child_whole : (i : ℕ) → i < o.extent.atoms → 0 < child_at o.atoms i → root_of (atoms_from o.atoms (suc i) (o.extent.atoms - suc i)) (child_at o.atoms i) ≡ root_point o (child_at o.atoms i)
   child_whole i h c =
-      let z : suc i + (r.atoms - suc i) ≡ r.atoms = omega arith in
+      let z : suc i + (o.extent.atoms - suc i) ≡ o.extent.atoms = omega arith in
       let y : 0 + suc i ≡ suc i = omega arith in
-      sym (rw (z, y) at (root_skips o (child_at o i) 0 (suc i) (r.atoms - suc i) (λ j l e. omega (arith, shape.later i j h (omega arith) c))))
+      sym (rw (z, y) at (root_skips o.atoms (child_at o.atoms i) 0 (suc i) (o.extent.atoms - suc i) (λ j l e. omega (arith, shape.later i j h (omega arith) c))))
 
-  atom_whole : (i : ℕ) → i < r.atoms → atom_of o r.atoms i ≡ atom_concept (child_at o i) (value_at o i) (root_point o r (child_at o i))
-  atom_whole i h = by_child (ℕ_discrete (child_at o i) 0)
+  atom_whole : (i : ℕ) → i < o.extent.atoms → atom_of o.atoms o.extent.atoms i ≡ atom_concept (child_at o.atoms i) (value_at o.atoms i) (root_point o (child_at o.atoms i))
+  atom_whole i h = by_child (ℕ_discrete (child_at o.atoms i) 0)
     where
-      by_child : Dec (child_at o i ≡ 0) → atom_of o r.atoms i ≡ atom_concept (child_at o i) (value_at o i) (root_point o r (child_at o i))
+      by_child : Dec (child_at o.atoms i ≡ 0) → atom_of o.atoms o.extent.atoms i ≡ atom_concept (child_at o.atoms i) (value_at o.atoms i) (root_point o (child_at o.atoms i))
       by_child (yes e) = rw e
-      by_child (no e) = ap (atom_concept (child_at o i) (value_at o i)) (child_whole i h (omega arith))
+      by_child (no e) = ap (atom_concept (child_at o.atoms i) (value_at o.atoms i)) (child_whole i h (omega arith))
 
-  pub below_own_atom : {al : List Axiom} (i : ℕ) → i < r.atoms → Derives al (root_point o r (owner_at o i)) (atom_concept (child_at o i) (value_at o i) (root_point o r (child_at o i)))
+  pub below_own_atom : {al : List Axiom} (i : ℕ) → i < o.extent.atoms
+      → Derives al (root_point o (owner_at o.atoms i)) (atom_concept (child_at o.atoms i) (value_at o.atoms i) (root_point o (child_at o.atoms i)))
   below_own_atom {al} i h =
-      let z : 0 + r.atoms ≡ r.atoms = omega arith in
-      rw (z, atom_whole i h) at (own_atom {al = al} o 0 r.atoms i (omega arith) (omega arith))
+      let z : 0 + o.extent.atoms ≡ o.extent.atoms = omega arith in
+      rw (z, atom_whole i h) at (own_atom {al = al} o.atoms 0 o.extent.atoms i (omega arith) (omega arith))
+
+-- the atoms of C
+abbrev atoms_in : Subsumee → List Atom
+atoms_in c = (outline_of c).atoms
+
+-- atom i, its filler the whole root
+abbrev whole : Outline → ℕ → Concept
+whole o i = atom_concept (child_at o.atoms i) (value_at o.atoms i) (root_point o (child_at o.atoms i))
 
 -- the rows of root j of D, which is d
-module _ {s : List ℕ} {t : List table.Row} {q : Square} {w : List ℕ} (world : World s t q w) {o : List Atom} {r : Extent} (shape : Shape q.names o r) {ln l : Grid} {j : ℕ} {d : Concept}
-    (nodes : KeptRow (axioms_of s) (node_point q.names) (suc q.names) ln j d) (roots : KeptRow (axioms_of s) (root_point o r) r.roots l j d) where
-  abbrev al : List Axiom
-  al = axioms_of s
-
-  abbrev n : ℕ
-  n = q.names
-
-  abbrev whole : ℕ → Concept
-  whole i = atom_concept (child_at o i) (value_at o i) (root_point o r (child_at o i))
-
-  atom_reaches_sound : {i role : ℕ} → i < r.atoms → AtomReaches t q w (atom_at o i) ln l role j → Derives (axioms_of s) (whole i) (some role d)
+module _ {g : Classified} (world : World g) (c : Subsumee) (shape : Shape g.square.names (outline_of c)) {ln l : Grid} {j : ℕ} {d : Concept}
+    (nodes : KeptRow (axioms_in g) (node_point g.square.names) (suc g.square.names) ln j d) (roots : KeptRow (axioms_in g) (root_point (outline_of c)) (outline_of c).extent.roots l j d) where
+  atom_reaches_sound : {i role : ℕ} → i < (outline_of c).extent.atoms → AtomReaches g (atom_at (atoms_in c) i) ln l role j → Derives (axioms_in g) (whole (outline_of c) i) (some role d)
   atom_reaches_sound {i} {role} h (name_reaches k m) =
       let small = shape.named i h k in
-      rw k (rw (at_name n (value_at o i) small) at (reach_sound world nodes (value_at o i) role (omega arith) m))
-  atom_reaches_sound {i} h (some_reaches k e m) = rw (some_atom {r = value_at o i} {d = root_point o r (child_at o i)} (child_at o i) k, e) (under (roots.kept (child_at o i) (shape.child i h) m))
+      rw k (rw (at_name g.square.names (value_at (atoms_in c) i) small) at (reach_sound world nodes (value_at (atoms_in c) i) role (omega arith) m))
+  atom_reaches_sound {i} h (some_reaches k e m) = rw (
+    some_atom {r = value_at (atoms_in c) i} {d = root_point (outline_of c) (child_at (atoms_in c) i)} (child_at (atoms_in c) i)
+        k,
+    e,
+  ) (under (roots.kept (child_at (atoms_in c) i) (shape.child i h) m))
 
-  atom_reaches_complete : (i role : ℕ) → i < r.atoms → Derives (axioms_of s) (whole i) (some role d) → AtomReaches t q w (atom_at o i) ln l role j
-  atom_reaches_complete i role h p = by_child (ℕ_discrete (child_at o i) 0)
+  atom_reaches_complete : (i role : ℕ) → i < (outline_of c).extent.atoms → Derives (axioms_in g) (whole (outline_of c) i) (some role d) → AtomReaches g (atom_at (atoms_in c) i) ln l role j
+  atom_reaches_complete i role h p = by_child (ℕ_discrete (child_at (atoms_in c) i) 0)
     where
-      by_child : Dec (child_at o i ≡ 0) → AtomReaches t q w (atom_at o i) ln l role j
+      by_child : Dec (child_at (atoms_in c) i ≡ 0) → AtomReaches g (atom_at (atoms_in c) i) ln l role j
       by_child (yes k) =
           let small = shape.named i h k in
-          name_reaches k (reach_complete world nodes (value_at o i) role (omega arith) (rw (at_name n (value_at o i) small) (rw k at p)))
+          name_reaches k (reach_complete world nodes (value_at (atoms_in c) i) role (omega arith) (rw (at_name g.square.names (value_at (atoms_in c) i) small) (rw k at p)))
       by_child (no k) =
-          let z : 0 < child_at o i = omega arith in
-          let parts = (some_below_some (terminology world)).0 (rw (some_atom {r = value_at o i} {d = root_point o r (child_at o i)} (child_at o i) z) at p) in
-          some_reaches z parts.0 (λ m. roots.lost (child_at o i) (shape.child i h) m parts.1)
+          let z : 0 < child_at (atoms_in c) i = omega arith in
+          let parts = (some_below_some (terminology world)).0
+          (rw (some_atom {r = value_at (atoms_in c) i} {d = root_point (outline_of c) (child_at (atoms_in c) i)} (child_at (atoms_in c) i) z) at p) in
+          some_reaches z parts.0 (λ m. roots.lost (child_at (atoms_in c) i) (shape.child i h) m parts.1)
 
-  root_reaches_sound : {k role : ℕ} → RootReaches t q w o r.atoms ln l k role j → Derives (axioms_of s) (root_point o r k) (some role d)
-  root_reaches_sound reaches = rw reaches.owner at (below_own_atom shape {al = axioms_of s} reaches.by reaches.is_atom) ▹ atom_reaches_sound reaches.is_atom reaches.reaches
+  root_reaches_sound : {k role : ℕ} → RootReaches g c ln l k role j → Derives (axioms_in g) (root_point (outline_of c) k) (some role d)
+  root_reaches_sound reaches = rw reaches.owner at (below_own_atom shape {al = axioms_in g} reaches.by reaches.is_atom) ▹ atom_reaches_sound reaches.is_atom reaches.reaches
 
-  root_reaches_complete : (k role : ℕ) → Derives (axioms_of s) (root_point o r k) (some role d) → RootReaches t q w o r.atoms ln l k role j
+  root_reaches_complete : (k role : ℕ) → Derives (axioms_in g) (root_point (outline_of c) k) (some role d) → RootReaches g c ln l k role j
   root_reaches_complete k role p =
-      let found = some_atom_below o (terminology world) 0 r.atoms k role d p in
-      let z : 0 + r.atoms ≡ r.atoms = omega arith in
-      let inside : found.at < r.atoms = omega (arith, found.inside) in
+      let found = some_atom_below (outline_of c).atoms (terminology world) 0 (outline_of c).extent.atoms k role d p in
+      let z : 0 + (outline_of c).extent.atoms ≡ (outline_of c).extent.atoms = omega arith in
+      let inside : found.at < (outline_of c).extent.atoms = omega (arith, found.inside) in
       record { by = found.at; is_atom = inside; owner = found.owner; reaches = atom_reaches_complete found.at role inside (rw (z, atom_whole shape found.at inside) at found.below) }
 
-  module _ {a : Grid} {b : Atom} (above : Above s t a q.names (atoms_from o 0 r.atoms)) (is_child : j ≡ b.child) (named_in : b.child ≡ 0 → b.value < q.names)
+  module _ {b : Atom} (above : Above g c.above.now (written (outline_of c))) (is_child : j ≡ child_number b) (named_in : child_number b ≡ 0 → value_of b < g.square.names)
       (k : ℕ) (few : k < most_roots) where
-    pub root_under_sound : RootBelowAtom s t q w o r.atoms a b ln l k → Derives (axioms_of s) (root_point o r k) (atom_concept b.child b.value d)
-    root_under_sound (root_below_name c m) =
-        let small = named_in c in
-        rw c (rw (at_name n b.value small) at (root_below_sound world (above.row k few) m))
-    root_under_sound (root_below_some c m) = rw (some_atom {r = b.value} {d = d} b.child c) (root_reaches_sound (rw is_child m))
+    pub root_under_sound : RootBelowAtom g c b ln l k → Derives (axioms_in g) (root_point (outline_of c) k) (atom_concept (child_number b) (value_of b) d)
+    root_under_sound (root_below_name z m) =
+        let small = named_in z in
+        rw z (rw (at_name g.square.names (value_of b) small) at (root_below_sound world (above.row k few) m))
+    root_under_sound (root_below_some z m) = rw (some_atom {r = value_of b} {d = d} (child_number b) z) (root_reaches_sound (rw is_child m))
 
-    pub root_under_complete : Derives (axioms_of s) (root_point o r k) (atom_concept b.child b.value d) → RootBelowAtom s t q w o r.atoms a b ln l k
-    root_under_complete below = by_child (ℕ_discrete b.child 0)
+    pub root_under_complete : Derives (axioms_in g) (root_point (outline_of c) k) (atom_concept (child_number b) (value_of b) d) → RootBelowAtom g c b ln l k
+    root_under_complete below = by_child (ℕ_discrete (child_number b) 0)
       where
-        by_child : Dec (b.child ≡ 0) → RootBelowAtom s t q w o r.atoms a b ln l k
-        by_child (yes c) =
-            let small = named_in c in
-            root_below_name c (root_below_complete world (above.row k few) b.value (omega arith) (rw (at_name n b.value small) (rw c at below)))
-        by_child (no c) =
-            let z : 0 < b.child = omega arith in
-            root_below_some z (rw is_child at (root_reaches_complete k b.value (rw (some_atom {r = b.value} {d = d} b.child z) at below)))
+        by_child : Dec (child_number b ≡ 0) → RootBelowAtom g c b ln l k
+        by_child (yes z) =
+            let small = named_in z in
+            root_below_name z (root_below_complete world (above.row k few) (value_of b) (omega arith) (rw (at_name g.square.names (value_of b) small) (rw z at below)))
+        by_child (no y) =
+            let z : 0 < child_number b = omega arith in
+            root_below_some z (rw is_child at (root_reaches_complete k (value_of b) (rw (some_atom {r = value_of b} {d = d} (child_number b) z) at below)))

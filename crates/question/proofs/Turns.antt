@@ -8,52 +8,51 @@ use lib.Seq.{get_or-take, length-take-le}
 use Rattle.std.proofs.lemmas.List.{get_or-reverse}
 use Prim.Native.Nat.{ℕ, zero, suc, ◌-◌, ◌≤◌, ◌<◌}
 use native.Mathlib.Omega.{arith}
-use Rattle.release.specs.Files.{axioms_of}
-use Rattle.release.specs.declared.table.Row as table
-use Rattle.marks.specs.declared.Square.{Square}
 use Rattle.classification.proofs.AxiomRows as rows
 use Rattle.outline.specs.declared.Atom.{Atom}
-use Rattle.outline.specs.declared.Extent.{Extent}
+use Rattle.outline.specs.declared.Outline.{Outline}
 use Rattle.outline.specs.Atoms.{blank, atom_at, child_at, atoms_from, Shape}
 use Rattle.points.specs.declared.Grid.{Grid}
+use Rattle.points.specs.declared.Classified.{Classified}
+use Rattle.points.specs.declared.Subsumee.{Subsumee}
 use Rattle.points.specs.Grids.{most_roots}
 use Rattle.points.specs.Above.{Ranges, InRange, Risen}
 use Rattle.points.specs.Above as above
 use Rattle.points.specs.Nodes.{Inclusive, NodesLost}
 use Rattle.points.specs.Nodes as nodes
-use Rattle.points.specs.Roots.{RootsLost}
+use Rattle.points.specs.Roots.{outline_of, RootsLost}
 use Rattle.points.specs.Roots as roots
-use Rattle.question.specs.Evaluation.{World, Above, Kept, node_point, root_point, ToFill, ToLose}
+use Rattle.question.specs.Evaluation.{World, axioms_in, Above, Kept, node_point, root_point, ToFill, ToLose}
 use Rattle.question.proofs.AboveRoots.{above_none, above_more}
 use Rattle.question.proofs.BelowAtoms.{kept_none, kept_more, node_below_sound, node_below_complete}
 use Rattle.question.proofs.BelowRoots.{root_under_sound, root_under_complete}
 
-module _ {s : List ℕ} {t : List table.Row} {q : Square} {w : List ℕ} (world : World s t q w) where
-  ranges : Ranges q.names s t
+module _ {g : Classified} (world : World g) where
+  ranges : Ranges g
   ranges = record { shaped = rows.ranges world.release world.names; few = world.few }
 
-  inclusive : Inclusive t q w
+  inclusive : Inclusive g
   inclusive = record { rows = ranges.shaped.rows; fillers = ranges.shaped.filler; few = world.few; room = world.room }
 
-  module _ {o : List Atom} {r : Extent} (shape : Shape q.names o r) {i : ℕ} (h : i < r.atoms) where
-    in_range : InRange q.names (atom_at o i)
+  module _ {o : Outline} (shape : Shape g.square.names o) {i : ℕ} (h : i < o.extent.atoms) where
+    in_range : InRange g.square.names (atom_at o.atoms i)
     in_range = record {
-      value = record { child = omega (arith, shape.child i h, shape.few); named = shape.named i h };
+      value = record { child = omega (arith, shape.child i h, shape.few); named = shape.named i h; rooted = shape.rooted i h };
       owner = omega (arith, shape.owner i h, shape.few);
       later = λ c. shape.later i i h (omega arith) c;
     }
 
-    pub fill_atom : above.OfAtom s t q w (atom_at o i)
+    pub fill_atom : above.OfAtom g (atom_at o.atoms i)
     fill_atom = record { ranges = ranges; room = world.room; atom = in_range }
 
-    pub node_atom : nodes.OfAtom t q w (atom_at o i)
+    pub node_atom : nodes.OfAtom g (atom_at o.atoms i)
     node_atom = record { inclusive = inclusive; atom = in_range }
 
-    pub root_atom : {c : List Atom} {e : Extent} → Shape q.names c e → roots.OfAtom s t q w c e (atom_at o i)
+    pub root_atom : {c : Subsumee} → Shape g.square.names (outline_of c) → roots.OfAtom g c (atom_at o.atoms i)
     root_atom from = record {
       ranges = ranges;
       inclusive = inclusive;
-      from = record { inside = from.room; few = from.few; each = λ j m. record { child = omega (arith, from.child j m, from.few); named = from.named j m } };
+      from = record { inside = from.room; few = from.few; each = λ j m. record { child = omega (arith, from.child j m, from.few); named = from.named j m; rooted = from.rooted j m } };
       atom = in_range;
     }
 
@@ -75,65 +74,65 @@ next_atom o {n} {j} {x} h p =
     )
 
 -- the rows above
-pub fill_start : {s : List ℕ} {t : List table.Row} {q : Square} {w : List ℕ} {o : List Atom} {r : Extent} {a : Grid} → ToFill s t q w o r a
-    → Above s t a q.names (atoms_from o r.atoms (r.atoms - r.atoms))
-fill_start {o = o} {r = r} {a = a} given = let z : r.atoms - r.atoms ≡ 0 = omega arith in rw z (above_none given.world a o r.atoms given.blank)
+module _ {g : Classified} {o : Outline} {a : Grid} (given : ToFill g o a) where
+  pub fill_start : Above g a (atoms_from o.atoms o.extent.atoms (o.extent.atoms - o.extent.atoms))
+  fill_start = let z : o.extent.atoms - o.extent.atoms ≡ 0 = omega arith in rw z (above_none given.world a o o.extent.atoms given.blank)
 
-pub fill_turn : {s : List ℕ} {t : List table.Row} {q : Square} {w : List ℕ} {o : List Atom} {r : Extent} {a : Grid} {u v : Grid} {left : ℕ} → ToFill s t q w o r a → 0 < left → left ≤ r.atoms
-    → Above s t u q.names (atoms_from o left (r.atoms - left)) → Risen s t q w (atom_at o (left - 1)) u v → Above s t v q.names (atoms_from o (left - 1) (r.atoms - (left - 1)))
-fill_turn {r = r} {left = left} given some_left h above risen =
-    let z : suc (left - 1) ≡ left = omega arith in
-    let y : r.atoms - (left - 1) ≡ suc (r.atoms - left) = omega arith in
-    rw y (above_more given.world given.shape (left - 1) (r.atoms - left) (omega arith) (rw z above) risen)
+  pub fill_turn : {u v : Grid} {left : ℕ} → 0 < left → left ≤ o.extent.atoms → Above g u (atoms_from o.atoms left (o.extent.atoms - left)) → Risen g (atom_at o.atoms (left - 1)) u v
+      → Above g v (atoms_from o.atoms (left - 1) (o.extent.atoms - (left - 1)))
+  fill_turn {left = left} some_left h above risen =
+      let z : suc (left - 1) ≡ left = omega arith in
+      let y : o.extent.atoms - (left - 1) ≡ suc (o.extent.atoms - left) = omega arith in
+      rw y (above_more given.world given.shape (left - 1) (o.extent.atoms - left) (omega arith) (rw z above) risen)
 
--- the rows of lost points
-pub record Losing (s : List ℕ) (o : List Atom) (r : Extent) (n : ℕ) (p : List Atom) (left count : ℕ) (ln l : Grid) : Type 0 where
-  pub nodes : Kept (axioms_of s) (node_point n) (suc n) ln (atoms_from p left (count - left))
-  pub roots : Kept (axioms_of s) (root_point o r) r.roots l (atoms_from p left (count - left))
+-- the rows of lost points, where the atoms from `left` on are done
+pub record Losing (g : Classified) (c : Subsumee) (o : Outline) (left : ℕ) (ln l : Grid) : Type 0 where
+  pub nodes : Kept (axioms_in g) (node_point g.square.names) (suc g.square.names) ln (atoms_from o.atoms left (o.extent.atoms - left))
+  pub roots : Kept (axioms_in g) (root_point (outline_of c)) (outline_of c).extent.roots l (atoms_from o.atoms left (o.extent.atoms - left))
 
-module _ {s : List ℕ} {t : List table.Row} {q : Square} {w : List ℕ} {o : List Atom} {r : Extent} {a : Grid} {p : List Atom} {u : Extent} {ln l : Grid} (given : ToLose s t q w o r a p u ln l) where
-  pub lose_start : Losing s o r q.names p u.atoms u.atoms ln l
+module _ {g : Classified} {c : Subsumee} {o : Outline} {ln l : Grid} (given : ToLose g c o ln l) where
+  pub lose_start : Losing g c o o.extent.atoms ln l
   lose_start =
-      let z : u.atoms - u.atoms ≡ 0 = omega arith in
+      let z : o.extent.atoms - o.extent.atoms ≡ 0 = omega arith in
       record {
-        nodes = rw z (kept_none ln p u.atoms given.nodes_blank);
-        roots = rw z (kept_none l p u.atoms given.roots_blank);
+        nodes = rw z (kept_none ln o o.extent.atoms given.nodes_blank);
+        roots = rw z (kept_none l o o.extent.atoms given.roots_blank);
       }
 
-  module _ {left : ℕ} {xn x yn y : Grid} (some_left : 0 < left) (h : left ≤ u.atoms) (losing : Losing s o r q.names p left u.atoms xn x)
-      (roots_lost : RootsLost s t q w o r a (atom_at p (left - 1)) xn x y) (nodes_lost : NodesLost t q w (atom_at p (left - 1)) xn yn) where
+  module _ {left : ℕ} {xn x yn y : Grid} (some_left : 0 < left) (h : left ≤ o.extent.atoms) (losing : Losing g c o left xn x)
+      (roots_lost : RootsLost g c (atom_at o.atoms (left - 1)) xn x y) (nodes_lost : NodesLost g (atom_at o.atoms (left - 1)) xn yn) where
     abbrev i : ℕ
     i = left - 1
 
     abbrev rest : ℕ
-    rest = u.atoms - left
+    rest = o.extent.atoms - left
 
     next : suc (left - 1) ≡ left
     next = omega arith
 
-    inside : left - 1 < u.atoms
+    inside : left - 1 < o.extent.atoms
     inside = omega arith
 
-    nodes_before : Kept (axioms_of s) (node_point q.names) (suc q.names) xn (atoms_from p (suc (left - 1)) (u.atoms - left))
+    nodes_before : Kept (axioms_in g) (node_point g.square.names) (suc g.square.names) xn (atoms_from o.atoms (suc (left - 1)) (o.extent.atoms - left))
     nodes_before = rw next losing.nodes
 
-    roots_before : Kept (axioms_of s) (root_point o r) r.roots x (atoms_from p (suc (left - 1)) (u.atoms - left))
+    roots_before : Kept (axioms_in g) (root_point (outline_of c)) (outline_of c).extent.roots x (atoms_from o.atoms (suc (left - 1)) (o.extent.atoms - left))
     roots_before = rw next losing.roots
 
-    child_small : child_at p (left - 1) < most_roots
+    child_small : child_at o.atoms (left - 1) < most_roots
     child_small = omega (arith, given.shape.child (left - 1) inside, given.shape.few)
 
-    pub lose_turn : Losing s o r q.names p (left - 1) u.atoms yn y
+    pub lose_turn : Losing g c o (left - 1) yn y
     lose_turn =
-        let z : u.atoms - (left - 1) ≡ suc (u.atoms - left) = omega arith in
-        let nodes_row = nodes_before.row (child_at p i) child_small in
-        let roots_row = roots_before.row (child_at p i) child_small in
+        let z : o.extent.atoms - (left - 1) ≡ suc (o.extent.atoms - left) = omega arith in
+        let nodes_row = nodes_before.row (child_at o.atoms i) child_small in
+        let roots_row = roots_before.row (child_at o.atoms i) child_small in
         record {
           nodes = rw z (kept_more (omega (arith, given.world.few)) given.shape i rest inside
               (λ k m b. node_below_sound given.world nodes_row refl (given.shape.named i inside) k (omega arith) b)
               (λ k m b. node_below_complete given.world nodes_row refl (given.shape.named i inside) k (omega arith) b) nodes_before nodes_lost.adds);
           roots = rw z (kept_more (omega (arith, given.from.few)) given.shape i rest inside
-              (λ k m b. root_under_sound given.world given.from nodes_row roots_row given.filled.above refl (given.shape.named i inside) k (omega (arith, given.from.few)) b)
-              (λ k m b. root_under_complete given.world given.from nodes_row roots_row given.filled.above refl (given.shape.named i inside) k (omega (arith, given.from.few)) b)
+              (λ k m b. root_under_sound given.world c given.from nodes_row roots_row given.filled.above refl (given.shape.named i inside) k (omega (arith, given.from.few)) b)
+              (λ k m b. root_under_complete given.world c given.from nodes_row roots_row given.filled.above refl (given.shape.named i inside) k (omega (arith, given.from.few)) b)
               roots_before roots_lost.adds);
         }

@@ -3,11 +3,10 @@
 ghost use Rattle.std.specs.Prelude.{ℕ};
 ghost use Rattle.el.specs.Concepts.{Concept};
 ghost use Rattle.concept.specs.Bytes.{IsTextOf};
-ghost use Rattle.release.specs.Files.{axioms_of};
 ghost use Rattle.release.specs.Versions.{width};
 ghost use Rattle.el.specs.Derivability.{IsAnswer};
 ghost use Rattle.question.specs.Refusals.{answer_number};
-ghost use Rattle.question.specs.Evaluation.{ToFill, Filled, ToLose, Lost, ToDecide};
+ghost use Rattle.question.specs.Evaluation.{axioms_in, ToFill, Filled, ToLose, Lost, ToDecide};
 
 use outline::Outline;
 use points::{Classified, Grid, Subsumee};
@@ -15,10 +14,8 @@ use release::number::Version;
 
 // Fills the rows of the names above the roots of an outline.
 fn fill_above(classified: &Classified, outline: &Outline, above: &mut Grid)
-    requires { ToFill classified.now.terminology.file.now classified.now.terminology.table.now classified.now.square classified.now.work.now
-        outline.now.atoms outline.now.extent above.old }
-    ensures { Filled classified.now.terminology.file.now classified.now.terminology.table.now classified.now.square
-        outline.now.atoms outline.now.extent above.new }
+    requires { ToFill classified.now outline.now above.old }
+    ensures { Filled classified.now outline.now above.new }
 {
     for atom in outline.atoms().iter().rev() {
         classified.raise(*atom, above);
@@ -33,10 +30,8 @@ fn lose_all(
     nodes: &mut Grid,
     roots: &mut Grid,
 )
-    requires { ToLose classified.now.terminology.file.now classified.now.terminology.table.now classified.now.square classified.now.work.now
-        subsumee.now.outline.now.atoms subsumee.now.outline.now.extent subsumee.now.above.now outline.now.atoms outline.now.extent nodes.old roots.old }
-    ensures { Lost classified.now.terminology.file.now subsumee.now.outline.now.atoms subsumee.now.outline.now.extent
-        outline.now.atoms outline.now.extent roots.new }
+    requires { ToLose classified.now subsumee.now outline.now nodes.old roots.old }
+    ensures { Lost classified.now subsumee.now outline.now roots.new }
 {
     for atom in outline.atoms().iter().rev() {
         classified.lose_roots(subsumee, *atom, nodes, roots);
@@ -44,24 +39,30 @@ fn lose_all(
     }
 }
 
-// Whether C ⊑ D, by the square of the inclusions of nodes. The arrays here are nearly all of the stack that a question takes: three grids and two outlines, 50 KiB; nothing calls itself.
+// Whether C ⊑ D, by the square of the inclusions of nodes. The arrays here are nearly all of the stack that a question takes: three grids and two
+// outlines, 50 KiB; nothing calls itself.
 pub fn decide(classified: &Classified, version: Version, below: &[u8], above: &[u8]) -> bool
-    requires { ToDecide classified.now.terminology.file.now classified.now.terminology.table.now classified.now.square classified.now.work.now
-        (width version) below.now above.now }
+    requires { ToDecide classified.now (width version) below.now above.now }
     ensures { (n m : ℕ) (c d : Concept) → IsTextOf (width version) n m c below.now → IsTextOf (width version) n m d above.now
-        → IsAnswer (axioms_of classified.now.terminology.file.now) c d (answer_number result) }
+        → IsAnswer (axioms_in classified.now) c d (answer_number result) }
 {
-    let below = Outline::of(below, version);
-    let above = Outline::of(above, version);
+    let outline_below = Outline::of(below, version);
+    let outline_above = Outline::of(above, version);
     let mut names = Grid::BLANK;
-    fill_above(classified, &below, &mut names);
+    fill_above(classified, &outline_below, &mut names);
     let subsumee = Subsumee {
-        outline: &below,
+        outline: &outline_below,
         above: &names,
     };
     let mut nodes = Grid::BLANK;
     let mut roots = Grid::BLANK;
-    lose_all(classified, &subsumee, &above, &mut nodes, &mut roots);
+    lose_all(
+        classified,
+        &subsumee,
+        &outline_above,
+        &mut nodes,
+        &mut roots,
+    );
     let lost = roots.has(0, 0);
     !lost
 }

@@ -1,12 +1,11 @@
 // The question whether an inclusion of two concepts is derivable from a release.
 #![tactic(auto)]
 
-ghost use Rattle.release.specs.Versions.{width};
 ghost use Rattle.question.specs.Asking.{AskedAs};
 ghost use Rattle.question.specs.Answering.{ToAnswer, Answered};
 
 use classification::classify;
-use marks::{Square, clear, size};
+use marks::{Square, clear, size, work_length};
 use outline::is_text;
 use points::Classified;
 pub use refusals::AskRefusal;
@@ -20,20 +19,14 @@ mod refusals;
 
 // Answers a question that nothing refuses, by the square of the inclusions of nodes, which needs a quarter of the work memory. The memory is
 // of any content at first, and cleared at the end.
-fn answer(
-    terminology: &Terminology,
-    version: Version,
-    below: &[u8],
-    above: &[u8],
-    work: &mut [u8],
-    names: usize,
-) -> bool
-    requires { ToAnswer terminology.now.file.now terminology.now.table.now (width version) below.now above.now work.old names }
+fn answer(terminology: &Terminology, below: &[u8], above: &[u8], work: &mut [u8]) -> bool
+    requires { ToAnswer terminology.now below.now above.now work.old }
     ensures { Answered terminology.now.file.now below.now above.now work.old work.new result }
 {
+    let version = Version::of(terminology.file);
+    let names = version.names(terminology.file);
     let square = Square { base: 0, names };
-    let cells = size(names);
-    clear(work, cells);
+    clear(work, size(names));
     classify(terminology, work, square);
     let classified = Classified {
         terminology: *terminology,
@@ -41,7 +34,7 @@ fn answer(
         square,
     };
     let derivable = evaluation::decide(&classified, version, below, above);
-    clear(work, 4 * cells);
+    clear(work, work_length(names));
     derivable
 }
 
@@ -63,7 +56,7 @@ pub fn ask_inclusion(
     if !is_text(above, version, counts.names, counts.roles) {
         return Err(AskRefusal::WrongAbove);
     }
-    let short = work.len() < 4 * size(counts.names);
+    let short = work.len() < work_length(counts.names);
     if short {
         return Err(AskRefusal::ShortWork);
     }
@@ -71,5 +64,5 @@ pub fn ask_inclusion(
         file,
         table: &table,
     };
-    Ok(answer(&terminology, version, below, above, work, counts.names))
+    Ok(answer(&terminology, below, above, work))
 }

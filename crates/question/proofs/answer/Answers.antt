@@ -1,16 +1,25 @@
 -- `answer` meets its contract: the memory after each call is what the next one asks.
 use native.Mathlib.Omega.{arith}
-use Rattle.question.proofs.Asks.{few, to_classify, to_decide, answered}
+use Rattle.question.proofs.Asks.{few_of, three, has_header, to_classify, to_decide, answered}
 use Rattle.question.proofs.answer.Goals as goal
 
-pub size-cells-requires : goal.size-cells-requires
-size-cells-requires c = omega (arith, few c.requires)
+pub of-version-requires : goal.of-version-requires
+of-version-requires c = three c.requires
+
+pub names-names-requires : goal.names-names-requires
+names-names-requires c = has_header c.requires c.of-version.ensures
+
+pub size-requires : goal.size-requires
+size-requires c = omega (arith, few_of c.requires c.names-names.ensures)
 
 pub classify-requires : goal.classify-requires
-classify-requires c = to_classify c.requires c.size-cells.ensures.0 c.clear.ensures
+classify-requires c = to_classify c.requires c.of-version.ensures c.names-names.ensures c.size.ensures.0 c.clear.ensures
+
+pub work_length-requires : goal.work_length-requires
+work_length-requires c = omega (arith, few_of c.requires c.names-names.ensures)
 
 pub decide-derivable-requires : goal.decide-derivable-requires
-decide-derivable-requires c = to_decide c.requires c.size-cells.ensures.0 c.clear.ensures c.classify.ensures
+decide-derivable-requires c = to_decide c.requires c.of-version.ensures c.names-names.ensures c.size.ensures.0 c.clear.ensures c.classify.ensures
 
 pub returns : goal.returns
-returns c = answered c.requires c.size-cells.ensures.0 c.clear.ensures c.classify.ensures c.clear-2.ensures c.decide-derivable.ensures
+returns c = answered c.requires c.of-version.ensures c.names-names.ensures c.size.ensures.0 c.clear.ensures c.classify.ensures c.work_length.ensures.0 c.clear-2.ensures c.decide-derivable.ensures

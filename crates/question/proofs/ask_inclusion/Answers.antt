@@ -1,4 +1,5 @@
 -- `ask_inclusion` meets its contract: each answer is one law of Asks.
+use mathlib.Core.Path.{refl}
 use native.Mathlib.Omega.{arith}
 use Rattle.release.proofs.Refusing.{passed}
 use Rattle.release.proofs.Rows.{blank_table}
@@ -21,17 +22,17 @@ returns-then-not-is_text c = refuses_below c.in_ok-counts.ensures c.of-version.e
 pub returns-then-not-is_text-2 : goal.returns-then-not-is_text-2
 returns-then-not-is_text-2 c = refuses_above c.in_ok-counts.ensures c.of-version.ensures _ _ _ c.is_text.ensures c.if-not-is_text.false c.is_text-2.ensures c.if-not-is_text-2.true
 
-pub size-requires : goal.size-requires
-size-requires c = omega (arith, names_few c.in_ok-counts.ensures)
+pub work_length-requires : goal.work_length-requires
+work_length-requires c = omega (arith, names_few c.in_ok-counts.ensures)
 
 pub returns-then-short : goal.returns-then-short
 returns-then-short c = refuses_memory c.in_ok-counts.ensures c.of-version.ensures _ _ _ c.is_text.ensures c.if-not-is_text.false c.is_text-2.ensures c.if-not-is_text-2.false
-    c.size.ensures.0 c.if-short.true
+    c.work_length.ensures.0 c.if-short.true
 
 pub answer-requires : goal.answer-requires
 answer-requires c = to_answer c.in_ok-counts.ensures c.of-version.ensures _ _ _ c.is_text.ensures c.if-not-is_text.false c.is_text-2.ensures c.if-not-is_text-2.false
-    c.size.ensures.0 c.if-short.false
+    c.work_length.ensures.0 c.if-short.false _ refl refl
 
 pub returns : goal.returns
 returns c = answers c.in_ok-counts.ensures c.of-version.ensures _ _ _ c.is_text.ensures c.if-not-is_text.false c.is_text-2.ensures c.if-not-is_text-2.false
-    c.size.ensures.0 c.if-short.false c.answer.ensures
+    c.work_length.ensures.0 c.if-short.false c.answer.ensures

@@ -2,5 +2,5 @@
 use Rattle.points.proofs.LosingNodes.{IdleBefore}
 use Rattle.points.proofs.Classified.find_idle.Given as goal
 
-abbrev pub invariant-loop-b : goal.invariant-loop-b
-invariant-loop-b l = IdleBefore l.self.terminology.table.now l.self.square.names l.lost l.role l.j l.idle
+abbrev pub invariant-loop-name : goal.invariant-loop-name
+invariant-loop-name l = IdleBefore l.self l.lost l.role l.root l.idle

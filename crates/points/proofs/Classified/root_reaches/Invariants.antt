@@ -4,6 +4,5 @@ use Rattle.points.proofs.Classified.root_reaches.Given as goal
 
 abbrev pub invariant-loop-atom : goal.invariant-loop-atom
 invariant-loop-atom l =
-    let g = l.self in
     let e = l.restriction in
-    NoneBefore g.terminology.table.now g.square g.work.now l.fn.subsumee.outline.now.atoms e.lost.now l.lost l.k e.role e.root l.atom-index
+    NoneBefore l.self l.fn.subsumee e.lost.now l.lost l.root e.role e.root l.atom-index

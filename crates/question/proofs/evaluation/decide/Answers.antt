@@ -4,14 +4,14 @@ use Rattle.question.proofs.Verdicts.{verdict}
 use Rattle.question.proofs.evaluation.decide.Goals as goal
 
 pub fill_above-requires : goal.fill_above-requires
-fill_above-requires c = record { world = c.requires.world; shape = (c.of-below.ensures _ _ _ c.requires.below_text).shape; blank = empty_zeros 16384 }
+fill_above-requires c = record { world = c.requires.world; shape = (c.of-outline_below.ensures _ _ _ c.requires.below_text).shape; blank = empty_zeros 16384 }
 
 pub lose_all-requires : goal.lose_all-requires
 lose_all-requires c = record {
   world = c.requires.world;
-  from = (c.of-below.ensures _ _ _ c.requires.below_text).shape;
+  from = (c.of-outline_below.ensures _ _ _ c.requires.below_text).shape;
   filled = c.fill_above.ensures;
-  shape = (c.of-above.ensures _ _ _ c.requires.above_text).shape;
+  shape = (c.of-outline_above.ensures _ _ _ c.requires.above_text).shape;
   nodes_blank = empty_zeros 16384;
   roots_blank = empty_zeros 16384;
 }
@@ -19,5 +19,5 @@ lose_all-requires c = record {
 pub returns : goal.returns
 returns c =
     λ n m a b below above.
-    let first = c.of-below.ensures n m a below in
-    verdict c.lose_all.ensures first.shape.whole (first.means _) ((c.of-above.ensures n m b above).means _) _ c.has-lost.ensures
+    let first = c.of-outline_below.ensures n m a below in
+    verdict c.lose_all.ensures first.shape.whole (first.means _) ((c.of-outline_above.ensures n m b above).means _) _ c.has-lost.ensures

@@ -7,6 +7,5 @@ use Rattle.question.proofs.evaluation.fill_above.Given as goal
 
 abbrev pub invariant-loop-atom : goal.invariant-loop-atom
 invariant-loop-atom l =
-    let g = l.classified in
     let left = l.outline.extent.atoms - length l.yielded in
-    Above g.terminology.file.now g.terminology.table.now l.above g.square.names (atoms_from l.outline.atoms left (l.outline.extent.atoms - left))
+    Above l.classified l.above (atoms_from l.outline.atoms left (l.outline.extent.atoms - left))

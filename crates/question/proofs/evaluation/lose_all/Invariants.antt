@@ -5,7 +5,4 @@ use Rattle.question.proofs.Turns.{Losing}
 use Rattle.question.proofs.evaluation.lose_all.Given as goal
 
 abbrev pub invariant-loop-atom : goal.invariant-loop-atom
-invariant-loop-atom l =
-    let from = l.subsumee.outline.now in
-    let left = l.outline.extent.atoms - length l.yielded in
-    Losing l.classified.terminology.file.now from.atoms from.extent l.classified.square.names l.outline.atoms left l.outline.extent.atoms l.nodes l.roots
+invariant-loop-atom l = Losing l.classified l.subsumee l.outline (l.outline.extent.atoms - length l.yielded) l.nodes l.roots
