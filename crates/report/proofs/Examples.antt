@@ -7,8 +7,8 @@ use Rattle.el.specs.Lists.{count}
 use Rattle.branches.specs.Sheets.{no_row}
 use Rattle.branches.specs.declared.row.Row.{Row}
 use Rattle.std.proofs.Common.{Ok}
-use Rattle.report.specs.Sheets.{worded, row_line, row_lines, branches_of, sheet_text}
-use Rattle.report.specs.Texts.{two_numbers, letter, line, entry, lines, report_with, report, refusal_line}
+use Rattle.report.specs.Sheets.{row_line, row_lines, branches_of, sheet_text}
+use Rattle.report.specs.Texts.{worded, two_numbers, letter, line, entry, lines, report_with, report, refusal_line}
 
 -- "names 4 roles 0", "000 B", "002 R", "left 1 right 2"
 p1_lines : List ℕ

@@ -1,5 +1,4 @@
 -- The text of a sheet, in ASCII: a line for each branch, or the one line of a refusal.
---   worded v x             the word v and the number x
 --   row_line i r            the line of branch i with the row r
 --   row_lines i rs          the lines of the rows rs, of the branches from i on
 --   first_lines n rs        the lines of the first n of the rows rs
@@ -13,8 +12,7 @@ use Rattle.branches.specs.declared.row.Row.{Row}
 use Rattle.meanings.specs.declared.Compared.{Compared}
 use Rattle.release.specs.Refusals.{Numbers}
 use Rattle.report.specs.declared.refusals.ReportRefusal.{ReportRefusal}
-use Rattle.report.specs.Numbers.{decimal}
-use Rattle.report.specs.Texts.{newline, right_word, refusal_line}
+use Rattle.report.specs.Texts.{newline, right_word, worded, refusal_line}
 use Rattle.report.specs.Written.{fitted, WrittenAs}
 
 -- "branch "
@@ -32,9 +30,6 @@ row_left_word = 32 ∷ 108 ∷ 101 ∷ 102 ∷ 116 ∷ 32 ∷ []
 -- " share "
 abbrev pub share_word : List ℕ
 share_word = 32 ∷ 115 ∷ 104 ∷ 97 ∷ 114 ∷ 101 ∷ 32 ∷ []
-
-unfoldable pub worded : List ℕ → ℕ → List ℕ
-worded v x = v ++ decimal x
 
 unfoldable pub row_line : ℕ → Row → List ℕ
 row_line i r =

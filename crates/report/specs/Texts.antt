@@ -1,4 +1,5 @@
 -- The report's text, in ASCII; every line ends with a newline.
+--   worded v x             the word v and the number x
 --   two_numbers v x w y     the line of the word v, the number x, the word w and the number y
 --   line a b               the line of the name a, whose result byte is b
 --   lines a bs             the lines of the reported names, where bs are the bytes of the names from a on
@@ -35,6 +36,9 @@ refused_word = 114 ∷ 101 ∷ 102 ∷ 117 ∷ 115 ∷ 101 ∷ 100 ∷ 32 ∷ []
 
 abbrev pub side_word : List ℕ
 side_word = 32 ∷ 115 ∷ 105 ∷ 100 ∷ 101 ∷ 32 ∷ []
+
+unfoldable pub worded : List ℕ → ℕ → List ℕ
+worded v x = v ++ decimal x
 
 unfoldable pub two_numbers : List ℕ → ℕ → List ℕ → ℕ → List ℕ
 two_numbers v x w y = v ++ (decimal x ++ (w ++ (decimal y ++ (newline ∷ []))))

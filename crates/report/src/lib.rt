@@ -18,7 +18,8 @@ mod numbers;
 mod refusals;
 pub mod sheet;
 
-// Writes the report of a comparison whose result is the first `names` bytes of `result_bytes`, and answers its length.
+// Writes the report of a comparison whose result is the first `names` bytes of `result_bytes`, and answers its length. The two
+// numbers stand apart and not as a `Compared`, as README shows this call.
 pub fn write_report(
     names: u16,
     roles: u8,

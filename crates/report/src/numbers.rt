@@ -1,6 +1,6 @@
 // Numbers as text, and the lines of two words and two numbers.
 ghost use Rattle.report.specs.Numbers.{decimal, three_digits};
-ghost use Rattle.report.specs.Texts.{two_numbers};
+ghost use Rattle.report.specs.Texts.{worded, two_numbers};
 ghost use Rattle.writing.specs.Places.{Put};
 
 use writing::{put_or_count, put_text};
@@ -23,6 +23,7 @@ pub fn put_decimal(output: &mut [u8], at: usize, number: usize) -> usize
 pub fn put_three_digits(output: &mut [u8], at: usize, number: usize) -> usize
     ensures { Put output.old at (three_digits number) output.new result }
 {
+    // `b".."` alone is an array of its own length, so each is made a slice.
     let zeros = match number {
         0..=9 => b"00".as_slice(),
         10..=99 => b"0".as_slice(),
@@ -32,7 +33,15 @@ pub fn put_three_digits(output: &mut [u8], at: usize, number: usize) -> usize
     put_decimal(output, next, number)
 }
 
-// The line of a word, a number, a word and a number. The words are bytes, as all that is put: a `&str` would be made bytes here again.
+// A word and a number. The word is bytes, as all that is put: a `&str` would be made bytes here again.
+pub fn put_worded(output: &mut [u8], at: usize, word: &[u8], number: usize) -> usize
+    ensures { Put output.old at (worded word.now number) output.new result }
+{
+    let next = put_text(output, at, word);
+    put_decimal(output, next, number)
+}
+
+// The line of a word, a number, a word and a number. They are handed on one by one, in the order of the line: a struct would be no plainer.
 pub fn put_two_numbers(
     output: &mut [u8],
     at: usize,
@@ -43,9 +52,7 @@ pub fn put_two_numbers(
 ) -> usize
     ensures { Put output.old at (two_numbers word.now number then.now other) output.new result }
 {
-    let first = put_text(output, at, word);
-    let second = put_decimal(output, first, number);
-    let third = put_text(output, second, then);
-    let fourth = put_decimal(output, third, other);
-    put_or_count(output, fourth, b'\n')
+    let first = put_worded(output, at, word, number);
+    let second = put_worded(output, first, then, other);
+    put_or_count(output, second, b'\n')
 }

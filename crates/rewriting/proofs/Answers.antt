@@ -12,15 +12,15 @@ use Rattle.std.specs.Prelude.{Result, Ok, Err}
 use Rattle.release.specs.declared.Counts.{Counts}
 use Rattle.release.specs.Files.{mark, most_names_of, names_of, roles_of, count_of, first_place, axioms_of, fault}
 use Rattle.release.specs.Readings.{counts_in, checked}
-use Rattle.release.specs.Refusals.{Numbers}
+use Rattle.release.specs.Refusals.{Numbers, answer}
 use Rattle.release.proofs.Checks.{header_sound}
 use Rattle.release.proofs.Linked.{no_header_fault}
 use Rattle.release.proofs.Refusing.{is_refused, is_accepted}
 use Rattle.rewriting.specs.Bytes.{number_bytes, axioms_bytes, release_bytes}
-use Rattle.rewriting.specs.Rewriting.{rewritten, refusal, fitted, answer_by, answer_to, Rewrites}
-use Rattle.writing.specs.Places.{Put}
+use Rattle.rewriting.specs.Rewriting.{rewritten, refusal, fitted, answer_to, Rewrites}
+use Rattle.writing.specs.Places.{last_place, Room, Put}
 use Rattle.writing.proofs.Puts.{put_at_start}
-use Rattle.rewriting.proofs.Puts.{Begins}
+use Rattle.rewriting.proofs.Puts.{Begins, Rest, rest_whole, piece_put}
 use Rattle.rewriting.proofs.Lengths.{count_length}
 
 -- the pieces of a file: the mark, the version, the counts, the axioms
@@ -60,6 +60,26 @@ module _ (w : ℕ) (s : List ℕ) where
       is = ap (λ (x : ℕ). number_bytes w x ++ axioms_bytes w (axioms_of s)) (count_length (count_of s) s (first_place s) ∙ ap (λ (a : Counts). a.axioms) (sym is));
     }
 
+-- what is left to write behind each piece that is put
+module _ (w : ℕ) (s : List ℕ) {o : List ℕ} (room : Room o 0 (rewritten w s)) (short : length o ≤ last_place) {q : List ℕ} {at : ℕ} (put : Put o 0 mark q at) where
+  pub behind_mark : Rest o 0 (rewritten w s) q at (after_mark w s)
+  behind_mark = piece_put (begins_mark w s) (rest_whole short room) put
+
+  module _ {q1 : List ℕ} {at1 : ℕ} (put1 : Put q at (number_bytes 2 w) q1 at1) where
+    pub behind_version : Rest o 0 (rewritten w s) q1 at1 (after_version w s)
+    behind_version = piece_put (begins_version w s) behind_mark put1
+
+    module _ {counts : Counts} (is : counts ≡ counts_in s) {q2 : List ℕ} {at2 : ℕ} (put2 : Put q1 at1 (number_bytes w counts.names) q2 at2) where
+      pub behind_names : Rest o 0 (rewritten w s) q2 at2 (after_names w s)
+      behind_names = piece_put (begins_names w s is) behind_version put2
+
+      module _ (ok : fault s ≡ 0) {q3 : List ℕ} {at3 : ℕ} (put3 : Put q2 at2 (counts.roles ∷ []) q3 at3) where
+        pub behind_roles : Rest o 0 (rewritten w s) q3 at3 (after_roles w s)
+        behind_roles = piece_put (begins_roles w s is ok) behind_names put3
+
+        pub behind_counts : {q4 : List ℕ} {at4 : ℕ} → Put q3 at3 (number_bytes w counts.axioms) q4 at4 → Rest o 0 (rewritten w s) q4 at4 (axioms_bytes w (axioms_of s))
+        behind_counts put4 = piece_put (begins_count w s is) behind_roles put4
+
 -- an accepted release
 abbrev written : ℕ → Result ℕ Numbers
 written k = Ok k
@@ -94,15 +114,14 @@ module _ (w : ℕ) (s o : List ℕ) (ok : fault s ≡ 0) where
         record { answers = ap written is ∙ sym (answer_fitted ∙ f); leaves = put_at_start put (omega arith) ∙ ap (λ (x : ℕ). rewritten w s ++ drop x o) (sym is) }
 
 -- a release that is refused itself
+pub refused_by_lem : (f : ℕ) (w : ℕ) (s o : List ℕ) (r : Numbers) → fault s ≡ f → answer 1 f (counts_in s) ≡ Err r → Rewrites w s o o (Err r)
+unfolding answer_to
+refused_by_lem zero w s o r e h = absurd (omega (arith, (is_refused 1 0 (counts_in s) r (sym h)).1))
+refused_by_lem (suc f) w s o r e h = let z = is_refused 1 (suc f) (counts_in s) r (sym h) in record { answers = rw (z.0, e); leaves = refl }
+
 pub release_refused : (w : ℕ) (s o : List ℕ) (n : Numbers) → Err n ≡ checked s → Rewrites w s o o (Err n)
-unfolding checked answer_to
-release_refused w s o n h =
-    let r = is_refused 1 (fault s) (counts_in s) n h in
-    rw r.0 (record { answers = by_fault (fault s) r.1; leaves = refl })
-  where
-    by_fault : (f : ℕ) → 0 < f → refusal f 1 ≡ answer_by f w s o
-    by_fault zero some = absurd (omega arith)
-    by_fault (suc f) some = refl
+unfolding checked
+release_refused w s o n h = refused_by_lem (fault s) w s o n refl (sym h)
 
 -- an accepted one
 pub accepted : (s : List ℕ) (c : Counts) → Ok c ≡ checked s → (fault s ≡ 0) × (c ≡ counts_in s)

@@ -1,12 +1,14 @@
 -- What stands in an accepted file where the code reads.
 --   AllStand c s p     each of the c axioms from place p on stands in the file s
-use mathlib.Core.Path.{◌≡◌}
+use mathlib.Core.Path.{◌≡◌, ap}
 use mathlib.Core.List.{List}
-use Prim.Native.Nat.{ℕ, suc, ◌+◌, ◌*◌, ◌≤◌, ◌<◌}
+use Prim.Native.Nat.{ℕ, suc, ◌+◌, ◌-◌, ◌*◌, ◌≤◌, ◌<◌}
 use native.Mathlib.Omega.{arith}
 use lib.ListN.{length, get_or}
 use Rattle.release.specs.Files.{width_of, count_of, first_place, axiom_length, fault}
-use Rattle.release.specs.Tables.{HasHeader, Stands, here, there}
+use Rattle.release.specs.declared.Counts.{Counts}
+use Rattle.release.specs.Readings.{counts_in}
+use Rattle.release.specs.Tables.{Stands, here, there}
 use Rattle.release.proofs.Sound.{tail_within}
 use Rattle.release.proofs.Checks.{header_sound}
 use Rattle.release.proofs.Linked.{sound_at, axiom_kind, no_header_fault}
@@ -49,9 +51,6 @@ module _ (c : ℕ) (s : List ℕ) (p j : ℕ) (more : c ≡ suc j) (all : AllSta
   others_stand = rw e (record { each = λ i. all.each (rw more (there i)) })
 
 -- the header
-pub header_stands : (s : List ℕ) → fault s ≡ 0 → (w : ℕ) → w ≡ width_of s → HasHeader w s
-header_stands s ok w e = record { is = e; inside = rw e (header_sound s (no_header_fault s ok)).long }
-
 pub has_version : (s : List ℕ) → fault s ≡ 0 → 3 < length s
 has_version s ok = omega (arith, (header_sound s (no_header_fault s ok)).long)
 
@@ -63,3 +62,10 @@ width_few Two = omega arith
 pub width_some : (v : Version) → 1 ≤ width v
 width_some One = omega arith
 width_some Two = omega arith
+
+-- the number of axioms, as the header says it; where some are left, one more is
+pub axioms_counted : (s : List ℕ) {c : Counts} → c ≡ counts_in s → c.axioms ≡ count_of s
+axioms_counted s e = ap (λ (a : Counts). a.axioms) e
+
+pub one_left : {n c k : ℕ} → n ≡ c → k < n → c - k ≡ suc (c - (k + 1))
+one_left e h = omega arith

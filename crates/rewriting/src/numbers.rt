@@ -7,11 +7,11 @@ use release::number::Version;
 use writing::put_byte;
 
 // The low byte first.
-pub fn put_number(output: &mut [u8], at: usize, version: Version, x: usize) -> usize
-    requires { Room output.old at (number_bytes (width version) x) }
-    ensures { Put output.old at (number_bytes (width version) x) output.new result }
+pub fn put_number(output: &mut [u8], at: usize, version: Version, number: usize) -> usize
+    requires { Room output.old at (number_bytes (width version) number) }
+    ensures { Put output.old at (number_bytes (width version) number) output.new result }
 {
-    let [low, high, ..] = x.to_le_bytes();
+    let [low, high, ..] = number.to_le_bytes();
     let next = put_byte(output, at, low);
     match version {
         Version::One => next,

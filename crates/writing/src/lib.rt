@@ -1,6 +1,6 @@
 // Bytes put one after the other into lent memory, from a place on. Each function answers the place after what it put. The place is not kept
 // in a struct with the lent bytes: after a call that is handed such a struct, the proof of what stands in the memory did not close. Neither
-// `Display` nor `write!` puts it: there is no heap, and an output that is too short has to stay as it was.
+// `Display` nor `write!` puts it: the library promises the bytes that they write for a `String` alone, which needs a heap.
 #![tactic(auto)]
 
 ghost use Rattle.std.specs.Prelude.{◌∷◌, [], List, ℕ};

@@ -1,9 +1,8 @@
 -- `rewrite` meets its contract: the release's own refusal, 40, 41, or the file written.
-use mathlib.Core.Path.{ap}
-use Rattle.release.specs.declared.Counts.{Counts}
 use Rattle.rewriting.specs.declared.refusals.RewriteRefusal.TheVariants.{File}
 use Rattle.release.proofs.Refusing.{passed}
 use Rattle.rewriting.proofs.Answers.{release_refused, accepted, refuses_40, refuses_41, writes}
+use Rattle.rewriting.proofs.Stands.{has_version}
 use Rattle.rewriting.proofs.rewrite.Goals as goal
 
 pub returns-in_err-counts : goal.returns-in_err-counts
@@ -14,24 +13,18 @@ returns-then-most_names-counts c =
     let v = accepted _ _ c.in_ok-counts.ensures in
     refuses_40 _ _ _ v.0 (rw (c.most_names.ensures, v.1) at c.if-most_names-counts.true)
 
-pub release_length-length-requires-clause-accepted : goal.release_length-length-requires-clause-accepted
-release_length-length-requires-clause-accepted c = (accepted _ _ c.in_ok-counts.ensures).0
+pub of-requires : goal.of-requires
+of-requires c = has_version _ (accepted _ _ c.in_ok-counts.ensures).0
 
-pub release_length-length-requires-clause-axioms : goal.release_length-length-requires-clause-axioms
-release_length-length-requires-clause-axioms c = ap (λ (a : Counts). a.axioms) (accepted _ _ c.in_ok-counts.ensures).1
+pub invariant_of-rewriting : goal.invariant_of-rewriting
+invariant_of-rewriting c = record { accepted = (accepted _ _ c.in_ok-counts.ensures).0; version = c.of.ensures; counts = (accepted _ _ c.in_ok-counts.ensures).1 }
 
 pub returns-then-output-length : goal.returns-then-output-length
 returns-then-output-length c =
     let v = accepted _ _ c.in_ok-counts.ensures in
-    refuses_41 _ _ _ v.0 (rw (c.most_names.ensures, v.1) at c.if-most_names-counts.false) _ c.release_length-length.ensures c.if-output-length.true
-
-pub put_release-requires-clause-accepted : goal.put_release-requires-clause-accepted
-put_release-requires-clause-accepted c = (accepted _ _ c.in_ok-counts.ensures).0
-
-pub put_release-requires-clause-counts : goal.put_release-requires-clause-counts
-put_release-requires-clause-counts c = (accepted _ _ c.in_ok-counts.ensures).1
+    refuses_41 _ _ _ v.0 (rw (c.most_names.ensures, v.1) at c.if-most_names-counts.false) _ c.length-length.ensures c.if-output-length.true
 
 pub returns : goal.returns
 returns c =
     let v = accepted _ _ c.in_ok-counts.ensures in
-    writes _ _ _ v.0 (rw (c.most_names.ensures, v.1) at c.if-most_names-counts.false) _ c.release_length-length.ensures c.if-output-length.false c.put_release.ensures
+    writes _ _ _ v.0 (rw (c.most_names.ensures, v.1) at c.if-most_names-counts.false) _ c.length-length.ensures c.if-output-length.false c.put_release.ensures

@@ -1,9 +1,14 @@
--- `put_two_numbers` meets its contract: its pieces are put one after the other.
-use Rattle.writing.proofs.Puts.{put_then}
-use Rattle.report.specs.Texts.{two_numbers}
+-- `put_two_numbers` meets its contract: a word with its number, the other word with its number, and the end of the line.
+use mathlib.Core.Path.{ap, ◌∙◌}
+use mathlib.Core.List.{List, ◌++◌}
+use Prim.Native.Nat.{ℕ}
+use Rattle.report.specs.Numbers.{decimal}
+use Rattle.std.proofs.lemmas.List.{append_assoc}
+use Rattle.writing.proofs.Puts.{put_as, put_then}
+use Rattle.report.specs.Texts.{worded, two_numbers}
 use Rattle.report.proofs.numbers.put_two_numbers.Goals as goal
 
 pub returns : goal.returns
-unfolding two_numbers
-returns c =
-    put_then c.put_text-first.ensures (put_then c.put_decimal-second.ensures (put_then c.put_text-third.ensures (put_then c.put_decimal-fourth.ensures c.put_or_count.ensures)))
+unfolding worded two_numbers
+returns c = put_as (append_assoc c.args.word.now _ _ ∙ ap (λ (s : List ℕ). c.args.word.now ++ (decimal c.args.number ++ s)) (append_assoc c.args.then.now _ _))
+    (put_then c.put_worded-first.ensures (put_then c.put_worded-second.ensures c.put_or_count.ensures))

@@ -13,11 +13,11 @@ use Rattle.rewriting.proofs.Pieces.{number_length, narrow_bytes, wide_bytes}
 use Rattle.rewriting.proofs.numbers.put_number.Goals as goal
 
 pub put_byte-next-requires : goal.put_byte-next-requires
-put_byte-next-requires c = record { fits = omega (arith, c.requires.fits, width_some c.args.version, number_length (width c.args.version) c.args.x) }
+put_byte-next-requires c = record { fits = omega (arith, c.requires.fits, width_some c.args.version, number_length (width c.args.version) c.args.number) }
 
 pub put_byte-requires : goal.put_byte-requires
 put_byte-requires c =
-    let l : length (number_bytes (width c.args.version) c.args.x) ≡ 2 = number_length (width c.args.version) c.args.x ∙ ap width c.in-Two.is in
+    let l : length (number_bytes (width c.args.version) c.args.number) ≡ 2 = number_length (width c.args.version) c.args.number ∙ ap width c.in-Two.is in
     let first : Room c.args.output.now c.args.at (get_or c.to_le_bytes.result 0 0 ∷ []) = record { fits = omega (arith, c.requires.fits) } in
     record { fits = omega (arith, c.requires.fits, put_next first c.put_byte-next.ensures, put_length c.put_byte-next.ensures) }
 

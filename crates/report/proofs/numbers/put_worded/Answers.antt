@@ -1,7 +1,7 @@
 -- `put_worded` meets its contract: the word is put, and then the number.
 use Rattle.writing.proofs.Puts.{put_then}
-use Rattle.report.specs.Sheets.{worded}
-use Rattle.report.proofs.sheet.put_worded.Goals as goal
+use Rattle.report.specs.Texts.{worded}
+use Rattle.report.proofs.numbers.put_worded.Goals as goal
 
 pub returns : goal.returns
 unfolding worded
