@@ -6,15 +6,16 @@ use Prim.Native.Nat.{ℕ, ◌+◌, ◌*◌, ◌≤◌, ◌<◌}
 use native.Mathlib.Omega.{arith}
 use borrow.Author.Tests.{ne_eqb, le-leb, lt-leb, eqb-true, leb-true}
 use lib.Dec.{eqb, leb}
-use Rattle.std.specs.Prelude.{Result, Ok, Err}
+use Rattle.std.specs.Prelude.{Ok, Err}
 use Rattle.el.specs.Lists.{pick}
 use Rattle.release.specs.Readings.{checked}
 use Rattle.release.specs.Refusals.{Numbers, answer}
 use Rattle.release.proofs.Refusing.{is_refused}
 use Rattle.signature.specs.Bytes.{signature_fault}
 use Rattle.meanings.specs.declared.Compared.{Compared}
-use Rattle.meanings.specs.Comparing.{work_length, refused, agreed, and_then}
-use Rattle.meanings.proofs.Promise.{Agree, agree}
+use Rattle.meanings.specs.Comparing.{work_length, refused, agreed}
+use Rattle.meanings.proofs.Judging.{signature_accepted}
+use Rattle.meanings.proofs.Promise.{Agree, agree, split}
 use Rattle.branches.specs.Sheets.{most_branches, lent_sheet, judged, sheet}
 
 -- no condition of a refusal holds
@@ -40,11 +41,15 @@ enough gs q rows w d c h = by_tests (leb q most_branches) (eqb (signature_fault 
 -- what is known of an accepted sheet
 pub known : {s t gs : List ℕ} {q rows w : ℕ} {c : Compared} → sheet s t gs q rows w ≡ Ok c → Agree s t c × Enough gs q rows w c
 unfolding judged
-known {s} {t} {gs} {q} {rows} {w} {c} h = by_agreed (agreed (checked s) (checked t)) refl h
-  where
-    by_agreed : (d : Result Compared Numbers) → agreed (checked s) (checked t) ≡ d → and_then d (lent_sheet gs q rows w) ≡ Ok c → Agree s t c × Enough gs q rows w c
-    by_agreed (Err k) f z = absurd (cc)
-    by_agreed (Ok d) f z = let e = enough gs q rows w d c z in rw (← e.0) (agree s t d f, e.1)
+known {s} {t} {gs} {q} {rows} {w} {c} h =
+    let z = split (agreed (checked s) (checked t)) h in
+    let e = enough gs q rows w z.0 c z.2 in
+    rw (← e.0) (agree s t z.0 z.1, e.1)
+
+-- the signatures' test, of numbers that are those of the counts
+pub signatures_accepted : {n m names roles : ℕ} (gs : List ℕ) (q : ℕ) → names ≡ n → roles ≡ m → Ok (tt {0}) ≡ answer 0 (signature_fault (q * (names + roles)) 0 gs) (tt {0})
+    → signature_fault (q * (n + m)) 0 gs ≡ 0
+signatures_accepted gs q e f h = signature_accepted gs (rw (e, f) refl) refl h
 
 -- the refusals
 module _ (gs : List ℕ) (q rows w : ℕ) (c : Compared) where
@@ -53,10 +58,11 @@ module _ (gs : List ℕ) (q rows w : ℕ) (c : Compared) where
   many_branches l = simp (lent_sheet, lt-leb _ _ l)
 
   module _ (few : q ≤ most_branches) where
-    pub signatures_refused : (n : Numbers) → Err n ≡ answer 0 (signature_fault (q * (c.names + c.roles)) 0 gs) (tt {0}) → Err n ≡ lent_sheet gs q rows w c
+    pub signatures_refused : {names roles : ℕ} (n : Numbers) → names ≡ c.names → roles ≡ c.roles → Err n ≡ answer 0 (signature_fault (q * (names + roles)) 0 gs) (tt {0})
+        → Err n ≡ lent_sheet gs q rows w c
     unfolding lent_sheet
-    signatures_refused n h =
-        let r = is_refused 0 (signature_fault (q * (c.names + c.roles)) 0 gs) (tt {0}) n h in
+    signatures_refused n e f h =
+        let r = is_refused 0 (signature_fault (q * (c.names + c.roles)) 0 gs) (tt {0}) n (rw (e, f) at h) in
         rw r.0 (simp (lent_sheet, le-leb _ _ few, ne_eqb (signature_fault (q * (c.names + c.roles)) 0 gs) 0 (λ z. omega (arith, r.1))))
 
     module _ (none : signature_fault (q * (c.names + c.roles)) 0 gs ≡ 0) where

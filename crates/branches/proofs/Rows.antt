@@ -1,5 +1,5 @@
 -- One row: from what a comparison in prepared memory gives to the row of a sheet.
---   few_names, names_lent, bytes_told     what finding a row asks; its bytes are those that are computed
+--   result_lent, names_lent, bytes_told     what finding a row asks; its bytes are those that are computed
 --   part_inside, given_part, row_is       the signature of a row is a part of all of them, and its row is the sheet's
 use mathlib.Core.Path.{◌≡◌, refl, sym, ap, ◌∙◌}
 use mathlib.Core.Bool.{Bool, true, false}
@@ -26,16 +26,17 @@ use Rattle.release.proofs.Limits.{few_counts}
 use Rattle.signature.specs.Bytes.{is_bit, wrong_byte, wrong_length, signature_fault, signature_of}
 use Rattle.comparison.specs.declared.Releases.{Releases}
 use Rattle.comparison.specs.Compared.{Given, Reported}
-use Rattle.comparison.proofs.Pipeline.{few, signature_long}
+use Rattle.comparison.proofs.Pipeline.{signature_long}
 use Rattle.branches.specs.declared.row.Row.{Row}
 use Rattle.branches.specs.Filling.{row_at, Fits}
 use Rattle.branches.specs.Rows.{row_of}
 use Rattle.branches.specs.Sheets.{most_branches, signature_at, no_row}
 
-module _ {g : List ℕ} {r : Releases} {w : List ℕ} (given : Given g r w) where
-  pub few_names : r.names ≤ most_names
-  few_names = few given.both
+-- the result that a row is told of is as long as there can be names
+pub result_lent : {g : List ℕ} {r : Releases} {o p : List ℕ} → Reported g r o p → length o ≡ most_names → r.names ≤ length p
+result_lent {r = r} told long = omega (arith, told.long, r.few, long)
 
+module _ {g : List ℕ} {r : Releases} {w : List ℕ} (given : Given g r w) where
   pub names_lent : r.names ≤ length g
   names_lent = omega (arith, signature_long r.names r.roles g given.signature)
 
@@ -48,7 +49,7 @@ module _ {g : List ℕ} {r : Releases} {w : List ℕ} (given : Given g r w) wher
     second_terms = terminology r.second.file.now given.both.second.accepted;
   }
 
-  pub bytes_told : {o p : List ℕ} → r.names ≤ length p → Reported g r.first.file.now r.second.file.now r.names r.roles o p
+  pub bytes_told : {o p : List ℕ} → r.names ≤ length p → Reported g r o p
       → take r.names p ≡ comparison_bytes r.names (signature_of r.names r.roles g) (axioms_of r.first.file.now) (axioms_of r.second.file.now)
   bytes_told {p = p} l told =
       let are = comparison_bytes_lem comparable in

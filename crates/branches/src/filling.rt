@@ -3,28 +3,27 @@ ghost use Rattle.std.specs.Prelude.{◌≡◌, take};
 ghost use Rattle.release.specs.Files.{axioms_of};
 ghost use Rattle.signature.specs.Bytes.{signature_of};
 ghost use Rattle.el.specs.Answers.{comparison_bytes};
-ghost use Rattle.marks.specs.Memory.{size};
 ghost use Rattle.comparison.specs.Compared.{Given, Ready};
 ghost use Rattle.branches.specs.Filling.{Fits, RowsFilled};
 ghost use Rattle.branches.specs.Rows.{row_of};
 
 use crate::row::{Row, tell};
-use comparison::preparation::prepare;
-use comparison::{Releases, compare_prepared};
+use comparison::Releases;
 use release::Release;
 
 // The row of one signature. The memory is left as it was.
-fn row_of(releases: &Releases, signature: &[u8], work: &mut [u8]) -> Row
+pub fn row_of(releases: &Releases, signature: &[u8], work: &mut [u8]) -> Row
     requires given { Given signature.now releases.now work.old }
-    requires ready { Ready releases.now.first.file.now releases.now.second.file.now releases.now.names (size releases.now.names) work.old }
+    requires ready { Ready releases.now work.old }
     ensures row { result ≡ row_of (take releases.now.names signature.now)
         (comparison_bytes releases.now.names (signature_of releases.now.names releases.now.roles signature.now)
         (axioms_of releases.now.first.file.now) (axioms_of releases.now.second.file.now)) }
     ensures same { work.new ≡ work.old }
 {
     let names = releases.names;
+    // A local array, since there is no heap.
     let mut result = [0u8; Release::NAMES];
-    compare_prepared(releases, signature, &mut result, work);
+    releases.compare_prepared(signature, &mut result, work);
     tell(&signature[..names], &result[..names])
 }
 
@@ -33,12 +32,13 @@ pub fn fill(releases: &Releases, signatures: &[u8], work: &mut [u8], rows: &mut 
     requires { Fits releases.now signatures.now rows.old work.old }
     ensures { RowsFilled releases.now signatures.now rows.old rows.new work.old work.new }
 {
-    prepare(releases, work);
+    releases.prepare(work);
+    // Cut by place: a release may have neither names nor roles, and `chunks_exact` asks a length above 0.
     let length = releases.names + releases.roles;
     for (branch, row) in rows.iter_mut().enumerate() {
         let start = branch * length;
         let signature = &signatures[start..start + length];
         *row = row_of(releases, signature, work);
     }
-    marks::clear(work, 4 * marks::size(releases.names));
+    marks::clear(work, marks::work_length(releases.names));
 }

@@ -23,22 +23,22 @@ pub fn judge(
     counts: Compared,
     signatures: &[u8],
     count: usize,
-    rows: usize,
-    work: usize,
+    row_count: usize,
+    work_length: usize,
 ) -> Result<Compared, SheetRefusal>
     requires { (counts.names ≤ most_names) × (counts.roles ≤ most_roles) }
-    ensures { told sheet_refusal result ≡ lent_sheet signatures.now count rows work counts }
+    ensures { told sheet_refusal result ≡ lent_sheet signatures.now count row_count work_length counts }
 {
     if Sheet::BRANCHES < count {
         return Err(SheetRefusal::ManyBranches);
     }
     let names = usize::from(counts.names);
     let length = count * (names + usize::from(counts.roles));
-    signature_fault(signatures, length, 0).map_err(CompareRefusal::Signature)?;
-    if rows < count {
+    signature_fault(signatures, length, 0)?;
+    if row_count < count {
         return Err(SheetRefusal::FewRows);
     }
-    if lacks_work(work, names) {
+    if lacks_work(work_length, names) {
         return Err(SheetRefusal::Comparison(CompareRefusal::ShortWork));
     }
     Ok(counts)

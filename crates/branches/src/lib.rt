@@ -8,12 +8,11 @@ use crate::filling::fill;
 use crate::judging::judge;
 pub use crate::refusals::SheetRefusal;
 use crate::row::Row;
-use meanings::{Compared, read_both};
+use meanings::{Compared, read_releases};
 use release::table;
 use release::table::Table;
-use release::terminology::Terminology;
 
-mod filling;
+pub mod filling;
 pub mod judging;
 mod refusals;
 pub mod row;
@@ -33,17 +32,8 @@ pub fn compare_branches(
     // Local arrays, since there is no heap.
     let mut first_table = [table::Row::BLANK; Table::LENGTH];
     let mut second_table = [table::Row::BLANK; Table::LENGTH];
-    let counts = read_both(first, second, &mut first_table, &mut second_table)?;
-    judge(counts, signatures, count, rows.len(), work.len())?;
-    let first = Terminology {
-        file: first,
-        table: &first_table,
-    };
-    let second = Terminology {
-        file: second,
-        table: &second_table,
-    };
-    let releases = counts.releases(&first, &second);
+    let (counts, releases) = read_releases(first, second, &mut first_table, &mut second_table)?;
+    let counts = judge(counts, signatures, count, rows.len(), work.len())?;
     fill(&releases, signatures, work, &mut rows[..count]);
     Ok(counts)
 }

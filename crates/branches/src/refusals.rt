@@ -2,10 +2,12 @@
 ghost use Rattle.std.specs.Prelude.{◌≡◌};
 ghost use Rattle.release.specs.Refusals.{Numbers};
 ghost use Rattle.branches.specs.Refusals.{sheet_refusal};
+ghost use Rattle.meanings.specs.declared.refusals.CompareRefusal.TheVariants.{Signature};
 ghost use Rattle.branches.specs.declared.refusals.SheetRefusal.TheVariants.{Comparison};
 
 use meanings::CompareRefusal;
 use release::Refusal;
+use signature::SignatureRefusal;
 
 // Why a sheet is refused: for what a comparison is refused too, or for the number of branches or of rows.
 #[derive(Clone, Copy, Debug, PartialEq, Eq)]
@@ -39,5 +41,13 @@ impl From<CompareRefusal> for SheetRefusal {
 
     fn from(refusal: CompareRefusal) -> SheetRefusal {
         SheetRefusal::Comparison(refusal)
+    }
+}
+
+impl From<SignatureRefusal> for SheetRefusal {
+    ghost from_gives = { λ refusal r. r ≡ Comparison (Signature refusal) };
+
+    fn from(fault: SignatureRefusal) -> SheetRefusal {
+        SheetRefusal::Comparison(CompareRefusal::from(fault))
     }
 }

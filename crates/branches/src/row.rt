@@ -42,8 +42,8 @@ fn share(reported: u32, chosen: u32) -> u32
     (reported * 1000).checked_div(chosen).unwrap_or(0)
 }
 
-// Tells the row. A name with witnesses on both sides has a byte of its own, so it is counted once in the share. The bytes are numbers
-// here, not an enum: C reads them, and the report alone tells each name's.
+// Tells the row. A name with witnesses on both sides has a byte of its own, so it is counted once in the share. The bytes are numbers, not an
+// enum: they are a comparison's result bytes, as it writes them for C.
 pub fn tell(names: &[u8], bytes: &[u8]) -> Row
     requires { (length names.now ≤ most_names) × (length bytes.now ≤ most_names) }
     ensures { result ≡ row_of names.now bytes.now }

@@ -7,26 +7,28 @@ use Prim.Native.Nat.{ℕ, ◌*◌, ◌≤◌, ◌<◌}
 use native.Mathlib.Omega.{arith}
 use borrow.Author.Tests.{eq-eqb, ne_eqb, eqb-true, le-leb, lt-leb, leb-true}
 use lib.Dec.{eqb, leb}
-use Rattle.std.specs.Prelude.{Result, Ok, Err, MatchResult, IsErrAnd}
+use Rattle.std.specs.Prelude.{Result, Ok, Err, MatchResult, IsErrAnd, IfOk}
 use Rattle.el.specs.Lists.{pick}
 use Rattle.el.proofs.Tests.{and_left, and_right}
 use Rattle.marks.specs.Memory.{size}
 use Rattle.release.specs.Files.{most_names, most_roles}
 use Rattle.release.proofs.Limits.{limits}
-use Rattle.release.specs.Refusals.{Numbers, told, answer}
+use Rattle.release.specs.Refusals.{Numbers, file_refusal, told, answer}
 use Rattle.release.proofs.Refusing.{is_refused, is_accepted}
-use Rattle.release.specs.Tables.{ReleaseRead}
+use Rattle.release.specs.Tables.{Release, ReleaseRead}
 use Rattle.release.specs.declared.Counts.{Counts}
 use Rattle.release.specs.declared.refusals.FileRefusal.{FileRefusal}
 use Rattle.release.specs.declared.table.Row as table
 use Rattle.release.proofs.Checks.{is_release}
 use Rattle.signature.specs.Bytes.{signature_fault}
 use Rattle.meanings.specs.declared.Compared.{Compared}
+use Rattle.meanings.specs.declared.refusals.CompareRefusal.{CompareRefusal}
 use Rattle.meanings.specs.declared.refusals.CompareRefusal.TheVariants.{First, Second, DifferentCounts}
 use Rattle.meanings.specs.Comparing.{work_length, refused, same_counts, agreed, lent}
 use Rattle.meanings.specs.Reading.{BothRead}
+use Rattle.meanings.specs.Refusals.{compare_refusal}
 
-pub work_length_lem : (n q : ℕ) → q ≡ size n → 4 * q ≡ work_length n
+pub work_length_lem : (n q : ℕ) → q ≡ 4 * size n → q ≡ work_length n
 unfolding size
 work_length_lem n q e = rw e
 
@@ -67,36 +69,50 @@ same_counts_lem a b c h = by_test (eqb a.names b.names && eqb a.roles b.roles) r
           counts_roles = ap (λ (k : Compared). k.roles) y;
         }
 
--- the releases
-pub first_refused : {s t : List ℕ} {a b : List table.Row} {e : FileRefusal} → ReleaseRead s a (Err e) → BothRead s t a b (Err (First e))
-unfolding agreed
-first_refused read = record { answer = rw (← read.answer, agreed) refl; first = λ z. absurd (cc); second = λ z. absurd (cc) }
-
-module _ {s t : List ℕ} {a b : List table.Row} where
-  pub second_refused : {x : Counts} {e : FileRefusal} → ReleaseRead s a (Ok x) → ReleaseRead t b (Err e) → BothRead s t a b (Err (Second e))
+-- what two releases share, by what checking each answers
+module _ {one : Result Counts FileRefusal} (two : Result Counts FileRefusal) where
+  pub first_refused : {e : FileRefusal} → one ≡ Err e → Err (compare_refusal (First e)) ≡ agreed (told file_refusal one) (told file_refusal two)
   unfolding agreed
-  second_refused one two = record { answer = rw (← one.answer, ← two.answer, agreed) refl; first = λ z. absurd (cc); second = λ z. absurd (cc) }
+  first_refused is = rw is refl
 
-  module _ {x y : Counts} (one : ReleaseRead s a (Ok x)) (two : ReleaseRead t b (Ok y)) where
-    pub differ : (x.names ≡ y.names → ⊥) ⊎ ((x.names ≡ y.names) × (x.roles ≡ y.roles → ⊥)) → BothRead s t a b (Err DifferentCounts)
-    unfolding agreed same_counts
-    differ (inl d) = record { answer = rw (← one.answer, ← two.answer, agreed) (simp (same_counts, ne_eqb _ _ d)); first = λ z. absurd (cc); second = λ z. absurd (cc) }
-    differ (inr (n, d)) = record {
-      answer = rw (← one.answer, ← two.answer, agreed) (simp (same_counts, eq-eqb _ _ n, ne_eqb _ _ d));
-      first = λ z. absurd (cc);
-      second = λ z. absurd (cc);
-    }
+module _ {one two : Result Counts FileRefusal} where
+  module _ {x : Counts} (read : one ≡ Ok x) where
+    pub second_refused : {e : FileRefusal} → two ≡ Err e → Err (compare_refusal (Second e)) ≡ agreed (told file_refusal one) (told file_refusal two)
+    unfolding agreed
+    second_refused is = rw (read, is) refl
 
-    pub counts_same : x.names ≡ y.names → x.roles ≡ y.roles → BothRead s t a b (Ok (record { names = x.names; roles = x.roles }))
-    unfolding agreed same_counts
-    counts_same n m = record {
-      answer = rw (← one.answer, ← two.answer, agreed) (simp (same_counts, eq-eqb _ _ n, eq-eqb _ _ m));
-      first = λ z. is_release one;
-      second = λ z. is_release two;
-    }
+    module _ {y : Counts} (also : two ≡ Ok y) where
+      pub differ : (x.names ≡ y.names → ⊥) ⊎ ((x.names ≡ y.names) × (x.roles ≡ y.roles → ⊥)) → Err (compare_refusal DifferentCounts) ≡ agreed (told file_refusal one) (told file_refusal two)
+      unfolding agreed same_counts
+      differ (inl d) = rw (read, also, agreed) (simp (same_counts, ne_eqb _ _ d))
+      differ (inr (n, d)) = rw (read, also, agreed) (simp (same_counts, eq-eqb _ _ n, ne_eqb _ _ d))
 
-pub few : {s : List ℕ} {a : List table.Row} {x : Counts} → ReleaseRead s a (Ok x) → (x.names ≤ most_names) × (x.roles ≤ most_roles)
-few {s} {x = x} read = limits s x read.answer
+      pub counts_same : x.names ≡ y.names → x.roles ≡ y.roles → Ok (record { names = x.names; roles = x.roles }) ≡ agreed (told file_refusal one) (told file_refusal two)
+      unfolding agreed same_counts
+      counts_same n m = rw (read, also, agreed) (simp (same_counts, eq-eqb _ _ n, eq-eqb _ _ m))
+
+-- releases that were read: accepted ones are small, and where the two share their counts, both are accepted
+pub limited : {s : List ℕ} {a : List table.Row} (r : Result Counts FileRefusal) → ReleaseRead s a r → IfOk r (λ c. (c.names ≤ most_names) × (c.roles ≤ most_roles))
+limited {s} (Ok x) read = limits s x read.answer
+limited (Err e) read = tt
+
+pub both_read : {s t : List ℕ} {a b : List table.Row} {one two : Result Counts FileRefusal} {r : Result Compared CompareRefusal} → ReleaseRead s a one → ReleaseRead t b two
+    → told compare_refusal r ≡ agreed (told file_refusal one) (told file_refusal two) → BothRead s t a b r
+unfolding agreed
+both_read {s} {t} {a} {b} {one} {two} {r} first second is = record {
+  answer = rw (← first.answer, ← second.answer) is;
+  first = λ {c} e. accepted_first one two (rw e at is) first;
+  second = λ {c} e. accepted_second one two (rw e at is) second;
+}
+  where
+    accepted_first : (x y : Result Counts FileRefusal) {c : Compared} → Ok c ≡ agreed (told file_refusal x) (told file_refusal y) → ReleaseRead s a x → Release s a
+    accepted_first (Ok x) y e read = is_release read
+    accepted_first (Err x) y e read = absurd (cc)
+
+    accepted_second : (x y : Result Counts FileRefusal) {c : Compared} → Ok c ≡ agreed (told file_refusal x) (told file_refusal y) → ReleaseRead t b y → Release t b
+    accepted_second x (Ok y) e read = is_release read
+    accepted_second (Ok x) (Err y) e read = absurd (cc)
+    accepted_second (Err x) (Err y) e read = absurd (cc)
 
 -- what is lent, where it is refused and where it is enough
 pub record LentEnough (g : List ℕ) (o w : ℕ) (c : Compared) : Type 0 where
@@ -115,14 +131,15 @@ lent_enough g o w d c h = by_tests (eqb (signature_fault d.names d.roles g) 0) (
     by_tests true true false f i j z = absurd (cc)
     by_tests true true true f i j z = let y : d ≡ c = cc in (y, record { signature = eqb-true _ _ f; result = leb-true _ _ i; work = leb-true _ _ j })
 
-pub signature_accepted : (n m : ℕ) (g : List ℕ) → Ok (tt {0}) ≡ answer 0 (signature_fault n m g) (tt {0}) → signature_fault n m g ≡ 0
-signature_accepted n m g h = (is_accepted 0 (signature_fault n m g) (tt {0}) (tt {0}) h).0
+-- the signature's test, of numbers that are those of the counts
+pub signature_accepted : {n m names roles : ℕ} (g : List ℕ) → names ≡ n → roles ≡ m → Ok (tt {0}) ≡ answer 0 (signature_fault names roles g) (tt {0}) → signature_fault n m g ≡ 0
+signature_accepted {names = names} {roles = roles} g e f h = rw (e, f) at (is_accepted 0 (signature_fault names roles g) (tt {0}) (tt {0}) h).0
 
 module _ (g : List ℕ) (o w : ℕ) (c : Compared) where
-  pub signature_refused : (n : Numbers) → Err n ≡ answer 0 (signature_fault c.names c.roles g) (tt {0}) → Err n ≡ lent g o w c
+  pub signature_refused : {names roles : ℕ} (n : Numbers) → names ≡ c.names → roles ≡ c.roles → Err n ≡ answer 0 (signature_fault names roles g) (tt {0}) → Err n ≡ lent g o w c
   unfolding lent
-  signature_refused n h =
-      let r = is_refused 0 (signature_fault c.names c.roles g) (tt {0}) n h in
+  signature_refused n e f h =
+      let r = is_refused 0 (signature_fault c.names c.roles g) (tt {0}) n (rw (e, f) at h) in
       rw r.0 (simp (lent, ne_eqb (signature_fault c.names c.roles g) 0 (λ z. omega (arith, r.1))))
 
   module _ (none : signature_fault c.names c.roles g ≡ 0) where

@@ -1,19 +1,19 @@
 -- From the answer of a comparison and what comparing gives to what the call promises.
 --   Agree, agree, few_counts          what is known of two releases that agree
+--   known                             what is known of an accepted comparison;  split: of a value that follows another
+--   both_given                        what comparing asks of releases that were read, and what filling a sheet asks
 --   not_read, not_lent, given, compares   the promise, where it is refused and where it is not
-use mathlib.Core.Path.{◌≡◌, refl, sym, ap, ap₂, ◌∙◌}
+use mathlib.Core.Path.{◌≡◌, refl, sym, ap₂, ◌∙◌}
 use mathlib.Core.List.{List, [], ◌∷◌, ◌++◌}
 use Prim.Native.Nat.{ℕ, zero, suc, ◌+◌, ◌≤◌, ◌<◌}
 use native.Mathlib.Omega.{arith}
 use lib.ListN.{length, get_or, take, drop, replicate, length-take, length-drop}
 use lib.Seq.{ext_get_or, get_or-take, get_or-drop}
-use Rattle.std.specs.Prelude.{Ok, Err}
+use Rattle.std.specs.Prelude.{Result, Ok, Err}
 use Rattle.el.specs.Comparison.{AreBytes}
 use Rattle.release.specs.Files.{names_of, roles_of, axioms_of, most_names, most_roles, fault}
 use Rattle.release.specs.Readings.{checked, counts_in}
-use Rattle.release.specs.Refusals.{answer}
-use Rattle.release.specs.Tables.{Release}
-use Rattle.release.specs.declared.table.Row as table
+use Rattle.release.specs.Refusals.{Numbers, answer}
 use Rattle.release.proofs.Limits as limits
 use Rattle.signature.specs.Bytes.{signature_of}
 use Rattle.marks.specs.Memory.{size}
@@ -21,8 +21,8 @@ use Rattle.comparison.specs.Compared as C
 use Rattle.comparison.specs.declared.Releases.{Releases}
 use Rattle.meanings.specs.declared.Compared.{Compared}
 use Rattle.meanings.specs.declared.refusals.CompareRefusal.{CompareRefusal}
-use Rattle.meanings.specs.Comparing.{work_length, agreed, lent, judged, Outcome, Says}
-use Rattle.meanings.specs.Reading.{BothRead}
+use Rattle.meanings.specs.Comparing.{work_length, agreed, lent, and_then, judged, comparison, Outcome, Says}
+use Rattle.meanings.specs.Reading.{AreRead}
 use Rattle.meanings.specs.Refusals.{compare_refusal}
 use Rattle.meanings.proofs.Judging.{same_counts_lem, LentEnough, lent_enough}
 
@@ -64,61 +64,80 @@ agree s t c h = by_faults (fault s) (fault t) refl refl h
 pub few_counts : {s t : List ℕ} {c : Compared} → Agree s t c → (c.names ≤ most_names) × (c.roles ≤ most_roles)
 few_counts {s} k = let h = limits.few_counts s k.first in (omega (arith, k.first_names, h.0), omega (arith, k.first_roles, h.1))
 
-pub both_agree : {s t : List ℕ} {a b : List table.Row} {c : Compared} → BothRead s t a b (Ok c) → Agree s t c
-both_agree {s} {t} {c = c} read = agree s t c (sym read.answer)
+-- what is told of a value that follows another
+pub split : {follows : Compared → Result Compared Numbers} {c : Compared} (r : Result Compared Numbers) → and_then r follows ≡ Ok c → (d : Compared) × (r ≡ Ok d) × (follows d ≡ Ok c)
+split (Ok d) h = (d, refl, h)
+split (Err k) h = absurd (cc)
 
-module _ {s t : List ℕ} {a b : List table.Row} (g o w : List ℕ) where
-  pub not_read : {e : CompareRefusal} → BothRead s t a b (Err e) → Says s t g o o w w (Err e)
+-- what is known of an accepted comparison
+pub known : (s t g : List ℕ) (o w : ℕ) (c : Compared) → comparison s t g o w ≡ Ok c → Agree s t c × LentEnough g o w c
+unfolding judged
+known s t g o w c h =
+    let z = split (agreed (checked s) (checked t)) h in
+    let e = lent_enough g o w z.0 c z.2 in
+    rw (← e.0) (agree s t z.0 z.1, e.1)
+
+-- releases that were read, and work memory that is enough: what comparing them asks, and filling the rows of a sheet
+module _ {s t : List ℕ} {c : Compared} {r : Releases} (read : AreRead s t c r) where
+  pub both_agree : Agree s t c
+  both_agree = agree s t c (sym read.counts)
+
+  pub both_given : {w : List ℕ} → work_length c.names ≤ length w → C.BothGiven r w
+  unfolding size
+  both_given lends = record {
+    first = rw read.first_file read.first;
+    second = rw read.second_file read.second;
+    first_names = rw read.first_file (read.names ∙ both_agree.first_names);
+    second_names = rw read.second_file (read.names ∙ both_agree.second_names);
+    room = rw read.names lends;
+  }
+
+module _ {s t : List ℕ} (g o w : List ℕ) where
+  refuses : {e : CompareRefusal} → Err (compare_refusal e) ≡ comparison s t g (length o) (length w) → Says s t g o o w w (Err e)
+  refuses is = record { answer = is; refused_result = λ z. refl; refused_work = λ z. refl; accepted = λ z. absurd (cc) }
+
+  pub not_read : {e : CompareRefusal} → Err (compare_refusal e) ≡ agreed (checked s) (checked t) → Says s t g o o w w (Err e)
   unfolding judged
-  not_read read = record { answer = rw (← read.answer, judged) refl; refused_result = λ z. refl; refused_work = λ z. refl; accepted = λ z. absurd (cc) }
+  not_read is = refuses (rw (← is, judged) refl)
 
-  module _ {c : Compared} (read : BothRead s t a b (Ok c)) where
+  module _ {c : Compared} {r : Releases} (read : AreRead s t c r) where
     pub not_lent : {e : CompareRefusal} → Err (compare_refusal e) ≡ lent g (length o) (length w) c → Says s t g o o w w (Err e)
     unfolding judged
-    not_lent refused = record { answer = rw (← read.answer, judged) refused; refused_result = λ z. refl; refused_work = λ z. refl; accepted = λ z. absurd (cc) }
+    not_lent is = refuses (rw (← read.counts, judged) is)
 
     module _ {d : Compared} (lends : Ok d ≡ lent g (length o) (length w) c) where
-      pub enough : LentEnough g (length o) (length w) c
+      enough : LentEnough g (length o) (length w) c
       enough = (lent_enough g (length o) (length w) c d (sym lends)).1
 
+      pub names_in_bounds : r.names ≤ length o
+      names_in_bounds = rw read.names enough.result
+
+      pub given : C.Given g r w
+      given = record { both = both_given read enough.work; signature = rw (read.names, read.roles) enough.signature }
+
       -- lists by their elements
-      module _ (p v : List ℕ) (long_p : length p ≡ length o) (long_v : length v ≡ length w) (done : C.Compared g s t c.names c.roles o p w v) where
+      module _ (p v : List ℕ) (long_p : length p ≡ length o) (long_v : length v ≡ length w) (done : C.Compared g r o p w v) where
         bytes_are : AreBytes c.names (signature_of c.names c.roles g) (axioms_of s) (axioms_of t) (take c.names p)
         bytes_are = record {
           long = simp length-take (omega (arith, enough.result));
-          each = λ a l. rw (get_or-take c.names p a 0 l) (done.reported.byte a l);
+          each = λ a l. rw (get_or-take c.names p a 0 l) (rw (read.names, read.roles, read.first_file, read.second_file) at (done.reported.byte a (rw read.names l)));
         }
 
         rest_is : drop c.names p ≡ drop c.names o
-        rest_is = ext_get_or 0 _ _ (simp (length-drop, long_p)) (λ i l. get_or-drop c.names p i 0 ∙ (done.reported.rest (c.names + i) (omega arith) ∙ sym (get_or-drop c.names o i 0)))
+        rest_is = ext_get_or 0 _ _ (simp (length-drop, long_p)) (λ i l. get_or-drop c.names p i 0 ∙ (done.reported.rest (c.names + i) (omega (arith, read.names)) ∙ sym (get_or-drop c.names o i 0)))
 
         outcome : Outcome s t g o p w v
         unfolding size
         outcome =
             let k = both_agree read in
-            let work_is = cleared (work_length c.names) v w long_v enough.work done.zero done.past in
+            let work_is = cleared (work_length c.names) v w long_v enough.work (rw read.names at done.zero) (rw read.names at done.past) in
             record { bytes = rw (k.first_names, k.first_roles) at bytes_are; past = rw k.first_names at rest_is; work = rw k.first_names at work_is }
 
-        pub compares : Says s t g o p w v (Ok c)
+        pub compares : Says s t g o p w v (Ok d)
         unfolding judged
         compares = record {
-          answer = rw (← read.answer, judged) (ap Ok (lent_enough g (length o) (length w) c d (sym lends)).0 ∙ lends);
+          answer = rw (← read.counts, judged) lends;
           refused_result = λ z. absurd (cc);
           refused_work = λ z. absurd (cc);
           accepted = λ _. outcome;
         }
-
--- what the comparison asks, of releases whose tables were read
-pub given : {g w : List ℕ} (o : ℕ) {c : Compared} (r : Releases) → r.names ≡ c.names → r.roles ≡ c.roles → Release r.first.file.now r.first.table.now
-    → Release r.second.file.now r.second.table.now → Agree r.first.file.now r.second.file.now c → LentEnough g o (length w) c → C.Given g r w
-unfolding size
-given o r names roles first second k lends = record {
-  both = record {
-    first = first;
-    second = second;
-    first_names = names ∙ k.first_names;
-    second_names = names ∙ k.second_names;
-    room = rw names lends.work;
-  };
-  signature = rw (names, roles) lends.signature;
-}

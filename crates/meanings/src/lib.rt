@@ -1,19 +1,19 @@
 // The meaning of releases compared. What a call is lent stands in separate parameters, as C lends it.
 #![tactic(auto)]
 
-ghost use Rattle.std.specs.Prelude.{◌≡◌, ltb, ◌≤◌};
-ghost use Rattle.release.specs.Files.{most_names};
-ghost use Rattle.release.specs.Refusals.{told};
+ghost use Rattle.std.specs.Prelude.{◌≡◌, ltb, ◌≤◌, IfOk};
+ghost use Rattle.release.specs.Files.{most_names, most_roles};
+ghost use Rattle.release.specs.Refusals.{file_refusal, told};
 ghost use Rattle.release.specs.Tables.{Blank};
-ghost use Rattle.meanings.specs.Comparing.{work_length, lent, Says};
+ghost use Rattle.meanings.specs.Comparing.{work_length, agreed, lent, Says};
 ghost use Rattle.meanings.specs.Refusals.{compare_refusal};
-ghost use Rattle.meanings.specs.Reading.{BothRead};
+ghost use Rattle.meanings.specs.Reading.{BothRead, ReleasesRead};
 
 pub use crate::refusals::CompareRefusal;
-use comparison::{Releases, compare_tables};
-use release::read_release;
+use comparison::Releases;
 use release::table::{Row, Table};
 use release::terminology::Terminology;
+use release::{Counts, FileRefusal, read_release};
 use signature::signature_fault;
 
 mod refusals;
@@ -25,27 +25,33 @@ pub struct Compared {
     pub roles: u8,
 }
 
-impl Compared {
-    // The releases that have these counts, as they are compared.
-    pub fn releases<'a>(self, first: &Terminology<'a>, second: &Terminology<'a>) -> Releases<'a>
-        ensures terminologies { (result.first ≡ first.now) × (result.second ≡ second.now) }
-        ensures counts { (result.names ≡ self.names) × (result.roles ≡ self.roles) }
-    {
-        Releases {
-            first: *first,
-            second: *second,
-            names: usize::from(self.names),
-            roles: usize::from(self.roles),
-        }
-    }
+// Whether work memory is shorter than a comparison of releases with this many names needs.
+pub fn lacks_work(length: usize, names: usize) -> bool
+    requires { names ≤ most_names }
+    ensures { result ≡ ltb length (work_length names) }
+{
+    length < marks::work_length(names)
 }
 
-// Whether work memory is shorter than a comparison of releases with this many names needs.
-pub fn lacks_work(work: usize, names: usize) -> bool
-    requires { names ≤ most_names }
-    ensures { result ≡ ltb work (work_length names) }
+// What two releases share, by what checking each answers: their counts, or the first refusal that is met.
+pub fn agree(
+    first: Result<Counts, FileRefusal>,
+    second: Result<Counts, FileRefusal>,
+) -> Result<Compared, CompareRefusal>
+    requires { IfOk first (λ c. (c.names ≤ most_names) × (c.roles ≤ most_roles)) }
+    ensures { told compare_refusal result ≡ agreed (told file_refusal first) (told file_refusal second) }
 {
-    work < 4 * marks::size(names)
+    let one = first.map_err(CompareRefusal::First)?;
+    let two = second.map_err(CompareRefusal::Second)?;
+    // Field by field, since the numbers of axioms may differ.
+    if one.names != two.names || one.roles != two.roles {
+        return Err(CompareRefusal::DifferentCounts);
+    }
+    // By `as`: an accepted release has few names and roles, so both fit, and `try_from` has an arm that is never taken.
+    Ok(Compared {
+        names: one.names as u16,
+        roles: one.roles as u8,
+    })
 }
 
 // Reads two releases into blank tables: the counts that they share, or the first refusal that they meet.
@@ -59,17 +65,36 @@ pub fn read_both(
     requires second_blank { Blank second_table.old }
     ensures { BothRead first.now second.now first_table.new second_table.new result }
 {
-    let one = read_release(first, first_table).map_err(CompareRefusal::First)?;
-    let two = read_release(second, second_table).map_err(CompareRefusal::Second)?;
-    // Field by field, since the numbers of axioms may differ.
-    if one.names != two.names || one.roles != two.roles {
-        return Err(CompareRefusal::DifferentCounts);
-    }
-    // By `as`: an accepted release has few names and roles, so both fit, and `try_from` has an arm that is never taken.
-    Ok(Compared {
-        names: one.names as u16,
-        roles: one.roles as u8,
-    })
+    let one = read_release(first, first_table);
+    let two = read_release(second, second_table);
+    agree(one, two)
+}
+
+// Reads two releases into blank tables and puts them together, as they are compared, with the counts that they share.
+pub fn read_releases<'a>(
+    first: &'a [u8],
+    second: &'a [u8],
+    first_table: &'a mut [Row],
+    second_table: &'a mut [Row],
+) -> Result<(Compared, Releases<'a>), CompareRefusal>
+    requires first_blank { Blank first_table.old }
+    requires second_blank { Blank second_table.old }
+    ensures { ReleasesRead first.now second.now result }
+{
+    let counts = read_both(first, second, first_table, second_table)?;
+    let releases = Releases {
+        first: Terminology {
+            file: first,
+            table: first_table,
+        },
+        second: Terminology {
+            file: second,
+            table: second_table,
+        },
+        names: usize::from(counts.names),
+        roles: usize::from(counts.roles),
+    };
+    Ok((counts, releases))
 }
 
 // The counts, if the signature is one and the result and the work memory are long enough.
@@ -77,19 +102,17 @@ fn judge(
     counts: Compared,
     signature: &[u8],
     result_length: usize,
-    work: usize,
+    work_length: usize,
 ) -> Result<Compared, CompareRefusal>
     requires { counts.names ≤ most_names }
-    ensures { told compare_refusal result ≡ lent signature.now result_length work counts }
+    ensures { told compare_refusal result ≡ lent signature.now result_length work_length counts }
 {
     let names = usize::from(counts.names);
-    signature_fault(signature, names, usize::from(counts.roles)).map_err(
-        CompareRefusal::Signature,
-    )?;
+    signature_fault(signature, names, usize::from(counts.roles))?;
     if result_length < names {
         return Err(CompareRefusal::ShortResult);
     }
-    if lacks_work(work, names) {
+    if lacks_work(work_length, names) {
         return Err(CompareRefusal::ShortWork);
     }
     Ok(counts)
@@ -108,17 +131,8 @@ pub fn compare_releases(
     // Local arrays, since there is no heap.
     let mut first_table = [Row::BLANK; Table::LENGTH];
     let mut second_table = [Row::BLANK; Table::LENGTH];
-    let counts = read_both(first, second, &mut first_table, &mut second_table)?;
-    judge(counts, signature, result_bytes.len(), work.len())?;
-    let first = Terminology {
-        file: first,
-        table: &first_table,
-    };
-    let second = Terminology {
-        file: second,
-        table: &second_table,
-    };
-    let releases = counts.releases(&first, &second);
-    compare_tables(&releases, signature, result_bytes, work);
+    let (counts, releases) = read_releases(first, second, &mut first_table, &mut second_table)?;
+    let counts = judge(counts, signature, result_bytes.len(), work.len())?;
+    releases.compare_tables(signature, result_bytes, work);
     Ok(counts)
 }

@@ -1,6 +1,8 @@
 // The refusals of a comparison of releases.
+ghost use Rattle.std.specs.Prelude.{◌≡◌};
 ghost use Rattle.release.specs.Refusals.{Numbers};
 ghost use Rattle.meanings.specs.Refusals.{compare_refusal};
+ghost use Rattle.meanings.specs.declared.refusals.CompareRefusal.TheVariants.{Signature};
 
 use release::{FileRefusal, Refusal};
 use signature::SignatureRefusal;
@@ -35,5 +37,13 @@ impl Refusal for CompareRefusal {
             CompareRefusal::Second(_) => 2,
             _ => 0,
         }
+    }
+}
+
+impl From<SignatureRefusal> for CompareRefusal {
+    ghost from_gives = { λ refusal r. r ≡ Signature refusal };
+
+    fn from(fault: SignatureRefusal) -> CompareRefusal {
+        CompareRefusal::Signature(fault)
     }
 }

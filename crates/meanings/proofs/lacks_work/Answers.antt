@@ -3,4 +3,4 @@ use Rattle.meanings.proofs.Judging.{work_length_lem}
 use Rattle.meanings.proofs.lacks_work.Goals as goal
 
 pub returns : goal.returns
-returns c = rw (work_length_lem _ _ c.size.ensures.0)
+returns c = rw (work_length_lem _ _ c.work_length.ensures.0)

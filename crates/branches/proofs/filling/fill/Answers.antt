@@ -1,7 +1,6 @@
 -- `fill` meets its contract: each turn finds one row more in the memory that was prepared.
 use Rattle.std.proofs.Common.{◌<◌, arith, ap, ◌∙◌, length}
 use Rattle.std.proofs.lemmas.List.{length-set}
-use Rattle.comparison.proofs.Pipeline.{few}
 use Rattle.branches.specs.Filling.{row_at}
 use Rattle.branches.proofs.Rows.{long_small, start_small, part_inside, given_part, row_is, rows_more}
 use Rattle.branches.proofs.filling.fill.Goals as goal
@@ -30,6 +29,3 @@ loop-branch-preserved c =
       rows_more (row_at releases.first.file.now releases.second.file.now c.args.signatures.now) c.loop-branch.rows c.loop-branch.branch _ (omega arith) c.loop-branch.invariant.1 row,
       c.row_of.ensures.same ∙ c.loop-branch.invariant.2,
     )
-
-pub size-requires : goal.size-requires
-size-requires c = omega (arith, few c.requires.both)

@@ -6,20 +6,14 @@ use Rattle.el.specs.Lists.{count}
 use Rattle.branches.proofs.Counts.{is, count_filter, count_few}
 use Rattle.branches.proofs.row.count.Goals as goal
 
-pub overflow_cast-result : goal.overflow_cast-result
-overflow_cast-result c =
-    let on = is c.args.value in
-    let counted : c.count.result ≡ count on c.args.bytes.now =
+counted : (c : goal.After-count) → c.count.result ≡ count (is c.args.value) c.args.bytes.now
+counted c =
     count_from_yields_List c.filter.result _ c.count.ensures.ran
-    (YieldsList-from_filter _ on (YieldsList-from_slice c.args.bytes.now cc) c.filter.ensures.closure (λ x r q k. search (rules, tests)))
-    ∙ count_filter on c.args.bytes.now in
-    omega (arith, count_few on c.args.bytes.now)
+    (YieldsList-from_filter _ (is c.args.value) (YieldsList-from_slice c.args.bytes.now cc) c.filter.ensures.closure (λ x r q k. search (rules, tests)))
+    ∙ count_filter (is c.args.value) c.args.bytes.now
+
+pub overflow_cast-result : goal.overflow_cast-result
+overflow_cast-result c = omega (arith, counted c, count_few (is c.args.value) c.args.bytes.now)
 
 pub returns : goal.returns
-returns c =
-    let on = is c.args.value in
-    let counted : c.count.result ≡ count on c.args.bytes.now =
-    count_from_yields_List c.filter.result _ c.count.ensures.ran
-    (YieldsList-from_filter _ on (YieldsList-from_slice c.args.bytes.now cc) c.filter.ensures.closure (λ x r q k. search (rules, tests)))
-    ∙ count_filter on c.args.bytes.now in
-    (counted, omega (arith, count_few on c.args.bytes.now))
+returns c = (counted c, omega (arith, counted c, count_few (is c.args.value) c.args.bytes.now))
