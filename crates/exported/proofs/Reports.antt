@@ -9,26 +9,25 @@ use Prim.Native.Nat.{ℕ, suc, ◌+◌, ◌*◌, ◌-◌, ◌/◌, ◌%◌, ◌�
 use native.Mathlib.Nat.{div-lt_iff_lt-mul}
 use native.Mathlib.Omega.{arith}
 use borrow.Author.Tests.{le-ltb, ltb-true, ltb-false}
-use lib.Dec.{eqb, ltb, leb}
+use lib.Dec.{ltb}
 use lib.ListN.{length, take, replicate, length-append, length-take, length-replicate}
-use Rattle.el.specs.Lists.{pick, count}
+use Rattle.el.specs.Lists.{count}
 use Rattle.el.specs.Comparison.{on_left, on_right, is_reported}
 use Rattle.release.specs.Files.{most_names, most_roles}
-use Rattle.release.specs.Readings.{checked}
-use Rattle.signature.specs.Bytes.{signature_fault}
-use Rattle.meanings.specs.Comparing.{work_length, agreed, lent, and_then, judged, comparison, Says}
+use Rattle.meanings.specs.Comparing.{Says}
 use Rattle.meanings.specs.Comparing.{refused as comparison_refused}
 use Rattle.meanings.specs.declared.Compared.{Compared}
-use Rattle.meanings.proofs.Promise.{agree, few_counts}
+use Rattle.meanings.proofs.Promise.{known, few_counts}
+use Rattle.branches.proofs.Counts.{count_few}
 use Rattle.report.specs.Numbers.{digit, decimal, three_digits}
 use Rattle.report.specs.Texts.{newline, space, letter, entry, lines, two_numbers, names_word, roles_word, left_word, right_word, report, report_with}
-use Rattle.report.specs.Written.{fitted, report_text, report_answer, output_after, WrittenAs}
+use Rattle.report.specs.Written.{fitted, report_text, report_answer, WrittenAs}
 use Rattle.report.specs.Refusals.{report_refusal}
 use Rattle.report.specs.declared.refusals.ReportRefusal.{ReportRefusal}
 use Rattle.report.specs.declared.refusals.ReportRefusal.TheVariants.{ShortOutput}
 use Rattle.meanings.specs.Refusals.{compare_refusal}
 use Rattle.meanings.specs.declared.refusals.CompareRefusal.{CompareRefusal}
-use Rattle.release.specs.Refusals.{Numbers, told}
+use Rattle.release.specs.Refusals.{told}
 use Rattle.std.specs.Prelude.{Result, Ok, Err, IfOk}
 use Rattle.exported.specs.Codes.{Fits32, Returns, refusal_code, longest_report, ReportReturns}
 use Rattle.report.proofs.Decimals.{decimal_one, decimal_more, three_of_one, three_of_two, three_of_more}
@@ -88,15 +87,6 @@ lines_short a (b ∷ bs) h = by_name (ltb a 1000) refl (lines_short (suc a) bs (
     by_name true e rest = omega (arith, all, rest, ltb-true a 1000 e, entry_short a b 3 (name_short a (ltb-true a 1000 e)))
     by_name false e rest = omega (arith, all, rest, ltb-false a 1000 e, entry_short a b 4 (name_long a (ltb-false a 1000 e) (omega arith)))
 
-count_few : (p : ℕ → Bool) (bs : List ℕ) → count p bs ≤ length bs
-unfolding count
-count_few p [] = omega arith
-count_few p (b ∷ bs) = by_test (p b) (count_few p bs)
-  where
-    by_test : (d : Bool) → count p bs ≤ length bs → pick d 1 0 + count p bs ≤ suc (length bs)
-    by_test true h = omega arith
-    by_test false h = omega arith
-
 two_numbers_length : (v : List ℕ) (x : ℕ) (w : List ℕ) (y : ℕ) → length (two_numbers v x w y) ≡ length v + (length (decimal x) + (length w + (length (decimal y) + 1)))
 unfolding two_numbers
 two_numbers_length v x w y = simp length-append
@@ -123,29 +113,6 @@ report_short n m result names roles =
       lines_short 0 bs (omega arith),
     )
 
--- an accepted comparison has few names and roles
-abbrev accepted : Compared → Result Compared Numbers
-accepted c = Ok c
-
-lent_keeps : (g : List ℕ) (o w : ℕ) (d c : Compared) → lent g o w d ≡ accepted c → d ≡ c
-unfolding lent
-lent_keeps g o w d c h = by_tests (eqb (signature_fault d.names d.roles g) 0) (leb d.names o) (leb (work_length d.names) w) h
-  where
-    by_tests : (q u v : Bool) → pick q (pick u (pick v (accepted d) (comparison_refused 32 0)) (comparison_refused 31 0))
-        (comparison_refused (signature_fault d.names d.roles g) 0) ≡ accepted c → d ≡ c
-    by_tests false u v z = absurd (cc)
-    by_tests true false v z = absurd (cc)
-    by_tests true true false z = absurd (cc)
-    by_tests true true true z = cc
-
-compared_few : (s t g : List ℕ) (o w : ℕ) (c : Compared) → comparison s t g o w ≡ accepted c → (c.names ≤ most_names) × (c.roles ≤ most_roles)
-unfolding judged
-compared_few s t g o w c h = by_releases (agreed (checked s) (checked t)) refl h
-  where
-    by_releases : (a : Result Compared Numbers) → agreed (checked s) (checked t) ≡ a → and_then a (lent g o w) ≡ accepted c → (c.names ≤ most_names) × (c.roles ≤ most_roles)
-    by_releases (Err k) e z = absurd (cc)
-    by_releases (Ok d) e z = few_counts (agree s t c (e ∙ ap accepted (lent_keeps g o w d c z)))
-
 -- writing the report of an accepted comparison
 written_whole : (n m : ℕ) (result o : List ℕ) → n ≤ length result → length (report_text n m result) ≤ length o → report_answer n m result o ≡ Ok (length (report_text n m result))
 unfolding report_answer fitted
@@ -170,7 +137,7 @@ module _ {s t g b bs w v : List ℕ} (o : List ℕ) (long : longest_report ≤ l
     text = report_text c.names c.roles bs
 
     few : (c.names ≤ most_names) × (c.roles ≤ most_roles)
-    few = compared_few s t g (length b) (length w) c (sym says.answer)
+    few = few_counts (known s t g (length b) (length w) c (sym says.answer)).0
 
     short : length text ≤ longest_report
     short = report_short c.names c.roles bs few.0 few.1
@@ -193,7 +160,7 @@ module _ {s t g b bs w v : List ℕ} (o : List ℕ) (long : longest_report ≤ l
         names = all;
         room = λ _. record { answer = Ok c; says = says; told_of = refl };
         no_room = λ l. absurd (omega arith);
-        output = writes.leaves ∙ ap (λ (z : Result ℕ ReportRefusal). output_after z text o) whole;
+        output = rw whole at writes.leaves;
         returns = rw is_length at gave;
       }
 

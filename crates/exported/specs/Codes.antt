@@ -58,7 +58,7 @@ number_refusal ManyNames = record { number = 4; side = 0 }
 abbrev pub Fits32 : ℕ → Type 0
 Fits32 x = x < 2 ^ 32
 
--- a check: n, m and a
+-- a check: the counts of names, roles and axioms
 abbrev pub check_outcome : Result Counts Numbers → Result (List ℕ) Numbers
 check_outcome (Ok c) = Ok (c.names ∷ c.roles ∷ c.axioms ∷ [])
 check_outcome (Err k) = Err k

@@ -24,8 +24,8 @@ mod refusals;
 // The length of the longest report there can be: 1,023 names, each with a line.
 const REPORT: usize = 6202;
 
-// The code of a refusal. Four calls below end in the same two arms, one that writes the answer and one that is this: a function over a closure
-// that writes would be no plainer, since its contract had to say what each closure writes and leaves.
+// The code of a refusal. Three calls below and `give_length` end in the same two arms, one that writes the answer and one that is this: a function
+// over a closure that writes would be no plainer, since its contract would have to say what each closure writes and leaves.
 fn refusal_code<R: Refusal>(refusal: R) -> u32
     ensures { result ≡ refusal_code (R.numbers refusal) }
 {
@@ -167,6 +167,7 @@ pub fn berrytick_report(
     if output.len() < REPORT {
         return refusal_code(ReportRefusal::ShortOutput);
     }
+    // A local array, since there is no heap.
     let mut result = [0u8; Release::NAMES];
     match compare_releases(first, second, signature, &mut result, work) {
         Ok(counts) => give_length(
@@ -184,6 +185,6 @@ pub fn berrytick_work_length(names: usize, length: &mut u32) -> u32
     if Release::NAMES < names {
         return refusal_code(NumberRefusal::ManyNames);
     }
-    *length = (4 * ((names + 1) * (names + 1))) as u32;
+    *length = marks::work_length(names) as u32;
     0
 }

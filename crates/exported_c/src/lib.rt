@@ -1,5 +1,6 @@
 // The calls of the crate exported under their names for C: each does what the call of its name there does, and promises the
-// same. include/berrytick.h declares them.
+// same. They stand twice, since a crate is a library, which proofs and other crates name, or a static library, which C links.
+// include/berrytick.h declares them.
 #![tactic(auto)]
 
 ghost use Rattle.exported.specs.Codes.{CheckReturns, AskReturns, ShowReturns, CompareReturns, SheetReturns};
@@ -7,7 +8,7 @@ ghost use Rattle.exported.specs.Codes.{RewriteReturns, ReportReturns, WorkLength
 
 use branches::row::Row;
 
-// Checks a release: n, m and a, its counts of names, roles and axioms.
+// Checks a release: its counts of names, roles and axioms.
 #[unsafe(no_mangle)]
 pub extern "C" fn berrytick_check(file: &[u8], counts: &mut [u32; 3]) -> u32
     ensures { CheckReturns file.now counts.old counts.new result }
@@ -63,10 +64,10 @@ pub extern "C" fn berrytick_compare(
 
 // Compares two releases over `count` signatures: a row for each.
 #[unsafe(no_mangle)]
-pub extern "C" fn berrytick_compare_branches<'a>(
-    first: &'a [u8],
-    second: &'a [u8],
-    signatures: &'a [u8],
+pub extern "C" fn berrytick_compare_branches(
+    first: &[u8],
+    second: &[u8],
+    signatures: &[u8],
     count: usize,
     work: &mut [u8],
     rows: &mut [Row],

@@ -20,16 +20,16 @@ use Rattle.release.specs.Refusals.{Numbers, told}
 use Rattle.release.specs.declared.Counts.{Counts}
 use Rattle.meanings.specs.declared.Compared.{Compared}
 use Rattle.meanings.specs.declared.refusals.CompareRefusal.{CompareRefusal}
-use Rattle.meanings.specs.Comparing.{agreed, lent, and_then, judged, comparison, Says}
+use Rattle.meanings.specs.Comparing.{Says}
 use Rattle.meanings.specs.Refusals.{compare_refusal}
-use Rattle.meanings.proofs.Judging.{lent_enough}
+use Rattle.meanings.proofs.Promise.{known}
 use Rattle.branches.specs.declared.refusals.SheetRefusal.{SheetRefusal}
 use Rattle.branches.specs.declared.row.Row.{Row}
 use Rattle.branches.specs.Refusals.{sheet_refusal}
 use Rattle.branches.specs.Sheets as branches
 use Rattle.branches.specs.Sheets.{most_branches}
 use Rattle.report.specs.declared.refusals.ReportRefusal.{ReportRefusal}
-use Rattle.report.specs.Written.{fitted, output_after, WrittenAs, report_answer}
+use Rattle.report.specs.Written.{fitted, WrittenAs, report_answer}
 use Rattle.report.specs.Answered.{answer_text, answer_to}
 use Rattle.report.specs.Sheets.{sheet_text, SheetWritten}
 use Rattle.report.proofs.Answers.{fits, lacks}
@@ -40,8 +40,8 @@ pub prints : {text o p : List ℕ} {a : Result ℕ ReportRefusal} {r : Option �
 prints {text} {o} {p} {a} {r} w e = record {
   written = a;
   writes = w;
-  whole = λ h. (e ∙ ap result_ok (w.answers ∙ fits text o h), w.leaves ∙ ap (λ (z : Result ℕ ReportRefusal). output_after z text o) (fits text o h));
-  short = λ h. (e ∙ ap result_ok (w.answers ∙ lacks text o h), w.leaves ∙ ap (λ (z : Result ℕ ReportRefusal). output_after z text o) (lacks text o h));
+  whole = λ h. (e ∙ ap result_ok (w.answers ∙ fits text o h), rw (fits text o h) at w.leaves);
+  short = λ h. (e ∙ ap result_ok (w.answers ∙ lacks text o h), rw (lacks text o h) at w.leaves);
 }
 
 pub prints_within : (text o p : List ℕ) (r : Option ℕ) → length p ≡ length o → Prints text o p r → IfSome r (λ k. k ≤ length p)
@@ -54,15 +54,7 @@ prints_within text o p (Some k) same w = ⊎_elim lacking whole (cases_lt (lengt
     whole : length text ≤ length o → k ≤ length p
     whole h = let e = (w.whole h).0 in let equal : k ≡ length text = cc in omega arith
 
--- a comparison is accepted only where the result has a byte for each name
-result_long : (s t g : List ℕ) (o w : ℕ) (c : Compared) → comparison s t g o w ≡ Ok c → c.names ≤ o
-unfolding judged
-result_long s t g o w c h = by_releases (agreed _ _) h
-  where
-    by_releases : (a : Result Compared Numbers) → and_then a (lent g o w) ≡ Ok c → c.names ≤ o
-    by_releases (Err k) e = absurd (cc)
-    by_releases (Ok d) e = let enough = lent_enough g o w d c e in rw (← enough.0) enough.1.result
-
+-- a comparison is accepted only where the result has a byte for each name, so that its answer is written where its text fits
 answer_fitted : (a : Result Compared Numbers) (bs o : List ℕ) → ((c : Compared) → a ≡ Ok c → c.names ≤ length bs) → answer_to a bs o ≡ fitted (answer_text a bs) o
 unfolding answer_to answer_text report_answer
 answer_fitted (Err k) bs o f = refl
@@ -74,7 +66,7 @@ module _ {s t g b bs w v o p : List ℕ} {a : Result Compared CompareRefusal} {d
       → WrittenAs (answer_to (told compare_refusal a) bs o) (answer_text (told compare_refusal a) bs) o p d → r ≡ result_ok d → StationPrints s t g w v o p r
   station_prints h i says writes e =
       let fitting : answer_to (told compare_refusal a) bs o ≡ fitted (answer_text (told compare_refusal a) bs) o =
-      answer_fitted (told compare_refusal a) bs o (λ c f. rw i (result_long s t g (length b) (length w) c (sym says.answer ∙ f))) in
+      answer_fitted (told compare_refusal a) bs o (λ c f. rw i (known s t g (length b) (length w) c (sym says.answer ∙ f)).1.result) in
       record { lent = b; result = bs; answer = a; long = h; says = says; prints = prints (rw fitting at writes) e }
 
 -- the sheet

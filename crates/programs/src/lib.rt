@@ -32,6 +32,7 @@ pub fn station(
         work.old work.new output.old output.new result }
     ensures within { IfSome result (λ k. k ≤ length output.new) }
 {
+    // A local array, since there is no heap.
     let mut result = [0u8; Release::NAMES];
     let answer = compare_releases(first, second, chosen, &mut result, work);
     write_answer(answer, &result, output).ok()
@@ -62,6 +63,7 @@ pub fn sheet(
         work.old work.new output.old output.new result }
     ensures within { IfSome result (λ k. k ≤ length output.new) }
 {
+    // A local array, since there is no heap.
     let rows = [Row::NONE; Sheet::BRANCHES];
     let count = signature_count(first, chosen.len());
     let filled = fill_rows(first, second, chosen, count, work, rows);
