@@ -1,5 +1,5 @@
 // Memory that a case lends to a call: filled with a mark before, and looked at after. It is an array, as in the programs, which have no heap.
-use crate::verdict::{Verdict, What, same, same_byte};
+use crate::verdict::{Verdict, What, same};
 
 // What lent memory holds before the call: neither 0 nor a byte of any answer.
 pub const MARK: u8 = 165;
@@ -27,7 +27,7 @@ pub(crate) fn lend<F: FnOnce(&mut [u8]) -> Verdict>(
 pub(crate) fn same_start(memory: &[u8], expected: &[u8]) -> Verdict {
     for (place, byte) in memory.iter().enumerate() {
         let right = expected.get(place).copied().unwrap_or(MARK);
-        same_byte(What::Byte(place), *byte, right)?;
+        same(What::Byte(place), *byte, right)?;
     }
     Ok(())
 }
@@ -36,7 +36,7 @@ pub(crate) fn same_start(memory: &[u8], expected: &[u8]) -> Verdict {
 pub(crate) fn zero_start(memory: &[u8], zeros: usize) -> Verdict {
     for (place, byte) in memory.iter().enumerate() {
         let right = if place < zeros { 0 } else { MARK };
-        same_byte(What::Work(place), *byte, right)?;
+        same(What::Work(place), *byte, right)?;
     }
     Ok(())
 }

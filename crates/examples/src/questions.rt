@@ -1,22 +1,23 @@
 // Cases of Question: file, below, above, length of the work memory; number, side, value, and how
 // many bytes of the work memory are then zero.
-use crate::cases::{field, value};
+use crate::cases::{Case, number_in};
 use crate::memory;
 use crate::memory::ROOM;
-use crate::verdict::{Verdict, What, same, same_outcome};
+use crate::verdict::{Verdict, What, refusal_in, same, same_outcome};
 use question::ask_inclusion;
 
-pub const FIELDS: usize = 8;
-
 pub(crate) fn judge(case: &[u8]) -> Verdict {
+    let case = Case::of(case, 8)?;
+    let Case([_, _, _, work_length, ..]) = case;
     let mut work = [0u8; ROOM];
-    memory::lend(&mut work, value(case, 3), |work| asked(case, work))
+    memory::lend(&mut work, number_in(work_length), |work| asked(case, work))
 }
 
-fn asked(case: &[u8], work: &mut [u8]) -> Verdict {
-    let answer = ask_inclusion(field(case, 0), field(case, 1), field(case, 2), work);
-    if let Some(included) = same_outcome(answer, value(case, 4), value(case, 5))? {
-        same(What::Value, usize::from(included), value(case, 6))?;
+fn asked(case: Case, work: &mut [u8]) -> Verdict {
+    let Case([file, below, above, _, number, side, value, zeros, ..]) = case;
+    let answer = ask_inclusion(file, below, above, work);
+    if let Some(included) = same_outcome(answer, refusal_in(number, side))? {
+        same(What::Value, included, number_in(value))?;
     }
-    memory::zero_start(work, value(case, 7))
+    memory::zero_start(work, number_in(zeros))
 }

@@ -1,30 +1,31 @@
 // Cases of Rewrite: file, wanted version, length of the output; number, side, the rewritten file, empty where refused.
-use crate::cases::{field, value};
+use crate::cases::{Case, number_in};
 use crate::memory;
-use crate::verdict::{Verdict, What, same, same_outcome};
+use crate::verdict::{Verdict, What, refusal_in, same, same_outcome};
 use release::number::Version;
 use rewriting::rewrite;
 
-pub const FIELDS: usize = 6;
-
-// How much output a case can lend.
+// How much output a case can lend: an array, since there is no heap.
 const OUTPUT: usize = 40000;
 
 pub(crate) fn judge(case: &[u8]) -> Verdict {
+    let case = Case::of(case, 6)?;
+    let Case([_, _, output_length, ..]) = case;
     let mut output = [0u8; OUTPUT];
     memory::lend(
         &mut output,
-        value(case, 2),
+        number_in(output_length),
         |output| rewritten(case, output),
     )
 }
 
-// A version that is not 1 is 2.
-fn rewritten(case: &[u8], output: &mut [u8]) -> Verdict {
-    let version = Version::try_from(value(case, 1)).unwrap_or(Version::Two);
-    let answer = rewrite(field(case, 0), output, version);
-    if let Some(length) = same_outcome(answer, value(case, 3), value(case, 4))? {
-        same(What::Length, length, field(case, 5).len())?;
+// The data files have no version but 1 and 2, and any other is taken for 2: a case has no way to tell that it is wrong.
+fn rewritten(case: Case, output: &mut [u8]) -> Verdict {
+    let Case([file, version, _, number, side, expected, ..]) = case;
+    let version = Version::try_from(number_in(version)).unwrap_or(Version::Two);
+    let answer = rewrite(file, output, version);
+    if let Some(length) = same_outcome(answer, refusal_in(number, side))? {
+        same(What::Length, length, expected.len())?;
     }
-    memory::same_start(output, field(case, 5))
+    memory::same_start(output, expected)
 }

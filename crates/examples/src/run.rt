@@ -1,46 +1,49 @@
 // Runs the cases of one family, which its data file holds one after another, each as a length of
 // four bytes, low byte first, and that many bytes.
-use crate::cases::{fields, number_in};
-use crate::verdict::{Verdict, What, same};
+use crate::cases::number_in;
+use crate::verdict::Verdict;
 use folder::read_full;
 use std::io::Read;
 use std::rt::Files;
-use std::{fs, io};
+use std::{fmt, fs, io};
 
-// How much room there is for a case.
+// How much room there is for a case: an array, since there is no heap.
 const CASE_BYTES: usize = 65536;
 
-// The data file ends inside a case, or has one that is too long.
+// There is no data file, or it ends inside a case, or has one that is too long.
 #[derive(Clone, Copy, Debug, PartialEq, Eq)]
 pub struct Broken;
 
-// Tries every case of the data file of this name, prints each difference, and then the counts. A
-// case has so many fields, and the judge tells its verdict.
+impl fmt::Display for Broken {
+    fn fmt<W: fmt::Write>(&self, f: &mut fmt::Formatter<W>) -> fmt::Result {
+        write!(f, "the data file is missing or broken")
+    }
+}
+
+// Tries every case of the data file of this name, prints each difference, and then the counts. The
+// judge tells the verdict on a case.
 pub(crate) fn family<J: Fn(&[u8]) -> Verdict>(
     rt: &(impl Files + Print),
     name: &str,
-    field_count: usize,
     judge: J,
 ) -> io::Result<()>
     requires { J.IsAlwaysCallable judge }
 {
     let Ok(mut file) = fs::open(rt, name) else {
-        return tell_broken(rt, name);
+        return println!(rt; "{name}: {}", Broken);
     };
     let mut room = [0u8; CASE_BYTES];
     let mut differences: u64 = 0;
+    // Counted, and not until the file ends: a file may never end, and this program does.
     for cases in 0..u64::MAX {
-        let Ok(next) = next_case(&mut file, &mut room) else {
-            tell_broken(rt, name)?;
+        let next = next_case(&mut file, &mut room);
+        let Ok(Some(case)) = next else {
+            if next.is_err() {
+                println!(rt; "{name}: {}", Broken)?;
+            }
             return tell_counts(rt, name, cases, differences);
         };
-        let Some(case) = next else {
-            return tell_counts(rt, name, cases, differences);
-        };
-        let verdict = same(What::Fields, fields(case).unwrap_or(0), field_count).and_then(|_| judge(
-            case,
-        ));
-        if let Err(difference) = verdict {
+        if let Err(difference) = judge(case) {
             differences += 1;
             println!(rt; "{name} {}: {difference}", cases + 1)?;
         }
@@ -51,11 +54,6 @@ pub(crate) fn family<J: Fn(&[u8]) -> Verdict>(
 // A line with the family's name and counts.
 fn tell_counts(rt: &impl Print, name: &str, cases: u64, differences: u64) -> io::Result<()> {
     println!(rt; "{name}: {cases} cases, {differences} differences")
-}
-
-// A line that says that the family's data file is missing, or ends inside a case.
-fn tell_broken(rt: &impl Print, name: &str) -> io::Result<()> {
-    println!(rt; "{name}: the data file is missing or broken")
 }
 
 // Reads the next case into `room`, if the file does not end before it.

@@ -1,20 +1,21 @@
 // Cases of the sheet: first, second, how many signatures, the signatures, how many rows, length of the
 // work memory; number, side, the rows filled, each four numbers of two bytes, and how many bytes of the
 // work memory are then zero. Each row is also held to a single comparison over its signature.
-use crate::cases::{byte, field, value};
+use crate::cases::{Case, number_in};
 use crate::memory;
 use crate::memory::ROOM;
-use crate::verdict::{Verdict, What, same, same_outcome};
+use crate::verdict::{Verdict, What, refusal_in, same, same_outcome};
 use branches::judging::Sheet;
 use branches::row::Row;
 use branches::values::{Filled, fill_part};
 use meanings::compare_releases;
 use release::Release;
+use std::iter;
 
-pub const FIELDS: usize = 10;
-
-// The bytes of an expected row.
+// The bytes of an expected row, and of a number in it.
 const ROW: usize = 8;
+
+const NUMBER: usize = 2;
 
 // What a row holds before the call: no answer has these numbers.
 const MARKED: Row = Row {
@@ -24,115 +25,120 @@ const MARKED: Row = Row {
     share: u32::MAX,
 };
 
-// The numbers of a row: chosen, left, right and share.
-type Numbers = [usize; 4];
-
 pub(crate) fn judge(case: &[u8]) -> Verdict {
+    let case = Case::of(case, 10)?;
+    let Case([_, _, _, _, _, work_length, ..]) = case;
     let mut work = [0u8; ROOM];
-    memory::lend(&mut work, value(case, 5), |work| filled(case, work))
-}
-
-fn filled(case: &[u8], work: &mut [u8]) -> Verdict {
-    let filled = fill(case, work);
-    same_outcome(filled.answer, value(case, 6), value(case, 7))?;
-    memory::zero_start(work, value(case, 9))?;
-    same_rows(field(case, 8), &filled.rows)?;
-    single_rows(case, filled)
+    memory::lend(&mut work, number_in(work_length), |work| filled(case, work))
 }
 
 // Fills as many rows as are lent; the others are there to be seen unchanged. A sheet has no use for more
 // than there can be branches.
-fn fill(case: &[u8], work: &mut [u8]) -> Filled {
-    fill_part(
-        field(case, 0),
-        field(case, 1),
-        field(case, 3),
-        value(case, 2),
+fn filled(case: Case, work: &mut [u8]) -> Verdict {
+    let Case([first, second, count, signatures, rows, ..]) = case;
+    let Case([_, _, _, _, _, _, number, side, expected, zeros]) = case;
+    let filled = fill_part(
+        first,
+        second,
+        signatures,
+        number_in(count),
         work,
         [MARKED; Sheet::BRANCHES],
-        value(case, 4).min(Sheet::BRANCHES),
-    )
+        number_in(rows).min(Sheet::BRANCHES),
+    );
+    same_outcome(filled.answer, refusal_in(number, side))?;
+    memory::zero_start(work, number_in(zeros))?;
+    same_rows(expected, &filled.rows)?;
+    single_rows(case, filled)
 }
 
 // By `as`: there is no From that makes a usize of 32 bits.
-fn numbers(row: Row) -> Numbers {
-    [
-        row.chosen as usize,
-        row.left as usize,
-        row.right as usize,
-        row.share as usize,
-    ]
-}
-
-fn same_row(branch: usize, got: Numbers, expected: Numbers) -> Verdict {
-    for (got, expected) in got.iter().zip(expected.iter()) {
-        same(What::Row(branch), *got, *expected)?;
+fn same_row(branch: usize, got: Row, expected: Row) -> Verdict {
+    let numbers = [
+        (got.chosen, expected.chosen),
+        (got.left, expected.left),
+        (got.right, expected.right),
+        (got.share, expected.share),
+    ];
+    for (got, expected) in numbers {
+        same(What::Row(branch), got as usize, expected as usize)?;
     }
     Ok(())
 }
 
 // Whether the first rows are the expected ones, and all later ones as they were.
 fn same_rows(expected: &[u8], rows: &[Row; Sheet::BRANCHES]) -> Verdict {
-    for (branch, row) in rows.iter().enumerate() {
-        let told = match expected.get(branch * ROW..branch * ROW + ROW) {
-            Some(bytes) => told(bytes),
-            None => numbers(MARKED),
-        };
-        same_row(branch, numbers(*row), told)?;
+    let expected = expected
+        .chunks_exact(ROW)
+        .map(expected_row)
+        .chain(iter::repeat(MARKED));
+    for (branch, (row, expected)) in rows.iter().zip(expected).enumerate() {
+        same_row(branch, *row, expected)?;
     }
     Ok(())
 }
 
-// The numbers of an expected row, two bytes each.
-fn told(bytes: &[u8]) -> Numbers {
-    let number = |at| usize::from(u16::from_le_bytes([byte(bytes, at), byte(bytes, at + 1)]));
-    [number(0), number(2), number(4), number(6)]
+// An expected row, of which each number has two bytes.
+fn expected_row(bytes: &[u8]) -> Row {
+    let number = |place: usize| {
+        let number = bytes.chunks_exact(NUMBER).nth(place).unwrap_or(&[]);
+        u32::try_from(number_in(number)).unwrap_or(u32::MAX)
+    };
+    Row {
+        chosen: number(0),
+        left: number(1),
+        right: number(2),
+        share: number(3),
+    }
 }
 
-// Whether each row that is filled is what a single comparison over its signature tells.
-fn single_rows(case: &[u8], filled: Filled) -> Verdict {
+// Whether each row that is filled is what a single comparison over its signature tells. The signatures are cut by hand: `chunks_exact`
+// asks for a length above 0, and releases may have neither names nor roles.
+fn single_rows(case: Case, filled: Filled) -> Verdict {
+    let Case([_, _, _, signatures, _, _, _, _, expected, _]) = case;
     let Ok(counts) = filled.answer else {
         return Ok(());
     };
-    let names = usize::from(counts.names);
-    let length = names + usize::from(counts.roles);
-    let signatures = field(case, 3);
-    let told = field(case, 8).len() / ROW;
-    for (branch, row) in filled.rows.iter().take(told).enumerate() {
+    let length = usize::from(counts.names) + usize::from(counts.roles);
+    let rows_filled = expected.len() / ROW;
+    for (branch, row) in filled.rows.iter().take(rows_filled).enumerate() {
         let end = branch * length + length;
         let Some(signature) = signatures.get(branch * length..end) else {
             return same(What::Length, signatures.len(), end);
         };
-        same_row(branch, numbers(*row), single_row(case, signature, names))?;
+        same_row(
+            branch,
+            *row,
+            single_row(case, signature, usize::from(counts.names)),
+        )?;
     }
     Ok(())
 }
 
-// The numbers of a row by a single comparison, counted name by name.
-fn single_row(case: &[u8], signature: &[u8], names: usize) -> Numbers {
-    let mut result = [0u8; Release::NAMES];
+// The row by a single comparison, counted name by name.
+fn single_row(case: Case, signature: &[u8], names: usize) -> Row {
+    let Case([first, second, ..]) = case;
+    let mut result_bytes = [0u8; Release::NAMES];
     let mut work = [0u8; ROOM];
-    let _answer = compare_releases(
-        field(case, 0),
-        field(case, 1),
-        signature,
-        &mut result,
-        &mut work,
-    );
-    let told = &result[..names.min(Release::NAMES)];
-    let chosen = signature
-        .iter()
-        .take(names)
-        .filter(|byte| **byte == 1)
-        .count();
-    let reported = told.iter().filter(|byte| 0 < **byte).count();
-    [
+    let _answer = compare_releases(first, second, signature, &mut result_bytes, &mut work);
+    let told = &result_bytes[..names.min(Release::NAMES)];
+    let chosen = count(&signature[..names.min(signature.len())], |byte| byte == 1);
+    let reported = count(told, |byte| 0 < byte);
+    Row {
         chosen,
-        told.iter().filter(|byte| **byte % 2 == 1).count(),
-        told.iter().filter(|byte| 2 <= **byte).count(),
-        reported
+        left: count(told, |byte| byte % 2 == 1),
+        right: count(told, |byte| 2 <= byte),
+        share: reported
             .saturating_mul(1000)
             .checked_div(chosen)
             .unwrap_or(0),
-    ]
+    }
+}
+
+// How many of the bytes pass the test.
+fn count<T: Fn(u8) -> bool>(bytes: &[u8], test: T) -> u32
+    requires { T.IsAlwaysCallable test }
+{
+    let passed = bytes.iter().filter(|byte| test(**byte)).count();
+    u32::try_from(passed).unwrap_or(u32::MAX)
 }

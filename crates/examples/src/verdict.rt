@@ -1,4 +1,5 @@
 // What comes of a case: the answer is the expected one, or the first thing that differs.
+use crate::cases::number_in;
 use release::Refusal;
 use std::fmt;
 
@@ -42,7 +43,7 @@ impl fmt::Display for What {
     }
 }
 
-// What differs, with the number that the answer has there and the one that is expected. Bytes are numbers here, too.
+// What differs, with the number that the answer has there and the one that is expected.
 #[derive(Clone, Copy, Debug, PartialEq, Eq)]
 pub struct Difference {
     pub what: What,
@@ -58,7 +59,14 @@ impl fmt::Display for Difference {
 
 pub type Verdict = Result<(), Difference>;
 
-pub(crate) fn same(what: What, got: usize, expected: usize) -> Verdict {
+// Compares numbers, bytes or truths: a difference tells each as a number, a truth as 1 or 0.
+pub(crate) fn same<Got: Into<usize>, Wanted: Into<usize>>(
+    what: What,
+    got: Got,
+    expected: Wanted,
+) -> Verdict {
+    let got = got.into();
+    let expected = expected.into();
     if got == expected {
         return Ok(());
     }
@@ -69,42 +77,50 @@ pub(crate) fn same(what: What, got: usize, expected: usize) -> Verdict {
     })
 }
 
-// Compares a refusal with the expected number, 0 where none is expected, and side.
-pub(crate) fn same_refusal<R: Refusal>(refusal: R, number: usize, side: usize) -> Verdict {
-    same(What::Accepted, 0, usize::from(number == 0))?;
-    same(What::Number, usize::from(refusal.number()), number)?;
-    same(What::Side, usize::from(refusal.side()), side)
+// A refusal as a case expects it: a number and a side as the data file has them, and no enum, since each call has one of its own.
+#[derive(Clone, Copy, Debug, PartialEq, Eq)]
+pub struct Expected {
+    pub number: usize,
+    pub side: usize,
 }
 
-// What a call answers, if it is accepted as expected; none where it is refused as expected. A case has its expected refusal as a number and a
-// side, as vectors outside this repository do: no enum of this repository tells how they count.
+// The refusal that a case expects, by two of its fields: none where the number is 0, since the call is then to be accepted.
+pub(crate) fn refusal_in(number: &[u8], side: &[u8]) -> Option<Expected> {
+    let number = number_in(number);
+    let side = number_in(side);
+    (number != 0).then_some(Expected { number, side })
+}
+
+// What a call answers, if it is accepted as expected; none where it is refused as expected.
 pub(crate) fn same_outcome<A: Drop, R: Refusal>(
     answer: Result<A, R>,
-    number: usize,
-    side: usize,
+    expected: Option<Expected>,
 ) -> Result<Option<A>, Difference> {
-    match answer {
-        Ok(value) => {
-            same(What::Number, 0, number)?;
-            Ok(Some(value))
-        }
-        Err(refusal) => {
-            same_refusal(refusal, number, side)?;
+    match (answer, expected) {
+        (Ok(value), None) => Ok(Some(value)),
+        (Ok(_), Some(expected)) => Err(Difference {
+            what: What::Number,
+            got: 0,
+            expected: expected.number,
+        }),
+        (Err(_), None) => Err(Difference {
+            what: What::Accepted,
+            got: 0,
+            expected: 1,
+        }),
+        (Err(refusal), Some(expected)) => {
+            same(What::Number, refusal.number(), expected.number)?;
+            same(What::Side, refusal.side(), expected.side)?;
             Ok(None)
         }
     }
-}
-
-// Compares the bytes at a place of an answer and of what is expected.
-pub(crate) fn same_byte(what: What, got: u8, expected: u8) -> Verdict {
-    same(what, usize::from(got), usize::from(expected))
 }
 
 // Compares the lengths, and then byte by byte.
 pub(crate) fn same_bytes(got: &[u8], expected: &[u8]) -> Verdict {
     same(What::Length, got.len(), expected.len())?;
     for (place, (left, right)) in got.iter().zip(expected.iter()).enumerate() {
-        same_byte(What::Byte(place), *left, *right)?;
+        same(What::Byte(place), *left, *right)?;
     }
     Ok(())
 }

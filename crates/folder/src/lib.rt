@@ -16,6 +16,7 @@ pub const RELEASE_BYTES: usize = 36839;
 
 // Reads the file's bytes to the start of `room`, as many as it holds, and answers those bytes. A missing file counts as empty, and a read
 // that fails as the end of the file. A name is bytes and no `&str`, so that any can be asked for: one that is not UTF-8 is no file's.
+// No clause says which bytes of `room` these are: lent on as the result, `room` has no value after the call that a clause could name.
 pub fn read_file<'a>(rt: &impl Files, name: &[u8], room: &'a mut [u8]) -> &'a [u8]
     ensures { length result.now ≤ length room.old }
 {

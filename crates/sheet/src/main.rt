@@ -11,7 +11,8 @@ use std::io;
 // releases, and are refused 42 as all of it is.
 const SIGNATURES_BYTES: usize = 68575;
 
-// As the program `station` but for the call and a size: one function for both could promise nothing, since no clause speaks of files.
+// The program `station` differs in the call and a size alone. One function for both would be public and promise nothing, since no clause
+// speaks of what is printed, and each public function of this repository promises something. The memory is arrays: there is no heap.
 fn main(rt: HostRuntime) -> io::Result<()> {
     let mut first = [0u8; RELEASE_BYTES];
     let mut second = [0u8; RELEASE_BYTES];

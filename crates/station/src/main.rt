@@ -9,6 +9,7 @@ use std::io;
 // One byte more than the longest accepted signature, of 1,023 names and 32 roles: a longer one is refused 17 by its length.
 const SIGNATURE_BYTES: usize = 1056;
 
+// The memory is arrays: there is no heap.
 fn main(rt: HostRuntime) -> io::Result<()> {
     let mut first = [0u8; RELEASE_BYTES];
     let mut second = [0u8; RELEASE_BYTES];
