@@ -1,5 +1,5 @@
 -- The whole file: what is known after the header, and the answer in each case.
-use mathlib.Core.Path.{◌≡◌, refl, ◌∙◌}
+use mathlib.Core.Path.{◌≡◌, refl, sym, ◌∙◌}
 use mathlib.Core.Bool.{Bool, true, false, not, true≢false}
 use mathlib.Core.List.{List}
 use Prim.Native.Nat.{ℕ, zero, suc, ◌≤◌, ◌<◌}
@@ -9,7 +9,7 @@ use lib.Dec.{ltb}
 use lib.ListN.{length}
 use Rattle.el.specs.Lists.{pick}
 use Rattle.el.proofs.Tests.{Tells}
-use Rattle.std.specs.Prelude.{Ok, Err}
+use Rattle.std.specs.Prelude.{Result, Ok, Err}
 use Rattle.release.specs.declared.Counts.{Counts}
 use Rattle.release.specs.declared.refusals.FileRefusal.{FileRefusal}
 use Rattle.release.specs.declared.refusals.FileRefusal.TheVariants.{DefinedConjunct}
@@ -77,38 +77,61 @@ module _ (s : List ℕ) (t : List table.Row) where
   unfolding fault
   refuses_header e is = refused_by (header_fault s) (counts_in s) e is (λ some. first_some (header_fault s) _ some)
 
-  module _ (h : header_fault s ≡ 0) where
-    pub ready : Blank t → Ready (names_of s) (roles_of s) (count_of s) s t
-    ready b = let v = header_sound s h in record
-        { long = v.long; names = v.names; roles = v.roles; count = v.count; rows = omega (arith, b.rows, v.names); blank = λ x l. b.blank x (omega (arith, v.names)) }
+  -- behind a header that was accepted, with the counts that it gave
+  module _ {c : Counts} (told : Ok c ≡ answer 1 (header_fault s) (counts_in s)) where
+    no_fault : header_fault s ≡ 0
+    no_fault = (is_accepted 1 (header_fault s) (counts_in s) c told).0
+
+    counts_same : c ≡ counts_in s
+    counts_same = (is_accepted 1 (header_fault s) (counts_in s) c told).1
+
+    abbrev HasRead : Result Unit FileRefusal → Type 0
+    HasRead = AxiomsRead (names_of s) (roles_of s) (count_of s) s t
+
+    pub ready : Blank t → Ready c.names c.roles c.axioms s t
+    ready b =
+        let v = header_sound s no_fault in
+        let is : Ready (names_of s) (roles_of s) (count_of s) s t = record
+        { long = v.long; names = v.names; roles = v.roles; count = v.count; rows = omega (arith, b.rows, v.names); blank = λ x l. b.blank x (omega (arith, v.names)) } in
+        rw counts_same is
 
     abbrev axiom_number : ℕ
     axiom_number = axioms_fault (width_of s) (names_of s) (roles_of s) (count_of s) 0 s (first_place s)
 
-    pub refuses_axioms : (e : FileRefusal) → AxiomsRead (names_of s) (roles_of s) (count_of s) s t (Err e) → ReleaseRead s t (Err e)
+    pub refuses_axioms : (e : FileRefusal) → AxiomsRead c.names c.roles c.axioms s t (Err e) → ReleaseRead s t (Err e)
     unfolding fault
-    refuses_axioms e read = refused_by axiom_number tt e read.fault (λ some. rw (fault, h) (first_some axiom_number _ some))
+    refuses_axioms e given =
+        let read : HasRead (Err e) = rw counts_same at given in refused_by axiom_number tt e read.fault (λ some. rw (fault, no_fault) (first_some axiom_number _ some))
 
-    module _ (read : AxiomsRead (names_of s) (roles_of s) (count_of s) s t (Ok tt)) where
+    module _ (given : AxiomsRead c.names c.roles c.axioms s t (Ok tt)) where
+      read : HasRead (Ok tt)
+      read = rw counts_same at given
+
       none : axiom_number ≡ 0
       none = (is_accepted 1 axiom_number tt tt read.fault).0
 
-      pub read_shaped : Shaped (names_of s) s t
-      read_shaped = shaped (roles_of s) (read.decoded none) none (header_sound s h).long
+      is_shaped : Shaped (names_of s) s t
+      is_shaped = shaped (roles_of s) (read.decoded none) none (header_sound s no_fault).long
 
-      conjunct : (b : Bool) → Tells b (SomePartDefined (names_of s) s t) → b ≡ conjunct_defined (axioms_of s)
-      conjunct b tells = defined_parts (roles_of s) (read.decoded none) none (header_sound s h).long b tells
+      pub read_shaped : Shaped c.names s t
+      read_shaped = rw counts_same is_shaped
+
+      conjunct : (b : Bool) → Tells b (SomePartDefined c.names s t) → b ≡ conjunct_defined (axioms_of s)
+      conjunct b tells = defined_parts (roles_of s) (read.decoded none) none (header_sound s no_fault).long b (rw counts_same at tells)
 
       last : fault s ≡ pick (conjunct_defined (axioms_of s)) 15 0
       unfolding fault
-      last = rw (fault, h, none)
+      last = rw (fault, no_fault, none)
 
-      pub refuses_15 : (b : Bool) → Tells b (SomePartDefined (names_of s) s t) → b ≡ true → ReleaseRead s t (Err DefinedConjunct)
+      pub refuses_15 : (b : Bool) → Tells b (SomePartDefined c.names s t) → b ≡ true → ReleaseRead s t (Err DefinedConjunct)
       refuses_15 b tells e = refused_by {A = Unit {0}} 15 tt DefinedConjunct refl (λ some. last ∙ rw (← conjunct b tells, e))
 
-      pub accepts_file : (b : Bool) → Tells b (SomePartDefined (names_of s) s t) → b ≡ false → ReleaseRead s t (Ok (counts_in s))
+      whole : conjunct_defined (axioms_of s) ≡ false → ReleaseRead s t (Ok (counts_in s))
       unfolding checked
-      accepts_file b tells e = let z : fault s ≡ 0 = last ∙ rw (← conjunct b tells, e) in record { answer = accepts 1 (fault s) (counts_in s) z; decoded = λ w. read.decoded none }
+      whole e = let z : fault s ≡ 0 = last ∙ rw e in record { answer = accepts 1 (fault s) (counts_in s) z; decoded = λ w. read.decoded none }
+
+      pub accepts_file : (b : Bool) → Tells b (SomePartDefined c.names s t) → b ≡ false → ReleaseRead s t (Ok c)
+      accepts_file b tells e = rw counts_same (whole (sym (conjunct b tells) ∙ e))
 
 -- what a release that was read is
 module _ {s : List ℕ} {t : List table.Row} where

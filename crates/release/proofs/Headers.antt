@@ -55,38 +55,57 @@ pub record Started (s : List ℕ) (v : Version) : Type 0 where
   pub marked : starts_with mark s ≡ true
   pub version : width v ≡ version_of s
 
-pub started : (s : List ℕ) (v : Version) {b : Bool} {k : ℕ} → header_length 1 ≤ length s → b ≡ pointwise eqb mark (take (length mark) s) → b ≡ true → k ≡ version_of s → width v ≡ k → Started s v
-started s v l h e i j = record { long = l; marked = marked s h e; version = j ∙ i }
+pub started : (s : List ℕ) (v : Version) {b : Bool} {k least : ℕ} → least ≡ header_length 1 → least ≤ length s → b ≡ pointwise eqb mark (take (length mark) s) → b ≡ true
+    → k ≡ version_of s → width v ≡ k → Started s v
+started s v least l h e i j = record { long = rw least at l; marked = marked s h e; version = j ∙ i }
+
+-- and holds its whole header
+pub record Headed (s : List ℕ) (v : Version) : Type 0 where
+  pub start : Started s v
+  pub whole : header_length (width v) ≤ length s
+
+pub headed : (s : List ℕ) (v : Version) {b : Bool} {k least most : ℕ} → least ≡ header_length 1 → least ≤ length s → b ≡ pointwise eqb mark (take (length mark) s) → b ≡ true
+    → k ≡ version_of s → width v ≡ k → most ≡ header_length (width v) → most ≤ length s → Headed s v
+headed s v least l h e i j most m = record { start = started s v least l h e i j; whole = rw most at m }
 
 module _ (s : List ℕ) (v : Version) (h : Started s v) where
   known : is_version (version_of s) ≡ true
   known = version_known s v h.version
 
-  pub width_is : width_of s ≡ width v
+  width_is : width_of s ≡ width v
   width_is = version_width s v h.version
 
   pub header_short : length s < header_length (width v) → header_fault s ≡ 1
   unfolding header_fault
   header_short l = simp (header_fault, le-ltb _ _ h.long, h.marked, known, width_is, lt-ltb _ _ l)
 
-  module _ (whole : header_length (width v) ≤ length s) where
-    pub has_header : HasHeader (width v) s
-    has_header = record { is = sym width_is; inside = whole }
+module _ (s : List ℕ) (v : Version) (h : Headed s v) where
+  marked_is : starts_with mark s ≡ true
+  marked_is = h.start.marked
 
-    pub header_4 : most_names_of (width v) < names_of s → header_fault s ≡ 4
+  known_is : is_version (version_of s) ≡ true
+  known_is = known s v h.start
+
+  same_width : width_of s ≡ width v
+  same_width = width_is s v h.start
+
+  pub has_header : HasHeader (width v) s
+  has_header = record { is = sym same_width; inside = h.whole }
+
+  pub header_4 : most_names_of (width v) < names_of s → header_fault s ≡ 4
+  unfolding header_fault
+  header_4 l = simp (header_fault, le-ltb _ _ h.start.long, marked_is, known_is, same_width, le-ltb _ _ h.whole, lt-ltb _ _ l)
+
+  module _ (names : names_of s ≤ most_names_of (width v)) where
+    pub header_5 : most_roles < roles_of s → header_fault s ≡ 5
     unfolding header_fault
-    header_4 l = simp (header_fault, le-ltb _ _ h.long, h.marked, known, width_is, le-ltb _ _ whole, lt-ltb _ _ l)
+    header_5 l = simp (header_fault, le-ltb _ _ h.start.long, marked_is, known_is, same_width, le-ltb _ _ h.whole, le-ltb _ _ names, lt-ltb _ _ l)
 
-    module _ (names : names_of s ≤ most_names_of (width v)) where
-      pub header_5 : most_roles < roles_of s → header_fault s ≡ 5
+    module _ (roles : roles_of s ≤ most_roles) where
+      pub header_6 : names_of s < count_of s → header_fault s ≡ 6
       unfolding header_fault
-      header_5 l = simp (header_fault, le-ltb _ _ h.long, h.marked, known, width_is, le-ltb _ _ whole, le-ltb _ _ names, lt-ltb _ _ l)
+      header_6 l = simp (header_fault, le-ltb _ _ h.start.long, marked_is, known_is, same_width, le-ltb _ _ h.whole, le-ltb _ _ names, le-ltb _ _ roles, lt-ltb _ _ l)
 
-      module _ (roles : roles_of s ≤ most_roles) where
-        pub header_6 : names_of s < count_of s → header_fault s ≡ 6
-        unfolding header_fault
-        header_6 l = simp (header_fault, le-ltb _ _ h.long, h.marked, known, width_is, le-ltb _ _ whole, le-ltb _ _ names, le-ltb _ _ roles, lt-ltb _ _ l)
-
-        pub header_none : count_of s ≤ names_of s → header_fault s ≡ 0
-        unfolding header_fault
-        header_none l = simp (header_fault, le-ltb _ _ h.long, h.marked, known, width_is, le-ltb _ _ whole, le-ltb _ _ names, le-ltb _ _ roles, le-ltb _ _ l)
+      pub header_none : count_of s ≤ names_of s → header_fault s ≡ 0
+      unfolding header_fault
+      header_none l = simp (header_fault, le-ltb _ _ h.start.long, marked_is, known_is, same_width, le-ltb _ _ h.whole, le-ltb _ _ names, le-ltb _ _ roles, le-ltb _ _ l)

@@ -5,7 +5,7 @@ ghost use Rattle.release.specs.Tables.{Shaped, Conjunctive, PartDefined, SomePar
 use crate::kinds::Kind;
 use crate::terminology::Terminology;
 
-// Whether a conjunct of the name is itself defined by a conjunction.
+// Whether a conjunct of the name is itself defined by a conjunction. `names` is said for the clause alone: it bounds the conjuncts there.
 fn part_defined(terminology: &Terminology, names: usize, name: usize) -> bool
     requires { Conjunctive names terminology.now.file.now terminology.now.table.now name }
     ensures { Tells result (PartDefined terminology.now.file.now terminology.now.table.now name) }

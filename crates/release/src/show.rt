@@ -46,7 +46,8 @@ fn place_in(terminology: &Terminology, side: u8, names: usize, name: usize) -> O
 }
 
 // Where the axiom that `show_axiom` shows stands. Where there is none, C is told a part of no bytes. The side is a number and any number is
-// answered, as C may pass any: a type would ask more of callers.
+// answered, as C may pass any: a type would ask more of callers. Both files are opened by the same steps here: `read_releases` of crate
+// meanings lies above this crate, and refuses two that do not agree, which these need not.
 pub fn axiom_place(first: &[u8], second: &[u8], side: usize, name: ConceptName) -> Place
     ensures { result ≡ shown_place first.now second.now side name.0 }
 {

@@ -17,7 +17,7 @@ impl Table {
 }
 
 // What a name's axiom says, as far as it has one: its kind, its role, its filler as a node and the place of its tail in the file. The role and
-// the filler are 0 where there is none, and stand beside the kind: the searches look at a name's role before its kind, and a row is 8 bytes.
+// the filler are 0 where there is none. They stand beside the kind and not in it, since `successor` looks at a name's role before its kind.
 #[derive(Clone, Copy, Debug, PartialEq, Eq)]
 pub struct Row {
     pub kind: Option<Kind>,

@@ -10,6 +10,8 @@ use crate::number::Version;
 use crate::parts::Parts;
 use crate::table::Row;
 
+// A file beside its table. That a name has a row (`HasRow`) is asked in each contract, name by name: a table of any length can stand here,
+// and the names come from loops and from the file.
 #[derive(Clone, Copy, Debug, PartialEq, Eq)]
 pub struct Terminology<'a> {
     pub file: &'a [u8],
@@ -90,7 +92,8 @@ impl<'a> Terminology<'a> {
         usize::from(self.file[self.tail(name)])
     }
 
-    // A conjunct of a conjunction: it stands `index` names after the byte of their count.
+    // A conjunct of a conjunction: it stands `index` names after the byte of their count. No code of the library calls it, since `parts` gives
+    // the conjuncts one after the other; it is kept as it is public.
     pub fn part(&self, name: usize, index: usize) -> usize
         requires { HasPart self.now.file.now self.now.table.now name index }
         ensures { result ≡ part_at self.now.file.now self.now.table.now name index }

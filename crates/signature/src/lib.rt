@@ -102,7 +102,7 @@ impl Refusal for SignatureRefusal {
 }
 
 // The refusal of a signature for a release of these numbers of names and roles. Its length is compared by parts, since the sum
-// of any two numbers may not fit.
+// of any two numbers may not fit. The bytes and the numbers are no `LentSignature` here, of which it is known that it is long enough.
 pub fn signature_fault(signature: &[u8], names: usize, roles: usize) -> Result<(), SignatureRefusal>
     ensures { told signature_refusal result ≡ answer 0 (signature_fault names roles signature.now) tt }
 {

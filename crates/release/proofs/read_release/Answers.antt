@@ -1,30 +1,23 @@
 -- Header, axioms and conjuncts are checked in this order: the first refusal among them is the one of the definition.
 use Rattle.release.proofs.Checks.{ready, refuses_header, refuses_axioms, read_shaped, refuses_15, accepts_file}
-use Rattle.release.proofs.Refusing.{is_accepted, passed}
+use Rattle.release.proofs.Refusing.{passed}
 use Rattle.release.proofs.read_release.Goals as goal
 
 pub returns-in_err-counts : goal.returns-in_err-counts
 returns-in_err-counts c = rw (passed _ c.in_err-counts.field-0.0 c.from_residual.ensures.1) (refuses_header _ _ _ c.in_err-counts.ensures)
 
 pub read_axioms-requires : goal.read_axioms-requires
-read_axioms-requires c = let v = is_accepted 1 _ _ c.in_ok-counts.counts c.in_ok-counts.ensures in rw v.1 (ready _ _ v.0 c.requires)
+read_axioms-requires c = ready _ _ c.in_ok-counts.ensures c.requires
 
 pub returns-in_err-read_axioms : goal.returns-in_err-read_axioms
-returns-in_err-read_axioms c =
-    let v = is_accepted 1 _ _ c.in_ok-counts.counts c.in_ok-counts.ensures in
-    rw (passed _ c.in_err-read_axioms.field-0.0 c.from_residual-in_err-read_axioms.ensures.1) (refuses_axioms _ _ v.0 _ (rw v.1 at c.in_err-read_axioms.ensures))
+returns-in_err-read_axioms c = rw (passed _ c.in_err-read_axioms.field-0.0 c.from_residual-in_err-read_axioms.ensures.1)
+    (refuses_axioms _ _ c.in_ok-counts.ensures _ c.in_err-read_axioms.ensures)
 
 pub some_part_defined-requires : goal.some_part_defined-requires
-some_part_defined-requires c =
-    let v = is_accepted 1 _ _ c.in_ok-counts.counts c.in_ok-counts.ensures in
-    rw v.1 (read_shaped _ _ v.0 (rw v.1 at c.in_ok-read_axioms.ensures))
+some_part_defined-requires c = read_shaped _ _ c.in_ok-counts.ensures c.in_ok-read_axioms.ensures
 
 pub returns-then-some_part_defined : goal.returns-then-some_part_defined
-returns-then-some_part_defined c =
-    let v = is_accepted 1 _ _ c.in_ok-counts.counts c.in_ok-counts.ensures in
-    refuses_15 _ _ v.0 (rw v.1 at c.in_ok-read_axioms.ensures) _ (rw v.1 at c.some_part_defined.ensures) c.if-some_part_defined.true
+returns-then-some_part_defined c = refuses_15 _ _ c.in_ok-counts.ensures c.in_ok-read_axioms.ensures _ c.some_part_defined.ensures c.if-some_part_defined.true
 
 pub returns : goal.returns
-returns c =
-    let v = is_accepted 1 _ _ c.in_ok-counts.counts c.in_ok-counts.ensures in
-    rw v.1 (accepts_file _ _ v.0 (rw v.1 at c.in_ok-read_axioms.ensures) _ (rw v.1 at c.some_part_defined.ensures) c.if-some_part_defined.false)
+returns c = accepts_file _ _ c.in_ok-counts.ensures c.in_ok-read_axioms.ensures _ c.some_part_defined.ensures c.if-some_part_defined.false
