@@ -2,6 +2,7 @@
 --   tells_has                          a test of a column;  or_added: a line with more bits in a byte
 --   join_none, join_more, join_end     a row joined to a line, byte after byte
 --   out_start .. out_none              the next column outside a line
+--   row_has, has_row                   the columns of a line that is a row are its marks
 --   missing_further                    a byte of a row set where a line has nothing
 --   column_few, walk_on                the columns of a line, given one after the other;  outside_next, outside_on: those of a row outside a line
 --   empty_zeros                        a line of zeros has no column
@@ -89,6 +90,13 @@ module _ {q : Square} {w : List ℕ} {x : ℕ} {k : List ℕ} {from : ℕ} where
 
   pub out_none : {y : ℕ} → InBefore q w x k from y → q.names < y → NextOutside q w x k from None
   out_none n l = record { each = λ z h b m. n.has z h (omega arith) b m }
+
+-- a column of a line that is a row
+pub row_has : {q : Square} {w k : List ℕ} {x y : ℕ} → RowOf q w x k → y ≤ q.names → Marked q w x y → Has k y
+row_has {q} {x = x} {y = y} row h m = record { is = rw (row.byte (y / 8) (omega arith), place_column q x y) m.is }
+
+pub has_row : {q : Square} {w k : List ℕ} {x y : ℕ} → RowOf q w x k → y ≤ q.names → Has k y → Marked q w x y
+has_row {q} {x = x} {y = y} row h m = record { is = rw (← place_column q x y, ← row.byte (y / 8) (omega arith)) m.is }
 
 -- what a line has not, marked in a row
 pub missing_further : {q : Square} {u w : List ℕ} {k : List ℕ} {x target : ℕ} (i : ℕ) → Grows (Missing k x) q u w → Room q u → x ≤ q.names → i ≤ q.names / 8 → target ≡ place q x 0

@@ -8,18 +8,21 @@
 --   pass_changed, pass_unchanged                           two passes, by whether the second changed anything
 --   turn_both, turn_skipped                                the same for a turn of a loop; turns_none, turns_to, turns_end: no turn
 --   pass_closed                                            a pass that changed nothing ends the passes
+--   put_new, absorb_pass                                   a mark that was not there is new; such a mark, and then the whole row
+--   passes_left, pass_less                                  passes end: one that finds something leaves fewer bits unset, and one that finds nothing is the last
 -- Not here: laws of single cells (Squares).
 use mathlib.Core.Path.{◌≡◌, refl, ◌∙◌}
 use mathlib.Core.Bool.{Bool, true, false, ◌||◌}
 use mathlib.Core.List.{List}
 use mathlib.Core.Logic.{inl, inr}
-use Prim.Native.Nat.{ℕ, ◌+◌, ◌/◌, ◌≤◌, ◌<◌}
+use Prim.Native.Nat.{ℕ, ◌+◌, ◌*◌, ◌/◌, ◌≤◌, ◌<◌}
 use lib.ListN.{get_or}
 use native.Mathlib.Omega.{arith}
 use native.Mathlib.Decide.{ℕ_discrete, dec_lt}
 use Rattle.el.proofs.Tests.{Tells}
+use Rattle.el.specs.Lists.{pick}
 use Rattle.marks.specs.declared.Square.{Square}
-use Rattle.marks.specs.Squares.{place, Room, Marked, Unmarked, Frame, Put, Kept, Within, First, Nowhere, NotMarked, unset}
+use Rattle.marks.specs.Squares.{place, Room, Marked, Unmarked, Frame, Put, Kept, unset}
 use Rattle.marks.specs.Passes.{Grows, none, more, Pass, Closed, Below, Due, AllGood, FromRow}
 use Rattle.marks.proofs.Squares.{not_true, not_false, refuted, frame_same, frame_further, frame_room, hand_byte}
 use Rattle.marks.proofs.Bits.{or_at}
@@ -160,6 +163,14 @@ module _ {Rule : List ℕ → ℕ → ℕ → Type 0} {q : Square} where
   pub closed_further : {D : List ℕ → Type 0} {u w v : List ℕ} → Grows Rule q u w → Closed Rule q D w v → Closed Rule q D u v
   closed_further g c = record { grows = grows_further g c.grows; done = c.done }
 
+abbrev pub passes_left : List ℕ → Bool → ℕ
+passes_left w r = 2 * unset w + pick r 1 0
+
+pub pass_less : {R S : List ℕ → ℕ → ℕ → Type 0} {q : Square} {D : List ℕ → Type 0} {w u v : List ℕ} {t : Bool} (r : Bool) → t ≡ true → Grows R q w u → Pass S q D u v r
+    → passes_left v r < passes_left w t
+pass_less true e g p = rw e (omega (arith, p.fewer refl, unset_falls g))
+pass_less false e g p = rw e (omega (arith, unset_falls p.grows, unset_falls g))
+
 -- the same growth by another rule, which allows what the first one does
 pub grows_as : {R S : List ℕ → ℕ → ℕ → Type 0} {q : Square} {w v : List ℕ} → ((u : List ℕ) (x y : ℕ) → Grows R q w u → x ≤ q.names → y ≤ q.names → R u x y → S u x y) → Grows R q w v → Grows S q w v
 grows_as f none = none
@@ -180,27 +191,17 @@ hand_further {q} {w = w} {from = from} {to = to} {source = source} {target = tar
     let b = hand_byte q w from to i source target (room_stays g room) f t l s e in
     more w _ g b.0 (λ x y h k m. elim (b.1 x y h k m) [ inl z ↦ inl z | inr z ↦ inr (record { row = z.0; marked = z.1 }) ])
 
--- the marks of a row put in another one, column after column
-pub record HasMark (q : Square) (a x y : ℕ) (w : List ℕ) : Type 0 where
-  pub marked : Marked q w a y → Marked q w x y
-
--- columns of a row that are looked at one after the other, those that are marked
-pub marks_more : {q : Square} {a z k y : ℕ} {w v : List ℕ} {r : Bool} → First (Marked q w a) (NotMarked q w a) q.names k y → Put q z y w v r → r ≡ false
-    → Below (HasMark q a z) k w → Below (HasMark q a z) (y + 1) v
-marks_more {q} {a} {z} {k} {y} {w} n p e b = below_more (rw (p.same e) to) (record { marked = λ m. p.there })
-  where
-    to : Below (HasMark q a z) y w
-    to = record { at = λ i l. elim (dec_lt i k) [ yes h ↦ b.at i h | no h ↦ record { marked = λ m. absurd (n.before i (omega arith) l m) } ] }
-
-pub marks_end : {q : Square} {a z k : ℕ} {w : List ℕ} → Nowhere (NotMarked q w a) q.names k → Below (HasMark q a z) k w → Within q a z w
-marks_end {k = k} n b = record { marked = λ y h m. elim (dec_lt y k) [ yes l ↦ (b.at y l).marked m | no l ↦ absurd (n.each y (omega arith) h m) ] }
+-- what a cell that was not marked tells when it is marked
+pub put_new : {q : Square} {x y : ℕ} {w v : List ℕ} {r : Bool} → Put q x y w v r → (Marked q w x y → ⊥) → r ≡ true
+put_new {r = true} p n = refl
+put_new {r = false} p n = absurd (n (rw (← p.same refl) p.there))
 
 -- one mark that is new, and then the whole row
-pub absorb_pass : {q : Square} {D : List ℕ → Type 0} {a z y : ℕ} {t u w v : List ℕ} {r : Bool} → u ≡ t → Marked q u a y → Put q z y u w r → r ≡ true → Grows (FromRow q a z) q w v
-    → Pass (FromRow q a z) q D t v true
-absorb_pass {q} {D} {a} {z} {y} {w = w} {v = v} e m p f g = rw (← e) (record {
+pub absorb_pass : {q : Square} {D : List ℕ → Type 0} {a z y : ℕ} {u w v : List ℕ} {r : Bool} → Marked q u a y → (Marked q u z y → ⊥) → Put q z y u w r → Grows (FromRow q a z) q w v
+    → Pass (FromRow q a z) q D u v true
+absorb_pass m n p g = record {
   grows = grows_further (put_grows p (record { row = refl; marked = m })) g;
-  fewer = λ h. omega (arith, p.less f, unset_falls g);
+  fewer = λ h. omega (arith, p.less (put_new p n), unset_falls g);
   same = λ h. not_true h;
   done = λ h. not_true h;
-})
+}

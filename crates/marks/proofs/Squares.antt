@@ -27,7 +27,7 @@ use Rattle.el.proofs.Tests.{Tells}
 use Rattle.std.specs.Prelude.{Some, None}
 use Rattle.marks.specs.declared.Square.{Square}
 use Rattle.marks.specs.Squares.{bit, width, span, place, behind, Area, Lent, Small, most_names, most_cells, farthest, Place, Room, Marked, Unmarked, Apart, Behind, Touches}
-use Rattle.marks.specs.Squares.{Frame, Extends, Put, Hints, Kept, NextUnmarked}
+use Rattle.marks.specs.Squares.{Frame, Extends, Put, Hints, HintSquare, Kept, NextUnmarked}
 use Rattle.marks.specs.Memory.{size, Zeroed}
 use Rattle.marks.specs.Lines.{RowOf}
 use Rattle.marks.proofs.Bits.{bit_same, bit_other, high_bits, bit_of_zero, or_at, or_stays, or_has, or_only, or_fewer, or_less}
@@ -219,9 +219,9 @@ roomy n {r} e h =
     let l : 5 * width n ≤ suc n = omega arith in
     omega (arith, mul-le-mul {n₁ = suc n} {m₁ = 5 * width n} {n₂ = suc n} {m₂ = suc n} (omega arith) l, mul_left_comm 5 (suc n) (width n))
 
-pub lent_behind : {q : Square} {w : List ℕ} (k : ℕ) → 1 ≤ k → k ≤ 4 → Lent q w → Behind q (behind q k)
+pub lent_behind : {q : Square} (k : ℕ) → 1 ≤ k → k ≤ 4 → 5 * span q.names ≤ size q.names → Behind q (behind q k)
 unfolding behind
-lent_behind {q} k l h lent = record { same = refl; after = omega (arith, mul-le-mul_right (span q.names) l); inside = omega (arith, mul-le-mul_right (span q.names) h, lent.roomy) }
+lent_behind {q} k l h roomy = record { same = refl; after = omega (arith, mul-le-mul_right (span q.names) l); inside = omega (arith, mul-le-mul_right (span q.names) h, roomy) }
 
 pub lent_room : {q : Square} {w : List ℕ} (k : ℕ) → k ≤ 4 → Lent q w → Room (behind q k) w
 unfolding behind
@@ -245,8 +245,9 @@ pub row_bytes : (n : ℕ) {r : ℕ} → r ≡ width n → r ≡ n / 8 + 1
 unfolding width
 row_bytes n e = e
 
-pub byte_inside : {q : Square} {w : List ℕ} {x r i e : ℕ} (n : ℕ) → Room q w → q.names ≡ n → x ≤ n → e ≡ width n → i < e → Place q x 0 r → r + i < length w
-byte_inside {i = i} n room s h e l p = (row_inside {i = i} room (omega arith) (omega (arith, row_bytes n e)) p).0
+-- the end of a row is in the memory
+pub row_ends : {q : Square} {w : List ℕ} {x r : ℕ} (n : ℕ) → Room q w → q.names ≡ n → x ≤ n → Place q x 0 r → r + width n ≤ length w
+row_ends n room s h p = omega (arith, (row_inside {i = n / 8} room (omega arith) (omega arith) p).0, row_bytes n refl)
 
 -- the bytes of a row, taken from the memory
 pub row_taken : {q : Square} {w : List ℕ} {x r e : ℕ} → Room q w → x ≤ q.names → Place q x 0 r → e ≡ width q.names → RowOf q w x (take (r + e - r) (drop r w))
@@ -449,16 +450,11 @@ rows_filled {q} {w} k room e = (touches, record { none = λ x y h l m. zero_unma
     }
 
 -- the k-th square of hints
-module _ {q p : Square} {w : List ℕ} {k : ℕ} (area : Area q w) (roomy : 5 * span q.names ≤ size q.names) (few : k ≤ 4) (is : p ≡ behind q k) where
-  pub hint_room : Room p w
-  hint_room = rw is (lent_room k few (record { area = area; roomy = roomy }))
-
-  pub hint_behind : 1 ≤ k → q.base + span q.names ≤ p.base
-  hint_behind l = rw is (lent_behind k l few (record { area = area; roomy = roomy })).after
-
-  pub hint_kept : {v : List ℕ} → 1 ≤ k → Hints p w v → Kept q w v
-  hint_kept l h = hints_kept (rw is (lent_behind k l few (record { area = area; roomy = roomy }))) h
-
-pub hint_names : (q : Square) (k : ℕ) {p : Square} → p ≡ behind q k → p.names ≡ q.names
+pub hint_square : {q p : Square} {k : ℕ} → k ≤ 4 → 5 * span q.names ≤ size q.names → p ≡ behind q k → HintSquare q k p
 unfolding behind
-hint_names q k e = ap (λ (z : Square). z.names) e
+hint_square {q} {k = k} few roomy is = record {
+  is = is;
+  names = ap (λ (z : Square). z.names) is;
+  room = λ w area. rw is (lent_room k few (record { area = area; roomy = roomy }));
+  behind = λ l. rw is (lent_behind k l few roomy);
+}

@@ -6,6 +6,7 @@
 --   Marked q w x y     the cell is marked;  NotMarked q w x y: it is not;  Unmarked q w: no cell is
 --   Touches q w v      v is w but for bytes of the rows of q;  Frame q w v: but for bytes lent for q
 --   Area q w           the memory lent for q is in w;  Lent q w: and has room for four squares of hints;  behind q k: the k-th of these
+--   HintSquare q k p   p is this square, and the memory lent for q has room for it
 --   Apart p q          no byte of the rows of p is lent for q;  Behind q p: the rows of p are lent for q, behind the rows of q
 --   unset w            the number of bits that are no mark: it falls with each mark, so marking ends
 --   Extends q w v      v is w but for bits of q that w has not: marks, or hints behind its rows
@@ -86,6 +87,13 @@ pub record Area (q : Square) (w : List ℕ) : Type 0 where
 pub record Lent (q : Square) (w : List ℕ) : Type 0 where
   pub area : Area q w
   pub roomy : 5 * span q.names ≤ size q.names
+
+-- the k-th square of hints of q, for which there is room in the memory lent for q
+pub record HintSquare (q : Square) (k : ℕ) (p : Square) : Type 0 where
+  pub is : p ≡ behind q k
+  pub names : p.names ≡ q.names
+  pub room : (w : List ℕ) → Area q w → Room p w
+  pub behind : 1 ≤ k → Behind q p
 
 pub record Touches (q : Square) (w v : List ℕ) : Type 0 where
   pub long : length v ≡ length w

@@ -5,8 +5,8 @@ ghost use Rattle.marks.specs.Squares.{Room, Area};
 ghost use Rattle.marks.specs.Lines.{Spans};
 ghost use Rattle.marks.specs.Columns.{Walkable, Walks, Begins, columns_left, ColumnGiven, WalksOutside, GoesOutside, outside_from, outside_left, OutsideGiven};
 
+use crate::Square;
 use crate::line::next;
-use crate::{Square, is_roomy};
 
 // What is left of a line: the columns from `next` on, up to `names`.
 #[derive(Drop)]
@@ -24,8 +24,8 @@ pub fn of<'a>(line: &'a [u8], names: usize) -> Columns<'a>
     ensures all { Begins line.now result }
 {
     Columns {
-        line: line,
-        names: names,
+        line,
+        names,
         next: 0,
     }
 }
@@ -53,8 +53,8 @@ impl Square {
         requires k_bound { (k ≤ 4) × x ≤ self.names }
         ensures { Walkable self.names result }
     {
-        if is_roomy(self.names) {
-            return of(self.behind(k).row(work, x), self.names);
+        if let Some(hint) = self.hints(k) {
+            return of(hint.row(work, x), self.names);
         }
         Columns {
             line: self.row(work, x),

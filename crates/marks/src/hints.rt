@@ -4,7 +4,7 @@
 // crate above.
 ghost use Rattle.std.specs.Prelude.{◌≡◌, ◌≤◌, ◌<◌};
 ghost use Rattle.std.specs.Option.{IfSome};
-ghost use Rattle.marks.specs.Squares.{Room, Area, Hints, Kept};
+ghost use Rattle.marks.specs.Squares.{Small, Room, Area, HintSquare, Hints, Kept};
 ghost use Rattle.marks.specs.Lines.{line_bytes};
 ghost use Rattle.marks.specs.Waits.{StillWaiting};
 
@@ -16,14 +16,24 @@ use crate::{Square, is_roomy, width};
 pub const SEEN: usize = 1;
 
 impl Square {
+    // The k-th square of hints, if there is room for it.
+    pub(crate) fn hints(self, k: usize) -> Option<Square>
+        requires { Small self × (k ≤ 4) }
+        ensures { IfSome result (HintSquare self k) }
+    {
+        if is_roomy(self.names) {
+            return Some(self.behind(k));
+        }
+        None
+    }
+
     // Puts a bit into the k-th square.
     pub fn put_hint(self, work: &mut [u8], k: usize, x: usize, y: usize)
         requires area { Area self work.old }
         requires le_k { (1 ≤ k) × (k ≤ 4) × (x ≤ self.names) × (y ≤ self.names) }
         ensures { Kept self work.old work.new }
     {
-        if is_roomy(self.names) {
-            let hint = self.behind(k);
+        if let Some(hint) = self.hints(k) {
             hint.mark(work, x, y);
         }
     }
@@ -34,11 +44,8 @@ impl Square {
         requires k_bound { (k ≤ 4) × x ≤ self.names }
         ensures { IfSome result (λ y. (from ≤ y) × (y ≤ self.names)) }
     {
-        if is_roomy(self.names) {
-            let hint = self.behind(k);
-            return hint.next_marked(work, x, from);
-        }
-        None
+        let hint = self.hints(k)?;
+        hint.next_marked(work, x, from)
     }
 
     // Puts the square into the k-th one, rows and columns exchanged.
@@ -47,8 +54,7 @@ impl Square {
         requires le_k { (1 ≤ k) × (k ≤ 4) }
         ensures { Kept self work.old work.new }
     {
-        if is_roomy(self.names) {
-            let hint = self.behind(k);
+        if let Some(hint) = self.hints(k) {
             self.turn(work, hint);
         }
     }
@@ -83,7 +89,7 @@ impl Square {
         usize::from(count)
     }
 
-    // Sees all rows, in the square that is given, without what `see_behind` tells: its counting would slow the loop down.
+    // Sees all rows, in the square that is given. Not by `see_behind`: what that puts into a line and counts would be thrown away.
     fn see_all_behind(self, work: &mut [u8], seen: Square)
         requires room { Room self work.old × Room seen work.old }
         requires names_value { seen.names ≡ self.names }
@@ -99,11 +105,7 @@ impl Square {
         requires room { Room self work.now × Room seen work.now }
         requires names_value { (seen.names ≡ self.names) × (x ≤ self.names) }
     {
-        let mut new: u8 = 0;
-        for (&byte, &had) in self.row(work, x).iter().zip(seen.row(work, x)) {
-            new |= byte ^ had;
-        }
-        0 < new
+        self.row(work, x) != seen.row(work, x)
     }
 
     // Lets each row wait that is not as it was seen in the square that is given.
@@ -126,8 +128,7 @@ impl Square {
         requires x_le_names { (x ≤ self.names) × (self.names ≤ 1023) }
         ensures { Kept self work.old work.new × (result ≤ line_bytes) }
     {
-        if is_roomy(self.names) {
-            let seen = self.behind(SEEN);
+        if let Some(seen) = self.hints(SEEN) {
             return self.see_behind(work, seen, x, line);
         }
         self.join(work, x, line);
@@ -139,8 +140,7 @@ impl Square {
         requires { Area self work.old }
         ensures { Kept self work.old work.new }
     {
-        if is_roomy(self.names) {
-            let seen = self.behind(SEEN);
+        if let Some(seen) = self.hints(SEEN) {
             self.see_all_behind(work, seen);
         }
     }
@@ -150,8 +150,7 @@ impl Square {
         requires { Area self work.now }
         ensures { StillWaiting waiting.old waiting.new }
     {
-        if is_roomy(self.names) {
-            let seen = self.behind(SEEN);
+        if let Some(seen) = self.hints(SEEN) {
             self.wait_behind(work, seen, waiting);
         }
     }

@@ -20,7 +20,8 @@ pub mod waiting;
 pub mod words;
 
 // The place of a square: names + 1 rows and as many columns, row after row from `base` on. A row begins with a byte of its own. The memory
-// is no part of it, since several squares lie in one lent slice.
+// is no part of it, since several squares lie in one lent slice. That rows and columns are in range stands in each contract: the bound is the
+// square's, so a type of it would hold a square beside each number, and loops and hints give the numbers anew each turn.
 #[derive(Clone, Copy, Debug, PartialEq, Eq)]
 pub struct Square {
     pub base: usize,
@@ -59,7 +60,7 @@ pub fn work_length(names: usize) -> usize
     4 * size(names)
 }
 
-// Sets the first `count` bytes to 0.
+// Sets the first `count` bytes to 0: a name for one `fill`, so that `Zeroed` is promised once for all crates that ask zeroed memory.
 pub fn clear(work: &mut [u8], count: usize)
     requires { count ≤ length work.old }
     ensures { Zeroed count work.old work.new }
@@ -100,7 +101,7 @@ impl Square {
         &work[row..row + width(self.names)]
     }
 
-    // Whether a cell is marked.
+    // Whether a cell is marked. Not by `line::has` of its row: one place leads to the byte, as in `mark`, and no row is cut out first.
     pub fn is_marked(self, work: &[u8], x: usize, y: usize) -> bool
         requires room { Room self work.now }
         requires x_le_names { (x ≤ self.names) × (y ≤ self.names) }

@@ -111,7 +111,8 @@ impl Square {
         missing == 0
     }
 
-    // Marks in row x the columns that are not in the line, and tells whether a mark is new.
+    // Marks in row x the columns that are not in the line, and tells whether a mark is new. Apart from `absorb`, which marks what another row
+    // has: that row lies in the memory that is written, and cannot be lent beside it; so too `seems_full` and `seems_within`.
     pub fn absorb_missing(self, work: &mut [u8], x: usize, line: &[u8]) -> bool
         requires room { Room self work.old }
         requires x_le_names { x ≤ self.names }

@@ -45,7 +45,7 @@ impl Order {
     {
         Nodes {
             order: self,
-            names: names,
+            names,
             place: 0,
             end: names + 1,
         }
@@ -79,6 +79,8 @@ impl Order {
     }
 
     // Puts down the nodes of the path, the last one first, each once no node is left that is to come before it. The next free place.
+    // The path is written while `work`, `square` and `before` are read, so it is no part of them; a struct of these three, generic in the
+    // closure, would serve this function and `go_on` alone.
     fn finish<F: Fn(usize) -> Option<usize>>(
         &mut self,
         work: &[u8],
@@ -120,6 +122,8 @@ pub struct Nodes<'a> {
     end: usize,
 }
 
+// By counted places from both ends. A chain of the library's (`iter().take().flatten().filter()`) has a closure in its type, which `nodes` could
+// not name, and what returns `impl Iterator` gets no proof.
 impl<'a> Iterator for Nodes<'a> {
     type Item = usize;
 

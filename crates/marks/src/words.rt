@@ -2,8 +2,8 @@
 ghost use Rattle.std.specs.Prelude.{◌≡◌, ◌+◌, ◌≤◌, ◌<◌, length};
 ghost use Rattle.marks.specs.Words.{Reads, block_end, Rest, FirstBit, InRow, RowLies, NextBit};
 
-// The word of the eight bytes from `at` on, low byte first. `from_le_bytes` of `first_chunk` is no plainer: it has a case that never comes,
-// and the proof of the word's bits goes byte by byte.
+// The word of the eight bytes from `at` on, low byte first. `u64::from_le_bytes(*memory[at..].first_chunk().unwrap())` is no plainer: it takes
+// three calls, and a proof that the `unwrap` never fails.
 pub fn word(memory: &[u8], at: usize) -> u64
     requires { at + 8 ≤ length memory.now }
     ensures { Reads 64 memory.now at result }

@@ -5,7 +5,7 @@ use native.Mathlib.Omega.{arith}
 use Rattle.marks.specs.declared.Square.{Square}
 use Rattle.marks.specs.Squares.{place}
 use Rattle.marks.specs.Passes.{none}
-use Rattle.marks.proofs.Squares.{byte_inside, row_bytes, hints_none, hints_more}
+use Rattle.marks.proofs.Squares.{row_bytes, row_ends, hints_none, hints_more}
 use Rattle.marks.proofs.Passes.{hand_further}
 use Rattle.marks.proofs.Square.add_row.Goals as goal
 
@@ -13,19 +13,12 @@ pub place-had-requires : goal.place-had-requires
 place-had-requires c = record { small = c.requires.room.1.small; x_le_names = (omega (arith, c.requires.names_value), omega arith) }
 
 pub loop-i-init : goal.loop-i-init
-loop-i-init c = (λ e. none, hints_none)
-
-pub bounds-work-given : goal.bounds-work-given
-bounds-work-given c =
-    omega (arith, byte_inside _ c.requires.room.0 refl c.requires.names_value.1 c.width-i-end.ensures.0 c.loop-i-test.true c.place-given.ensures, c.loop-i.auto.work)
-
-pub bounds-work-had : goal.bounds-work-had
-bounds-work-had c =
-    omega (arith, byte_inside _ c.requires.room.1 c.requires.names_value.0 c.requires.names_value.2 c.width-i-end.ensures.0 c.loop-i-test.true c.place-had.ensures, c.loop-i.auto.work)
-
-pub bounds-work-had-in-loop-i : goal.bounds-work-had-in-loop-i
-bounds-work-had-in-loop-i c =
-    omega (arith, byte_inside _ c.requires.room.1 c.requires.names_value.0 c.requires.names_value.2 c.width-i-end.ensures.0 c.loop-i-test.true c.place-had.ensures, c.loop-i.auto.work)
+loop-i-init c = (
+  λ e. none,
+  hints_none,
+  row_ends _ c.requires.room.0 refl c.requires.names_value.1 c.place-given.ensures,
+  row_ends _ c.requires.room.1 c.requires.names_value.0 c.requires.names_value.2 c.place-had.ensures,
+)
 
 pub loop-i-preserved : goal.loop-i-preserved
 loop-i-preserved c =
@@ -34,6 +27,8 @@ loop-i-preserved c =
       λ e. hand_further c.loop-i.i (c.loop-i.invariant.0 e) c.requires.room.0 c.requires.names_value.1 c.requires.names_value.2 inside c.place-given.ensures.is
           (c.place-had.ensures.is ∙ ap (λ (q : Square). place q c.args.to 0) e),
       hints_more _ c.requires.room.1 (omega (arith, c.requires.names_value)) (omega (arith, inside, same)) c.place-had.ensures c.loop-i.invariant.1,
+      c.loop-i.invariant.2,
+      c.loop-i.invariant.3,
     )
 
 pub returns : goal.returns

@@ -2,25 +2,22 @@
 use mathlib.Core.Path.{refl}
 use native.Mathlib.Omega.{arith}
 use Rattle.marks.specs.Passes.{none}
-use Rattle.marks.proofs.Squares.{byte_inside, row_bytes}
+use Rattle.marks.proofs.Squares.{row_bytes, row_ends}
 use Rattle.marks.proofs.Lines.{missing_further}
 use Rattle.marks.proofs.Square.mark_missing.Goals as goal
 
 pub loop-i-init : goal.loop-i-init
-loop-i-init c = none
+loop-i-init c = (none, row_ends _ c.requires.room refl c.requires.x_le_names c.place-target.ensures)
 
 pub bounds-line-i : goal.bounds-line-i
 bounds-line-i c = omega (arith, row_bytes _ c.width-i-end.ensures.0, c.loop-i-test.true, c.requires.spans.inside)
 
-pub bounds-work-target : goal.bounds-work-target
-bounds-work-target c = omega (arith, byte_inside _ c.requires.room refl c.requires.x_le_names c.width-i-end.ensures.0 c.loop-i-test.true c.place-target.ensures, c.loop-i.auto.work)
-
-pub bounds-work-target-in-loop-i : goal.bounds-work-target-in-loop-i
-bounds-work-target-in-loop-i c = omega (arith, byte_inside _ c.requires.room refl c.requires.x_le_names c.width-i-end.ensures.0 c.loop-i-test.true c.place-target.ensures, c.loop-i.auto.work)
-
 pub loop-i-preserved : goal.loop-i-preserved
-loop-i-preserved c = missing_further c.loop-i.i c.loop-i.invariant c.requires.room c.requires.x_le_names
-    (omega (arith, row_bytes _ c.width-i-end.ensures.0, c.loop-i-test.true)) c.place-target.ensures.is
+loop-i-preserved c = (
+  missing_further c.loop-i.i c.loop-i.invariant.0 c.requires.room c.requires.x_le_names
+      (omega (arith, row_bytes _ c.width-i-end.ensures.0, c.loop-i-test.true)) c.place-target.ensures.is,
+  c.loop-i.invariant.1,
+)
 
 pub returns : goal.returns
-returns c = c.loop-i.invariant
+returns c = c.loop-i.invariant.0

@@ -1,7 +1,7 @@
 -- Only hints were put behind the square, and not more bytes are counted than were looked at.
 use native.Mathlib.Omega.{arith}
 use mathlib.Core.Path.{refl}
-use Rattle.marks.proofs.Squares.{byte_inside, row_bytes, hints_none, hints_more}
+use Rattle.marks.proofs.Squares.{row_bytes, row_ends, hints_none, hints_more}
 use Rattle.marks.proofs.Square.see_behind.Goals as goal
 
 pub place-source-requires : goal.place-source-requires
@@ -11,23 +11,12 @@ pub place-target-requires : goal.place-target-requires
 place-target-requires c = record { small = c.requires.room.1.small; x_le_names = (omega (arith, c.requires.names_value), omega arith) }
 
 pub loop-i-init : goal.loop-i-init
-loop-i-init c = (hints_none, omega arith)
-
-pub bounds-work-source : goal.bounds-work-source
-bounds-work-source c =
-    omega (arith, byte_inside _ c.requires.room.0 refl c.requires.names_value.1 c.width-i-end.ensures.0 c.loop-i-test.true c.place-source.ensures, c.loop-i.auto.work)
-
-pub bounds-work-target : goal.bounds-work-target
-bounds-work-target c =
-    omega (arith, byte_inside _ c.requires.room.1 c.requires.names_value.0 c.requires.names_value.1 c.width-i-end.ensures.0 c.loop-i-test.true c.place-target.ensures, c.loop-i.auto.work)
-
-pub bounds-work-target-in-loop-i-2 : goal.bounds-work-target-in-loop-i-2
-bounds-work-target-in-loop-i-2 c =
-    omega (arith, byte_inside _ c.requires.room.1 c.requires.names_value.0 c.requires.names_value.1 c.width-i-end.ensures.0 c.loop-i-test.true c.place-target.ensures, c.loop-i.auto.work)
-
-pub bounds-work-target-in-loop-i : goal.bounds-work-target-in-loop-i
-bounds-work-target-in-loop-i c =
-    omega (arith, byte_inside _ c.requires.room.1 c.requires.names_value.0 c.requires.names_value.1 c.width-i-end.ensures.0 c.loop-i-test.true c.place-target.ensures, c.loop-i.auto.work)
+loop-i-init c = (
+  hints_none,
+  omega arith,
+  row_ends _ c.requires.room.0 refl c.requires.names_value.1 c.place-source.ensures,
+  row_ends _ c.requires.room.1 c.requires.names_value.0 c.requires.names_value.1 c.place-target.ensures,
+)
 
 pub bounds-line-i : goal.bounds-line-i
 bounds-line-i c = omega (arith, row_bytes _ c.width-i-end.ensures.0, c.loop-i-test.true, c.requires.names_value.2)
@@ -40,6 +29,8 @@ loop-i-preserved c = (
   hints_more _ c.requires.room.1 (omega (arith, c.requires.names_value))
       (omega (arith, c.requires.names_value, row_bytes _ c.width-i-end.ensures.0, c.loop-i-test.true)) c.place-target.ensures c.loop-i.invariant.0,
   omega (arith, c.loop-i.invariant.1),
+  c.loop-i.invariant.2,
+  c.loop-i.invariant.3,
 )
 
 pub returns : goal.returns
