@@ -38,7 +38,8 @@ fn all_parts_lost(given: &Given, work: &[u8], x: usize, y: usize) -> bool
         .all(|part| marks.is_marked(work, part, y))
 }
 
-// Whether y is defined by a restriction with the role.
+// Whether y is defined by a restriction with the role. Not with its filler too, as crate classification asks it (`is_defined_by`): `role_lost`
+// takes the filler from y afterwards.
 pub fn is_filled(given: &Given, y: usize, role: usize) -> bool
     ensures { Tells result (Filled given.now.second.table.now given.now.layout.names y role) }
 {

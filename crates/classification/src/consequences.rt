@@ -1,6 +1,7 @@
 // What the new marks of a row give: marks put at the cells that depend on them, each as a rule allows. A row that gets one waits.
 // Where to look is read from hints and lines of which nothing is said, so each rule is tested at its cell. The loops that ask `next_hint`
 // write the memory that it searches, so no iterator can hold it.
+// The memory and the rows that wait are parameters of their own, as in crate backward (consequences), where a struct of them was tried.
 ghost use Rattle.std.specs.Prelude.{◌≤◌};
 ghost use Rattle.el.proofs.Tests.{Tells};
 ghost use Rattle.release.specs.Tables.{HasRow};
@@ -70,7 +71,8 @@ impl<'a> Classification<'a> {
         }
     }
 
-    // Whether z is a defined restriction with this role and filler.
+    // Whether z is a defined restriction with this role and filler. Crate backward has a test of the role alone (`is_filled`): what it asks of
+    // the filler differs from place to place.
     fn is_defined_by(&self, z: usize, role: usize, filler: usize) -> bool
         requires { HasRow self.now.terminology.table.now z }
         ensures { Tells result (DefinedRestriction self.now.terminology.table.now z role filler) }

@@ -14,7 +14,8 @@ mod propagation;
 mod rules;
 mod sweep;
 
-// A terminology, and the square in which the inclusions between its nodes are marked.
+// A terminology, and the square in which the inclusions between its nodes are marked. The memory is no part of it, since calls write it: so
+// what has to hold of both stands in the contracts (`Of Setting`), not in a ghost field.
 #[derive(Clone, Copy)]
 struct Classification<'a> {
     terminology: Terminology<'a>,

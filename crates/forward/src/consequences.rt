@@ -171,8 +171,8 @@ fn lose_edges(
     }
 }
 
-// Hands the marks of row x on to each row below it. Crate classification does so in one square, which is both here: one function for the two
-// would be handed two squares, a rule and what of the memory stays, for a loop of five lines.
+// Hands the marks of row x on to each row below it. Crate classification does so too, but there inclusions and marks are one square: one
+// function for both would be handed two squares, a rule and what of the memory stays, for a loop of five lines.
 fn hand_down(given: &Given, work: &mut [u8], waiting: &mut Waiting, x: usize)
     requires area { Area (first_square given.now.layout) work.old × Room (mark_square given.now.layout) work.old }
     requires x_le_names { x ≤ given.now.layout.names }

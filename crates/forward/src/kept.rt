@@ -12,7 +12,9 @@ use layout::{Given, Layout};
 use marks::{Square, hints, line};
 use release::terminology::Terminology;
 
-// Whether the name is a restriction of the second release with the role, to a node that `end` is not marked with.
+// Whether the name is a restriction of the second release with the role, to a node that `end` is not marked with. The role and the end of an
+// edge are two parameters here and in partner: a struct of the two would be made of x's edge in two places, to be taken apart at once in each
+// of the three functions that it is handed to.
 fn serves(
     second: &Terminology,
     marks: Square,

@@ -18,7 +18,8 @@ use marks::rules::Rules;
 use marks::waiting::Waiting;
 
 // Marks the name x with all that it is not above by the second release, if it is in the signature. Whether a mark is new. Crate backward has
-// a function of this name, which joins another row and marks one column more; what the two share is no more than these few lines.
+// a function of this name, which joins another row and marks one column more; what the two share is no more than these few lines. So it is
+// with `mark_names`, which both have: a loop of one line, whose call is another.
 pub fn look_at_name(given: &Given, work: &mut [u8], x: usize) -> bool
     requires named { Named given.now work.old }
     requires x_lt_names { x < given.now.layout.names }
