@@ -1,6 +1,7 @@
 -- One row: from what a comparison in prepared memory gives to the row of a sheet.
 --   result_lent, names_lent, bytes_told     what finding a row asks; its bytes are those that are computed
 --   part_inside, given_part, row_is       the signature of a row is a part of all of them, and its row is the sheet's
+--   rows_more, rows_filled                one row more, and all of them
 use mathlib.Core.Path.{◌≡◌, refl, sym, ap, ◌∙◌}
 use mathlib.Core.Bool.{Bool, true, false}
 use mathlib.Core.List.{List}
@@ -24,11 +25,12 @@ use Rattle.release.specs.Files.{names_of, axioms_of, most_names, most_roles}
 use Rattle.release.proofs.Linked.{formed, terminology}
 use Rattle.release.proofs.Limits.{few_counts}
 use Rattle.signature.specs.Bytes.{is_bit, wrong_byte, wrong_length, signature_fault, signature_of}
+use Rattle.marks.specs.Memory.{size, Zeroed}
 use Rattle.comparison.specs.declared.Releases.{Releases}
-use Rattle.comparison.specs.Compared.{Given, Reported}
-use Rattle.comparison.proofs.Pipeline.{signature_long}
+use Rattle.comparison.specs.Compared.{Given, Reported, Prepared}
+use Rattle.comparison.proofs.Pipeline.{signature_long, both_in}
 use Rattle.branches.specs.declared.row.Row.{Row}
-use Rattle.branches.specs.Filling.{row_at, Fits}
+use Rattle.branches.specs.Filling.{row_at, Fits, RowsFilled}
 use Rattle.branches.specs.Rows.{row_of}
 use Rattle.branches.specs.Sheets.{most_branches, signature_at, no_row}
 
@@ -98,16 +100,7 @@ module _ {r : Releases} {gs : List ℕ} {ys : List Row} {w : List ℕ} (fits : F
         ap (λ (z : ℕ). take z (drop (i * (r.names + r.roles)) gs)) d
 
     pub given_part : {v : List ℕ} → length v ≡ length w → Given part r v
-    given_part same = record {
-      both = record {
-        first = fits.both.first;
-        second = fits.both.second;
-        first_names = fits.both.first_names;
-        second_names = fits.both.second_names;
-        room = rw same fits.both.room;
-      };
-      signature = rw part_is (one_signature r.names r.roles (length ys) gs i l fits.signatures);
-    }
+    given_part same = record { both = both_in same fits.both; signature = rw part_is (one_signature r.names r.roles (length ys) gs i l fits.signatures) }
 
     abbrev row : ℕ → ℕ → List ℕ → Row
     row n m g = row_of (take n g) (comparison_bytes n (signature_of n m g) (axioms_of r.first.file.now) (axioms_of r.second.file.now))
@@ -126,3 +119,14 @@ rows_more at ys i v inside before is k h = by_place (ℕ_discrete k i)
     by_place : Dec (k ≡ i) → get_or (set ys i v) k no_row ≡ at k
     by_place (yes e) = rw e (get_or-set_same ys i v no_row inside ∙ is)
     by_place (no e) = get_or-set_other ys i k v no_row e ∙ before k (omega arith)
+
+-- all rows: the memory was left as it was prepared, and then set to 0
+pub rows_filled : {r : Releases} {gs : List ℕ} {ys zs : List Row} {w w1 u v : List ℕ} {k : ℕ} → Prepared r w w1 → length zs ≡ length ys
+    → ((i : ℕ) → i < length ys → get_or zs i no_row ≡ row_at r.first.file.now r.second.file.now gs i) → u ≡ w1 → k ≡ 4 * size r.names → Zeroed k u v → RowsFilled r gs ys zs w v
+rows_filled {r} {k = k} ready long each same all cleared =
+    let zeroed : Zeroed (4 * size r.names) _ _ = rw (all, same) at cleared in
+    record {
+      long = long;
+      each = each;
+      zeroed = record { long = zeroed.long ∙ ready.long; zero = zeroed.zero; past = λ i h. zeroed.past i h ∙ ready.past i h };
+    }

@@ -1,10 +1,10 @@
 -- The four squares one after the other, and the result: what each call asks follows from what the calls before it gave.
---   first_asks, second_asks, both_included         the two classifications, and what they give together
---   unchanged, below_room, turned_second, prepared             the second square turned behind its rows: memory that is ready
+--   first_unclassified, second_unclassified, first_area, both_filled     the two classifications, the hints, and what they give together
+--   unchanged, room_behind, second_behind, prepared            the second square turned behind its rows: memory that is ready
 --   first_rowed, second_rowed, names_long, PutBy, handed         what finding edges asks, what marks are put by, and what is handed on of the signature
 --   comparing, forward_asks, backward_asks, all_marked     the marks
 --   readable, marking                              what writing the result bytes asks and gives
---   given_in, compared, compared_again             what the comparison gives
+--   both_in, given_in, compared, compared_again             what it asks of memory of the same length, and what it gives
 use mathlib.Core.Path.{◌≡◌, refl, sym, ap, ◌∙◌}
 use mathlib.Core.Bool.{true, false}
 use mathlib.Core.List.{List}
@@ -30,7 +30,7 @@ use Rattle.classification.proofs.Meaning.{inclusions_stay}
 use Rattle.layout.specs.declared.Layout.{Layout}
 use Rattle.layout.specs.declared.Given as layout
 use Rattle.layout.specs.Tables.{Rowed}
-use Rattle.layout.specs.Layouts.{mark_square}
+use Rattle.layout.specs.Layouts.{first_square, second_square, mark_square}
 use Rattle.layout.specs.Findings.{Found, Handed}
 use Rattle.layout.specs.Comparing.{Comparing}
 use Rattle.layout.proofs.Comparing.{rowed, setting}
@@ -61,7 +61,7 @@ module _ {r : Releases} {w v u : List ℕ} (b : BothIncluded r w v) (kept : Kept
   after : (base : ℕ) → size r.names ≤ base → RowsSame (square_at r.names base) v u
   after base h = record { byte = λ i l f. kept.extends.frame.past i (omega arith) }
 
-  pub both_kept : BothIncluded r w u
+  both_kept : BothIncluded r w u
   both_kept = record {
     long = kept.extends.frame.long ∙ b.long;
     past = λ i h. kept.extends.frame.past i (omega arith) ∙ b.past i h;
@@ -77,16 +77,12 @@ module _ {r : Releases} {w v u : List ℕ} (b : BothIncluded r w v) (kept : Kept
 pub unchanged : {r : Releases} {w : List ℕ} → r.names < 1 → SecondTurned r w w
 unchanged h = record { long = refl; before = λ i l. refl; past = λ i l. refl; turned = λ l. absurd (omega arith) }
 
-pub below_after : (n k : ℕ) {p : Square} → p ≡ behind (square_at n k) 1 → k + span n ≤ p.base
+pub below_apart : (q : Square) {p : Square} → p ≡ behind q 1 → (q.names ≡ p.names) × (q.base + span q.names ≤ p.base)
 unfolding behind
-below_after n k is = rw is (omega arith)
-
-pub below_names : (n k : ℕ) {p : Square} → p ≡ behind (square_at n k) 1 → n ≡ p.names
-unfolding behind
-below_names n k is = rw is refl
+below_apart q is = (rw is refl, rw is (omega arith))
 
 module _ (r : Releases) {w : List ℕ} (long : 4 * size r.names ≤ length w) (some : 0 < r.names) where
-  pub second_area : Area (square_at r.names (size r.names)) w
+  second_area : Area (square_at r.names (size r.names)) w
   second_area = record {
     room = record { small = record { few = omega (arith, r.few); near = omega (arith, size_cells r.names r.few) }; fits = omega (arith, span_size r.names) };
     lent = omega arith;
@@ -94,11 +90,11 @@ module _ (r : Releases) {w : List ℕ} (long : 4 * size r.names ≤ length w) (s
   }
 
   module _ {p : Square} (is : p ≡ behind (square_at r.names (size r.names)) 1) where
-    pub below_room : Room p w
+    below_room : Room p w
     unfolding behind
     below_room = rw is (record { small = record { few = omega (arith, r.few); near = omega (arith, size_cells r.names r.few, two_spans r.names some) }; fits = omega (arith, two_spans r.names some) })
 
-    pub turned_second : {w1 w2 : List ℕ} → Touches p w w1 → Touches p w1 w2 → Turned (square_at r.names (size r.names)) w2 p w2 → SecondTurned r w w2
+    turned_second : {w1 w2 : List ℕ} → Touches p w w1 → Touches p w1 w2 → Turned (square_at r.names (size r.names)) w2 p w2 → SecondTurned r w w2
     unfolding behind
     turned_second {w1} {w2} c t turned =
         let all = touches_further c t in
@@ -111,6 +107,22 @@ module _ (r : Releases) {w : List ℕ} (long : 4 * size r.names ≤ length w) (s
           past = λ i l. all.past i (omega (arith, base, rows, two_spans r.names some));
           turned = λ l. rw is at turned;
         }
+
+-- so it is of the second square as the layout gives it
+module _ (r : Releases) {l : Layout} {q : Square} (laid : l ≡ forward_layout r) (second : q ≡ second_square l) where
+  pub room_turned : {w : List ℕ} → 4 * size r.names ≤ length w → 0 < r.names → Room q w
+  room_turned long some = rw (second, laid) (second_area r long some).room
+
+  module _ {p : Square} (is : p ≡ behind q 1) where
+    behind_second : p ≡ behind (square_at r.names (size r.names)) 1
+    behind_second = rw (second, laid) at is
+
+    module _ {w : List ℕ} (long : 4 * size r.names ≤ length w) (some : 0 < r.names) where
+      pub room_behind : Room p w
+      room_behind = below_room r long some behind_second
+
+      pub second_behind : {w1 w2 : List ℕ} → Touches p w w1 → Touches p w1 w2 → Turned q w2 p w2 → SecondTurned r w w2
+      second_behind c t turned = turned_second r long some behind_second c t (rw (second, laid) at turned)
 
 module _ {r : Releases} {w v u : List ℕ} (b : BothIncluded r w v) (turn : SecondTurned r v u) where
   still : (base : ℕ) → base ≤ size r.names → RowsSame (square_at r.names base) v u
@@ -170,11 +182,11 @@ module _ {r : Releases} {w : List ℕ} (both : BothGiven r w) where
     unmarked_at : (base : ℕ) → base ≤ 3 * k → Unmarked (square_at n base) w1
     unmarked_at base h = zeroed_unmarked z (omega (arith, span_size n))
 
-    pub first_asks : Unclassified s r.first.table.now (square_at n 0) w1
+    first_asks : Unclassified s r.first.table.now (square_at n 0) w1
     first_asks = record { release = both.first; names = both.first_names; area = area_at 0 (omega arith) w1 z.long; unmarked = unmarked_at 0 (omega arith) }
 
     module _ {w2 : List ℕ} (c : Classified s (square_at n 0) w1 w2) where
-      pub second_asks : Unclassified t r.second.table.now (square_at n k) w2
+      second_asks : Unclassified t r.second.table.now (square_at n k) w2
       second_asks = record {
         release = both.second;
         names = both.second_names;
@@ -183,7 +195,7 @@ module _ {r : Releases} {w : List ℕ} (both : BothGiven r w) where
       }
 
       module _ {w3 : List ℕ} (d : Classified t (square_at n k) w2 w3) where
-        pub both_included : BothIncluded r w w3
+        both_included : BothIncluded r w w3
         both_included = record {
           long = d.frame.long ∙ (c.frame.long ∙ z.long);
           past = λ i h. d.frame.past i (omega (arith, span_size n)) ∙ (c.frame.past i (omega (arith, span_size n)) ∙ z.past i h);
@@ -191,6 +203,32 @@ module _ {r : Releases} {w : List ℕ} (both : BothGiven r w) where
           second = d.inclusions;
           zero = λ i h l. d.frame.past i (omega arith) ∙ (c.frame.past i (omega arith) ∙ z.zero i l);
         }
+
+  -- the same of squares as the layout gives them, and of memory as it was cleared
+  module _ {l : Layout} {p q : Square} (laid : l ≡ forward_layout r) (at_first : p ≡ first_square l) (at_second : q ≡ second_square l)
+      {z : ℕ} {w1 : List ℕ} (all : z ≡ 4 * k) (cleared : Zeroed z w w1) where
+    zeroed : Zeroed (4 * k) w w1
+    zeroed = rw all at cleared
+
+    pub first_unclassified : Unclassified s r.first.table.now p w1
+    first_unclassified = rw (at_first, laid) (first_asks zeroed)
+
+    module _ {w2 : List ℕ} (c : Classified s p w1 w2) where
+      first_classified : Classified s (square_at n 0) w1 w2
+      first_classified = rw (at_first, laid) at c
+
+      pub second_unclassified : Unclassified t r.second.table.now q w2
+      second_unclassified = rw (at_second, laid) (second_asks zeroed first_classified)
+
+      module _ {w3 : List ℕ} (d : Classified t q w2 w3) where
+        both_classified : BothIncluded r w w3
+        both_classified = both_included zeroed first_classified (rw (at_second, laid) at d)
+
+        pub first_area : Area p w3
+        first_area = rw (at_first, laid) (area_at 0 (omega arith) w3 both_classified.long)
+
+        pub both_filled : {w4 : List ℕ} → Kept p w3 w4 → BothIncluded r w w4
+        both_filled kept = both_kept both_classified (rw (at_first, laid) at kept)
 
   -- the square of marks lies at a base, behind those of the inclusions
   abbrev layout_at : ℕ → Layout
@@ -289,17 +327,11 @@ module _ {r : Releases} {w : List ℕ} (both : BothGiven r w) where
     }
 
 -- what a comparison asks of memory is its length
+pub both_in : {r : Releases} {w v : List ℕ} → length v ≡ length w → BothGiven r w → BothGiven r v
+both_in long both = record { first = both.first; second = both.second; first_names = both.first_names; second_names = both.second_names; room = omega (arith, both.room) }
+
 pub given_in : {g : List ℕ} {r : Releases} {w v : List ℕ} → length v ≡ length w → Given g r w → Given g r v
-given_in long given = record {
-  both = record {
-    first = given.both.first;
-    second = given.both.second;
-    first_names = given.both.first_names;
-    second_names = given.both.second_names;
-    room = omega (arith, given.both.room);
-  };
-  signature = given.signature;
-}
+given_in long given = record { both = both_in long given.both; signature = given.signature }
 
 -- what the comparison gives
 module _ {g : List ℕ} {r : Releases} {o p w v : List ℕ} where

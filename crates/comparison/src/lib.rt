@@ -13,7 +13,8 @@ mod marking;
 mod preparation;
 mod result;
 
-// The terminologies of two releases with the same numbers of names and roles.
+// The terminologies of two releases with the same numbers of names and roles. The signature, the result bytes and the work memory stand in
+// separate parameters, as C lends them.
 #[derive(Clone, Copy, Debug, PartialEq, Eq)]
 pub struct Releases<'a> {
     pub first: Terminology<'a>,

@@ -37,15 +37,17 @@ pub told_value : {A E : Type 0} (f : E → Numbers) (r : Result A E) (a : A) →
 told_value f (Ok b) a h = cc
 told_value f (Err e) a h = absurd (cc)
 
--- what a refusal was before `map_err`, and a value
-pub mapped_refusal : {A E D : Type 0} (Q : E → D → Type 0) (r : Result A E) (d : D) → MatchResult r (λ x. ◌≡◌ {A = Result A D} (Err d) (Ok x)) (λ e. IsErrAnd {T = A} (Err d) (Q e))
-    → (e : E) × (r ≡ Err e) × Q e d
-mapped_refusal Q (Ok x) d h = absurd (cc)
-mapped_refusal Q (Err e) d h = (e, refl, h)
+-- what was a refusal before `map_err` put it into one of its own, and what a value
+pub mapped_refusal : {A E D : Type 0} (wrap : E → D) (r : Result A E) {d : D}
+    → MatchResult r (λ x. ◌≡◌ {A = Result A D} (Err d) (Ok x)) (λ e. IsErrAnd {T = A} (Err d) (λ z. z ≡ wrap e))
+    → (e : E) × (r ≡ Err e) × (d ≡ wrap e)
+mapped_refusal wrap (Ok x) h = absurd (cc)
+mapped_refusal wrap (Err e) h = (e, refl, h)
 
-pub mapped_value : {A E D : Type 0} (Q : E → D → Type 0) (r : Result A E) (a : A) → MatchResult r (λ x. ◌≡◌ {A = Result A D} (Ok a) (Ok x)) (λ e. IsErrAnd {T = A} {E = D} (Ok a) (Q e)) → r ≡ Ok a
-mapped_value Q (Ok x) a h = cc
-mapped_value Q (Err e) a h = absurd h
+pub mapped_value : {A E D : Type 0} (wrap : E → D) (r : Result A E) {a : A}
+    → MatchResult r (λ x. ◌≡◌ {A = Result A D} (Ok a) (Ok x)) (λ e. IsErrAnd {T = A} {E = D} (Ok a) (λ z. z ≡ wrap e)) → r ≡ Ok a
+mapped_value wrap (Ok x) h = cc
+mapped_value wrap (Err e) h = absurd h
 
 -- accepted counts are the same in both releases
 pub record SameCounts (a b : Counts) (c : Compared) : Type 0 where

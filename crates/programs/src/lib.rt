@@ -1,4 +1,5 @@
-// What the programs do, from the bytes of their files to the bytes that they print.
+// What the programs do, from the bytes of their files to the bytes that they print. What a call is lent stands in separate parameters, as in
+// the calls of crates meanings and branches that it is handed to.
 #![tactic(auto)]
 
 ghost use Rattle.std.specs.Prelude.{◌≡◌, ◌≤◌, length, IfSome};

@@ -2,7 +2,7 @@
 use Rattle.std.proofs.Common.{◌<◌, arith, ap, ◌∙◌, length}
 use Rattle.std.proofs.lemmas.List.{length-set}
 use Rattle.branches.specs.Filling.{row_at}
-use Rattle.branches.proofs.Rows.{long_small, start_small, part_inside, given_part, row_is, rows_more}
+use Rattle.branches.proofs.Rows.{long_small, start_small, part_inside, given_part, row_is, rows_more, rows_filled}
 use Rattle.branches.proofs.filling.fill.Goals as goal
 
 pub overflow_add-length : goal.overflow_add-length
@@ -29,3 +29,7 @@ loop-branch-preserved c =
       rows_more (row_at releases.first.file.now releases.second.file.now c.args.signatures.now) c.loop-branch.rows c.loop-branch.branch _ (omega arith) c.loop-branch.invariant.1 row,
       c.row_of.ensures.same ∙ c.loop-branch.invariant.2,
     )
+
+pub returns : goal.returns
+returns c =
+    rows_filled c.prepare.ensures c.loop-branch.invariant.0 (λ i h. c.loop-branch.invariant.1 i (omega arith)) c.loop-branch.invariant.2 c.work_length.ensures.0 c.clear.ensures
