@@ -62,6 +62,9 @@ module _ {n k c : ℕ} {o : List Atom} (before : Written n k c o) (a : Atom) (l 
   owner_at_lem : (j : ℕ) → j < c + 1 → owner_at after j < k
   owner_at_lem = each (λ b. b.owner < k) before.owner old_owner
 
+  child_at_lem : (j : ℕ) → j < c + 1 → child_at after j < l
+  child_at_lem = each (λ b. child_number b < l) (λ j z. omega (arith, before.child j z)) child_inside
+
   later_at : (i j : ℕ) → i < c + 1 → j ≤ i → 0 < child_at after i → owner_at after j < child_at after i
   later_at i j m g p = elim (ℕ_discrete i c) [
     | yes e ↦ (
@@ -78,7 +81,7 @@ module _ {n k c : ℕ} {o : List Atom} (before : Written n k c o) (a : Atom) (l 
   pub written_more : Written n l (c + 1) after
   written_more = record {
     owner = λ j m. omega (arith, owner_at_lem j m);
-    child = each (λ b. child_number b < l) (λ j z. omega (arith, before.child j z)) child_inside;
+    child = child_at_lem;
     named = each (λ b. child_number b ≡ 0 → value_of b < n) before.named a_name;
     rooted = each Rooted before.rooted is_rooted;
     later = later_at;

@@ -32,7 +32,7 @@ impl Atom {
         conjunct: Conjunct::Name(0),
     };
 
-    // The name, or the role.
+    // The name, or the role. Crate points matches on the conjunct: this and `child` are kept since they are public.
     pub fn value(self) -> usize
         ensures { result ≡ value_of self }
     {

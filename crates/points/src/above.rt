@@ -5,7 +5,7 @@ ghost use Rattle.points.specs.Grids.{most_roots};
 ghost use Rattle.points.specs.Above.{Ranges, PartsSet, RootBelow, AtomBelow, InRow, OfAtom, Risen};
 
 use crate::{Classified, Grid};
-use outline::Atom;
+use outline::{Atom, Conjunct};
 use release::Kind;
 
 impl Classified<'_> {
@@ -43,18 +43,20 @@ impl Classified<'_> {
         if self.terminology.has_kind(name, Kind::DefinedConjunction) {
             return false;
         }
-        let Some(filler) = atom.child() else {
-            return self.square.is_marked(self.work, atom.value(), name);
-        };
-        if !self.terminology.has_kind(name, Kind::DefinedRestriction) {
-            return false;
+        match atom.conjunct {
+            Conjunct::Name(below) => self.square.is_marked(self.work, usize::from(below), name),
+            Conjunct::Restriction { role, filler } => {
+                if !self.terminology.has_kind(name, Kind::DefinedRestriction) {
+                    return false;
+                }
+                let same_role = self.terminology.role(name) == usize::from(role);
+                if !same_role {
+                    return false;
+                }
+                let node = self.terminology.filler(name);
+                self.is_above(above, usize::from(filler), node)
+            }
         }
-        let same_role = self.terminology.role(name) == atom.value();
-        if !same_role {
-            return false;
-        }
-        let node = self.terminology.filler(name);
-        self.is_above(above, filler, node)
     }
 
     // Puts the names above an atom into the row of its owner.

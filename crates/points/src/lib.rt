@@ -2,10 +2,11 @@
 // of another concept C.
 #![tactic(auto)]
 
-ghost use Rattle.std.specs.Prelude.{◌<◌};
+ghost use Rattle.std.specs.Prelude.{◌≡◌, Some, ◌<◌};
 ghost use Rattle.el.proofs.Tests.{Tells};
 ghost use Rattle.marks.specs.Lines.{Added};
 ghost use Rattle.points.specs.Grids.{most_roots, most_nodes, cell, Set};
+ghost use Rattle.outline.specs.declared.Conjunct.TheVariants as conjunct;
 ghost use Rattle.points.specs.Nodes.{RestrictionOf};
 
 use marks::{Square, line};
@@ -63,7 +64,8 @@ pub struct Subsumee<'a> {
 }
 
 // An atom of D: the grid of which the rows have lost the nodes that do not lie below the roots of D, and a line of names by which no node lies below
-// the atom, where it is an ∃.
+// the atom, where it is an ∃. What `idle` has to hold is asked in the contracts: it speaks of the release too (`Classified`), which is no part of it.
+// So is that the numbers of an atom are in range (`OfAtom`), which no value of the release or of the atom alone could say.
 #[derive(Clone, Copy, Debug, PartialEq, Eq)]
 pub struct Subsumer<'a> {
     pub atom: Atom,
@@ -82,16 +84,16 @@ pub struct Restriction<'a> {
 }
 
 impl<'a> Subsumer<'a> {
-    // The ∃ that the atom is, if it is one.
-    fn restriction(&self) -> Option<Restriction<'a>>
-        ensures { RestrictionOf self.now result }
+    // The ∃ that the atom is, by its role and its filler.
+    fn restriction(&self, role: u8, filler: u16) -> Restriction<'a>
+        requires { self.now.atom.conjunct ≡ conjunct.Restriction role filler }
+        ensures { RestrictionOf self.now (Some result) }
     {
-        let root = self.atom.child()?;
-        Some(Restriction {
-            role: self.atom.value(),
-            root,
+        Restriction {
+            role: usize::from(role),
+            root: usize::from(filler),
             lost: self.lost,
             idle: self.idle,
-        })
+        }
     }
 }

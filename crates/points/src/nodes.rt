@@ -12,7 +12,7 @@ ghost use Rattle.marks.specs.Lines.{Spans, Empty};
 use crate::{Classified, Grid, Restriction, Subsumer};
 use marks::line;
 use marks::line::Line;
-use outline::Atom;
+use outline::{Atom, Conjunct};
 
 impl Classified<'_> {
     // Whether a name has an axiom ∃ of the role whose filler the row of the root has not lost.
@@ -49,8 +49,8 @@ impl Classified<'_> {
         requires child_lt_most_roots { child_number atom < most_roots }
         ensures { IdleOf self.now lost.now atom idle.new }
     {
-        if let Some(filler) = atom.child() {
-            self.find_idle(lost, idle, atom.value(), filler);
+        if let Conjunct::Restriction { role, filler } = atom.conjunct {
+            self.find_idle(lost, idle, usize::from(role), usize::from(filler));
         }
     }
 
@@ -60,6 +60,7 @@ impl Classified<'_> {
         requires idle { IdleFor self.now restriction.now }
         ensures { Tells result (NodeReaches self.now restriction.now.lost.now node restriction.now.role restriction.now.root) }
     {
+        // a loop, not `any`: of an iterator of its own a proof by `any` asks laws of its runs, as release has them for conjuncts, for this one place
         for name in self.square.outside(self.work, node, restriction.idle) {
             // the last column is ⊤
             if name == self.square.names {
@@ -79,15 +80,17 @@ impl Classified<'_> {
         requires idle { IdleBy self.now subsumer.now }
         ensures { Tells result (NodeBelow self.now subsumer.now.atom subsumer.now.lost.now node) }
     {
-        let Some(restriction) = subsumer.restriction() else {
-            return self
-                .square
-                .is_marked(self.work, node, subsumer.atom.value());
-        };
-        self.node_reaches(&restriction, node)
+        match subsumer.atom.conjunct {
+            Conjunct::Name(name) => self.square.is_marked(self.work, node, usize::from(name)),
+            Conjunct::Restriction { role, filler } => {
+                let restriction = subsumer.restriction(role, filler);
+                self.node_reaches(&restriction, node)
+            }
+        }
     }
 
     // Takes the nodes that do not lie below an atom from the row of its owner, given a line of names by which none does.
+    // Atom, grid and line stand apart and not as a `Subsumer`, which lends the grid to be read: it is written here.
     fn lose_nodes_but(&self, atom: Atom, lost: &mut Grid, idle: &[u8])
         requires of_atom { OfAtom self.now atom }
         requires idle { IdleOf self.now lost.old atom idle.now }

@@ -8,7 +8,7 @@ ghost use Rattle.points.specs.Roots.{AtomReaches, RootReaches, RootBelowAtom, Fr
 
 use crate::{Classified, Grid, Restriction, Subsumee, Subsumer};
 use marks::line::Line;
-use outline::Atom;
+use outline::{Atom, Conjunct};
 
 impl Classified<'_> {
     // Whether an atom of C lies below an ∃ of D: a name that does, or an ∃ of the role over a root that the row of D's root has not lost. `lost` is the
@@ -18,13 +18,13 @@ impl Classified<'_> {
         requires idle { IdleFor self.now restriction.now }
         ensures { Tells result (AtomReaches self.now atom restriction.now.lost.now lost.now restriction.now.role restriction.now.root) }
     {
-        let role = restriction.role;
-        let Some(filler) = atom.child() else {
-            return self.node_reaches(restriction, atom.value());
-        };
-        let kept = !lost.has(restriction.root, filler);
-        let name = atom.value();
-        kept && name == role
+        match atom.conjunct {
+            Conjunct::Name(name) => self.node_reaches(restriction, usize::from(name)),
+            Conjunct::Restriction { role, filler } => {
+                let kept = !lost.has(restriction.root, usize::from(filler));
+                kept && usize::from(role) == restriction.role
+            }
+        }
     }
 
     // Whether some atom of a root does.
@@ -39,12 +39,8 @@ impl Classified<'_> {
         requires idle { IdleFor self.now restriction.now }
         ensures { Tells result (RootReaches self.now subsumee.now restriction.now.lost.now lost.now root restriction.now.role restriction.now.root) }
     {
-        for atom in subsumee.outline.atoms() {
-            if atom.owner() == root && self.atom_reaches(*atom, restriction, lost) {
-                return true;
-            }
-        }
-        false
+        subsumee.outline.atoms().iter().any(|atom| atom.owner() == root
+            && self.atom_reaches(*atom, restriction, lost))
     }
 
     // Whether a root of C lies below an atom of D.
@@ -54,10 +50,13 @@ impl Classified<'_> {
         requires idle { IdleBy self.now subsumer.now }
         ensures { Tells result (RootBelowAtom self.now subsumee.now subsumer.now.atom subsumer.now.lost.now lost.now root) }
     {
-        let Some(restriction) = subsumer.restriction() else {
-            return self.is_above(subsumee.above, root, subsumer.atom.value());
-        };
-        self.root_reaches(subsumee, &restriction, lost, root)
+        match subsumer.atom.conjunct {
+            Conjunct::Name(name) => self.is_above(subsumee.above, root, usize::from(name)),
+            Conjunct::Restriction { role, filler } => {
+                let restriction = subsumer.restriction(role, filler);
+                self.root_reaches(subsumee, &restriction, lost, root)
+            }
+        }
     }
 
     // Takes the roots of C that do not lie below an atom of D from the row of its owner.

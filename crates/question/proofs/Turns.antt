@@ -1,11 +1,21 @@
 -- The turns of the two loops over atoms, from the last to the first.
+--   next_atom    the atom of a turn
 --   fill_..      the rows of the names above the roots of C
 --   lose_..      the rows of the points that the roots of D have lost
 use mathlib.Core.Path.{◌≡◌, refl, ap, ◌∙◌}
 use mathlib.Core.List.{List, [], ◌∷◌, reverse}
 use lib.ListN.{length, get_or, take, length-reverse}
 use lib.Seq.{get_or-take, length-take-le}
+use Rattle.std.specs.Prelude.{Option, Some}
+use Rattle.std.specs.declared.iter.Rev.{Rev}
+use Rattle.std.specs.declared.slice.Iter.{Iter}
+use Rattle.std.specs.Borrow.{Bor}
+use Rattle.std.specs.Iterator.{Yields}
+use Rattle.std.specs.Iterator.Adapters.{rev_source, rev_steps}
+use Rattle.std.specs.Slice.Iter.{iter_rest, iter_steps_back}
 use Rattle.std.proofs.lemmas.List.{get_or-reverse}
+use Rattle.std.proofs.lemmas.Iterator.Adapters.{YieldsList-from_rev_slice}
+use Rattle.std.proofs.lemmas.Iterator.Consumers.{YieldsList-turn}
 use Prim.Native.Nat.{ℕ, zero, suc, ◌-◌, ◌≤◌, ◌<◌}
 use native.Mathlib.Omega.{arith}
 use Rattle.classification.proofs.AxiomRows as rows
@@ -62,8 +72,8 @@ default_free [] i x y h = absurd (omega arith)
 default_free (a ∷ o) zero x y h = refl
 default_free (a ∷ o) (suc i) x y h = default_free o i x y (omega arith)
 
-pub next_atom : (o : List Atom) {n j : ℕ} {x : Atom} → n ≤ length o → (j < length (reverse (take n o))) × (x ≡ get_or (reverse (take n o)) j x) → (j < n) × (x ≡ atom_at o (n - j - 1))
-next_atom o {n} {j} {x} h p =
+last_atom : (o : List Atom) {n j : ℕ} {x : Atom} → n ≤ length o → (j < length (reverse (take n o))) × (x ≡ get_or (reverse (take n o)) j x) → (j < n) × (x ≡ atom_at o (n - j - 1))
+last_atom o {n} {j} {x} h p =
     let long : length (take n o) ≡ n = length-take-le n o h in
     let inside : j < length (take n o) = omega (arith, p.0, length-reverse (take n o)) in
     let place : length (take n o) - 1 - j ≡ n - j - 1 = omega (arith, long) in
@@ -72,6 +82,11 @@ next_atom o {n} {j} {x} h p =
       p.1 ∙ get_or-reverse (take n o) j x inside ∙ get_or-take n o (length (take n o) - 1 - j) x small
           ∙ default_free o (length (take n o) - 1 - j) x blank (omega (arith, small, h)) ∙ ap (λ i. atom_at o i) place,
     )
+
+-- what `next` gives after the atoms xs, in a loop over the first n atoms
+pub next_atom : (o : List Atom) {n : ℕ} → n ≤ length o → (s t u : Rev (Iter Atom)) (xs : List (Bor Atom)) → Yields (rev_steps iter_steps_back) s xs t → iter_rest (rev_source s) ≡ take n o
+    → (r : Option (Bor Atom)) (x : Bor Atom) → r ≡ Some x → rev_steps iter_steps_back t r u → (length xs < n) × (x.now ≡ atom_at o (n - length xs - 1))
+next_atom o {n} h s t u xs yields begins r x is steps = last_atom o h (YieldsList-turn (YieldsList-from_rev_slice (take n o) begins) xs t yields r u x is steps)
 
 -- the rows above
 module _ {g : Classified} {o : Outline} {a : Grid} (given : ToFill g o a) where

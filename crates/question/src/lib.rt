@@ -1,4 +1,5 @@
 // The question whether an inclusion of two concepts is derivable from a release.
+// The file, the texts of both concepts and the work memory stand in separate parameters, as C lends them.
 #![tactic(auto)]
 
 ghost use Rattle.question.specs.Asking.{AskedAs};

@@ -3,10 +3,8 @@ use mathlib.Core.Path.{◌≡◌}
 use mathlib.Core.List.{[], ◌∷◌, ◌++◌}
 use Prim.Native.Nat.{◌-◌}
 use native.Mathlib.Omega.{arith}
-use lib.ListN.{length, take}
+use lib.ListN.{length}
 use Rattle.std.proofs.lemmas.List.{length_push}
-use Rattle.std.proofs.lemmas.Iterator.Adapters.{YieldsList-from_rev_slice}
-use Rattle.std.proofs.lemmas.Iterator.Consumers.{YieldsList-turn}
 use Rattle.question.proofs.Turns.{next_atom, fill_atom, fill_start, fill_turn}
 use Rattle.question.proofs.evaluation.fill_above.Goals as goal
 
@@ -16,14 +14,12 @@ loop-atom-init c =
 
 pub raise-requires : goal.raise-requires
 raise-requires c =
-    let i = next_atom _ c.requires.shape.room (YieldsList-turn (YieldsList-from_rev_slice (take c.args.outline.now.extent.atoms c.args.outline.now.atoms) (cc))
-    c.loop-atom.yielded _ c.loop-atom.yielded_by _ _ c.in-Some.atom c.in-Some.is c.next.ensures.steps) in
+    let i = next_atom _ c.requires.shape.room _ _ _ _ c.loop-atom.yielded_by (cc) _ _ c.in-Some.is c.next.ensures.steps in
     rw i.1 (fill_atom c.requires.world c.requires.shape (omega (arith, i.0)))
 
 pub loop-atom-preserved : goal.loop-atom-preserved
 loop-atom-preserved c =
-    let i = next_atom _ c.requires.shape.room (YieldsList-turn (YieldsList-from_rev_slice (take c.args.outline.now.extent.atoms c.args.outline.now.atoms) (cc))
-    c.loop-atom.yielded _ c.loop-atom.yielded_by _ _ c.in-Some.atom c.in-Some.is c.next.ensures.steps) in
+    let i = next_atom _ c.requires.shape.room _ _ _ _ c.loop-atom.yielded_by (cc) _ _ c.in-Some.is c.next.ensures.steps in
     let n = c.args.outline.now.extent.atoms in
     let e : n - length (c.loop-atom.yielded ++ c.in-Some.atom ∷ []) ≡ n - length c.loop-atom.yielded - 1 = omega (arith, length_push c.loop-atom.yielded c.in-Some.atom) in
     rw e (fill_turn c.requires (omega (arith, i.0)) (omega arith) c.loop-atom.invariant (rw i.1 at c.raise.ensures))
