@@ -170,10 +170,7 @@ pub fn berrytick_report(
     // A local array, since there is no heap.
     let mut result = [0u8; Release::NAMES];
     match compare_releases(first, second, signature, &mut result, work) {
-        Ok(counts) => give_length(
-            write_report(counts.names, counts.roles, &result, output),
-            length,
-        ),
+        Ok(counts) => give_length(write_report(counts, &result, output), length),
         Err(refusal) => refusal_code(refusal),
     }
 }

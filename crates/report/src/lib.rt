@@ -18,25 +18,24 @@ mod numbers;
 mod refusals;
 pub mod sheet;
 
-// Writes the report of a comparison whose result is the first `names` bytes of `result_bytes`, and answers its length. The two
-// numbers stand apart and not as a `Compared`, as README shows this call.
+// Writes the report of a comparison with these counts, whose result is the first bytes of `result_bytes`, one for each name, and
+// answers its length.
 pub fn write_report(
-    names: u16,
-    roles: u8,
+    counts: Compared,
     result_bytes: &[u8],
     output: &mut [u8],
 ) -> Result<usize, ReportRefusal>
-    ensures { WrittenAs (report_answer names roles result_bytes.now output.old)
-        (report_text names roles result_bytes.now) output.old output.new result }
+    ensures { WrittenAs (report_answer counts.names counts.roles result_bytes.now output.old)
+        (report_text counts.names counts.roles result_bytes.now) output.old output.new result }
 {
-    let count = usize::from(names);
+    let count = usize::from(counts.names);
     if result_bytes.len() < count {
         return Err(ReportRefusal::ShortResult);
     }
     let bytes = &result_bytes[..count];
     let report = Report {
         names: count,
-        roles: usize::from(roles),
+        roles: usize::from(counts.roles),
         left: Side::Left.count(bytes),
         right: Side::Right.count(bytes),
         bytes,
@@ -68,7 +67,7 @@ pub fn write_answer<R: Refusal>(
         (answer_text (told R.numbers answer) result_bytes.now) output.old output.new result }
 {
     match answer {
-        Ok(counts) => write_report(counts.names, counts.roles, result_bytes, output),
+        Ok(counts) => write_report(counts, result_bytes, output),
         Err(refusal) => write_refusal(refusal, output),
     }
 }

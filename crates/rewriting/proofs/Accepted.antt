@@ -17,7 +17,7 @@ use Rattle.release.proofs.Numbers.{width_1, width_2}
 use Rattle.release.specs.declared.number.Version.{Version}
 use Rattle.release.specs.declared.number.Version.TheVariants.{One, Two}
 use Rattle.release.specs.Versions.{width as version_width}
-use Rattle.release.proofs.Headers.{Started, header_none}
+use Rattle.release.proofs.Headers.{Headed, header_none}
 use Rattle.release.proofs.Checks.{header_sound}
 use Rattle.release.proofs.Linked.{no_header_fault, no_axiom_fault, no_conjunct_defined}
 use Rattle.rewriting.specs.Bytes.{number_bytes, axioms_bytes, release_bytes}
@@ -108,8 +108,11 @@ module _ (w n m : ℕ) (al : List Axiom) (width : IsWidth w) (few : n ≤ most_n
       by_version : (v : Version) × (version_width v ≡ w) → header_fault t ≡ 0
       by_version (v, e) =
           let l = header_bytes w n m al in
-          let started : Started t v = record { long = omega (arith, l, width.some); marked = marked; version = e ∙ sym version_back } in
-          header_none t v started (omega (arith, l, e)) (rw (e, names_back) few) (rw roles_back few_roles) (rw (count_back, names_back) few_axioms)
+          let headed : Headed t v = record {
+            start = record { long = omega (arith, l, width.some); marked = marked; version = e ∙ sym version_back };
+            whole = omega (arith, l, e);
+          } in
+          header_none t v headed (rw (e, names_back) few) (rw roles_back few_roles) (rw (count_back, names_back) few_axioms)
 
 -- the whole file
 module _ (w : ℕ) (s : List ℕ) (width : IsWidth w) (ok : fault s ≡ 0) (few : names_of s ≤ most_names_of w) where

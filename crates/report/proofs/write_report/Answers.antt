@@ -9,5 +9,5 @@ returns-then-result_bytes-count c = result_too_short _ _ _ _ (omega arith) refl
 
 pub returns : goal.returns
 returns c =
-    let told = counted_text c.args.names c.args.roles c.args.result_bytes.now c.args.output.now _ _ _ _ c.from-count.ensures c.from.ensures c.count.ensures c.count-2.ensures in
+    let told = counted_text c.args.counts.names c.args.counts.roles c.args.result_bytes.now c.args.output.now _ _ _ _ c.from-count.ensures c.from.ensures c.count.ensures c.count-2.ensures in
     result_long_enough _ _ _ _ (omega arith) (whole_written _ _ _ _ _ (c.put_whole.ensures _ (λ o q next e. put_as told (search rules))) c.ok_or.ensures.value)
