@@ -19,7 +19,10 @@ pub filler-requires : goal.filler-requires
 filler-requires c = shaped_row c.requires.setting.shaped c.if-restriction-self.true
 
 pub is_marked-requires : goal.is_marked-requires
-is_marked-requires c = record { room = (setting_stays c.loop-restriction.invariant c.requires.setting).room; x_le_names = (omega (arith, c.if-restriction-self.true), omega (arith, c.if-restriction-self.true)) }
+is_marked-requires c = record {
+  room = (setting_stays c.loop-restriction.invariant c.requires.setting).room;
+  x_le_names = (omega (arith, c.if-restriction-self.true), omega (arith, c.if-restriction-self.true));
+}
 
 pub put_filled-requires : goal.put_filled-requires
 put_filled-requires c = restriction_of (setting_stays c.loop-restriction.invariant c.requires.setting) c.if-restriction-self.true c.filler.ensures c.if-filler-x.true

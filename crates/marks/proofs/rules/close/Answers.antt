@@ -14,7 +14,8 @@ pub wait_for_new-requires : goal.wait_for_new-requires
 wait_for_new-requires g c = g.met.R.Rules.stays _ _ _ (grows_further c.loop-work.invariant c.pass.ensures.grows) c.requires
 
 pub deal_with_all-requires : goal.deal_with_all-requires
-deal_with_all-requires g c = g.met.R.Rules.stays _ _ _ (grows_further (grows_further c.loop-work.invariant c.pass.ensures.grows) (grows_wider (g.met.R.Rules.wider _) c.wait_for_new.ensures)) c.requires
+deal_with_all-requires g c = g.met.R.Rules.stays _ _ _
+    (grows_further (grows_further c.loop-work.invariant c.pass.ensures.grows) (grows_wider (g.met.R.Rules.wider _) c.wait_for_new.ensures)) c.requires
 
 pub loop-work-smaller : goal.loop-work-smaller
 loop-work-smaller g c = omega (arith, unset_falls c.wait_for_new.ensures, unset_falls c.deal_with_all.ensures, c.pass.ensures.fewer c.loop-work-test.true)
