@@ -143,7 +143,7 @@ impl<'a> Source<'a> {
     }
 
     // The axiom at `at`, whose left name is at least `least`.
-    pub(crate) fn read_axiom(&self, at: usize, least: usize) -> Result<(Entry, Cursor), FileRefusal>
+    pub fn read_axiom(&self, at: usize, least: usize) -> Result<(Entry, Cursor), FileRefusal>
         requires { at ≤ length self.now.file.now }
         ensures { told file_refusal result ≡ reading_at (width self.now.version) self.now.counts.names self.now.counts.roles least self.now.file.now at }
     {

@@ -99,7 +99,7 @@ module _ (s : List ℕ) (bytes : Bytes s) where
           (number_at w (p + 1) (omega arith)) in
           rw (e, tail_bytes) (then_at 1 (get_or s p 0) p (one_at p (omega arith)) last)
 
-  axiom_at_lem : (w p : ℕ) → AxiomStands w s p → At s p (axiom_bytes w (axiom_at w s p))
+  pub axiom_at_lem : (w p : ℕ) → AxiomStands w s p → At s p (axiom_bytes w (axiom_at w s p))
   unfolding axiom_bytes axiom_at
   axiom_at_lem w p h =
       let tail = tail_at w (get_or s (p + w) 0) (p + w + 1) (tail_stands w s p h) in

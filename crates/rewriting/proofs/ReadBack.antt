@@ -152,12 +152,12 @@ module _ (v w n : ℕ) (s t : List ℕ) (width : IsWidth w) (few : n ≤ most_na
       by_kind false false e f = let z : ◌≡◌ {A = ℕ} 8 0 = rw (e, f) at h in absurd (omega arith)
 
   -- an axiom
-  record Axiomed (m least p q : ℕ) : Type 0 where
-    none : axiom_fault w n m least t q ≡ 0
-    left : number w t q ≡ number v s p
-    same : axiom_at w t q ≡ axiom_at v s p
+  pub record Axiomed (m least p q : ℕ) : Type 0 where
+    pub none : axiom_fault w n m least t q ≡ 0
+    pub left : number w t q ≡ number v s p
+    pub same : axiom_at w t q ≡ axiom_at v s p
 
-  axiom_back : (m least p q : ℕ) → m ≤ 32 → axiom_fault v n m least s p ≡ 0 → At t q (axiom_bytes w (axiom_at v s p)) → Axiomed m least p q
+  pub axiom_back : (m least p q : ℕ) → m ≤ 32 → axiom_fault v n m least s p ≡ 0 → At t q (axiom_bytes w (axiom_at v s p)) → Axiomed m least p q
   unfolding axiom_fault axiom_bytes axiom_at
   axiom_back m least p q few_roles h a =
       let x = number v s p in
