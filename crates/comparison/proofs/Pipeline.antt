@@ -1,8 +1,8 @@
 -- The four squares one after the other, and the result: what each call asks follows from what the calls before it gave.
 --   first_unclassified, second_unclassified, first_area, both_filled     the two classifications, the hints, and what they give together
 --   unchanged, room_behind, second_behind, prepared            the second square turned behind its rows: memory that is ready
---   first_rowed, second_rowed, names_long, PutBy, handed         what finding edges asks, what marks are put by, and what is handed on of the signature
---   comparing, forward_asks, backward_asks, all_marked     the marks
+--   handable, names_long, handed         what finding edges asks, and what is handed on of the signature
+--   comparing, comparing_first, forward_asks, backward_asks, all_marked     the marks
 --   readable, marking                              what writing the result bytes asks and gives
 --   both_in, given_in, compared, compared_again             what it asks of memory of the same length, and what it gives
 use mathlib.Core.Path.{◌≡◌, refl, sym, ap, ◌∙◌}
@@ -18,6 +18,7 @@ use lib.ListN.{length, get_or, take}
 use lib.Seq.{ext_get_or, get_or-take, length-take-le}
 use Rattle.el.proofs.Tests.{which}
 use Rattle.release.specs.Files.{most_names}
+use Rattle.release.specs.declared.terminology.Terminology.{Terminology}
 use Rattle.signature.specs.Bytes.{signature_fault}
 use Rattle.marks.specs.declared.Square.{Square}
 use Rattle.marks.specs.Squares.{most_cells, span, place, behind, Room, Area, Unmarked, Touches, Kept, Apart, Frame}
@@ -29,16 +30,15 @@ use Rattle.classification.proofs.AxiomRows.{ranges}
 use Rattle.classification.proofs.Meaning.{inclusions_stay}
 use Rattle.layout.specs.declared.Layout.{Layout}
 use Rattle.layout.specs.declared.Given as layout
-use Rattle.layout.specs.Tables.{Rowed}
 use Rattle.layout.specs.Layouts.{first_square, second_square, mark_square}
-use Rattle.layout.specs.Findings.{Found, Handed}
+use Rattle.layout.specs.Findings.{Handed}
 use Rattle.layout.specs.Comparing.{Comparing}
 use Rattle.layout.proofs.Comparing.{rowed, setting}
 use Rattle.forward.specs.Rules.{Beneath, Setting}
 use Rattle.forward.specs.Forward.{ForwardMarked, Forwarded, ForwardFrom}
 use Rattle.backward.specs.Backward.{Backwarded, BackwardFrom}
 use Rattle.comparison.specs.Bytes.{Readable, Written}
-use Rattle.comparison.specs.Compared.{SecondTurned, forward_layout, backward_layout, square_at, BothGiven, Given, BothIncluded, Ready, Prepared, AllMarked, ZeroedBetween}
+use Rattle.comparison.specs.Compared.{SecondTurned, forward_layout, backward_layout, square_at, Handable, PutBy, BothGiven, Given, BothIncluded, Ready, Prepared, AllMarked, ZeroedBetween}
 use Rattle.comparison.specs.declared.Releases.{Releases}
 use Rattle.comparison.specs.Compared.{Marking, Compared, ComparedAgain}
 use Rattle.comparison.proofs.Rows.{two_spans, RowsSame, same_marked, marked_same}
@@ -47,6 +47,9 @@ use Rattle.comparison.proofs.Bytes.{is_byte}
 pub signature_long : (n m : ℕ) (g : List ℕ) → signature_fault n m g ≡ 0 → n + m ≤ length g
 unfolding signature_fault
 signature_long n m g h = elim (which (eqb (length g) (n + m))) [ inl e ↦ omega (arith, eqb-true (length g) (n + m) e) | inr e ↦ absurd (omega (arith, rw e at h)) ]
+
+pub names_long : {g : List ℕ} {r : Releases} → Handable g r → r.names ≤ length (take r.names g)
+names_long {g} {r} h = omega (arith, length-take-le r.names g (omega (arith, signature_long r.names r.roles g h.signature)))
 
 forward_stays : {g s t : List ℕ} {l : Layout} {q : Square} {w v : List ℕ} → Frame q w v → Apart (mark_square l) q → ForwardMarked g s t l w → ForwardMarked g s t l v
 forward_stays f d m = record { sound = λ x y h k e. m.sound x y h k (marked_frame f d h k e); kept = λ x y h k e. m.kept x y h k (λ z. e (frame_marked f d h k z)) }
@@ -146,13 +149,9 @@ module _ {r : Releases} {w v u : List ℕ} (b : BothIncluded r w v) (turn : Seco
     };
   }
 
--- what marks are put by: the releases, what is handed on of the signature, and a layout of the four squares
-pub record PutBy (g : List ℕ) (r : Releases) (l : Layout) (h : layout.Given) : Type 0 where
-  pub names : h.chosen_names.now ≡ take r.names g
-  pub found : Found g r.first.table.now r.names r.roles h.edges.now
-  pub first : h.first ≡ r.first
-  pub second : h.second ≡ r.second
-  pub layout : h.layout ≡ l
+-- the files that are compared, by another name
+of_files : {s t s' t' : List ℕ} {h : layout.Given} {w : List ℕ} → s' ≡ s → t' ≡ t → Comparing s t h w → Comparing s' t' h w
+of_files e f c = rw (e, f) c
 
 -- two releases, and memory for the four squares
 module _ {r : Releases} {w : List ℕ} (both : BothGiven r w) where
@@ -235,17 +234,8 @@ module _ {r : Releases} {w : List ℕ} (both : BothGiven r w) where
   layout_at base = record { names = n; roles = r.roles; first = 0; second = k; marks = base; few = r.few }
 
   -- what is handed on of the signature
-  pub first_rowed : Rowed n r.first.table.now
-  first_rowed = rowed (ranges both.first both.first_names)
-
-  pub second_rowed : Rowed n r.second.table.now
-  second_rowed = rowed (ranges both.second both.second_names)
-
-  pub long_enough : (g : List ℕ) → signature_fault n r.roles g ≡ 0 → n + r.roles ≤ length g
-  long_enough g accepted = signature_long n r.roles g accepted
-
-  pub names_long : (g : List ℕ) → signature_fault n r.roles g ≡ 0 → n ≤ length (take n g)
-  names_long g accepted = omega (arith, length-take-le n g (omega (arith, long_enough g accepted)))
+  pub handable : {g : List ℕ} → signature_fault n r.roles g ≡ 0 → Handable g r
+  handable accepted = record { first = rowed (ranges both.first both.first_names); second = rowed (ranges both.second both.second_names); signature = accepted }
 
   module _ {g : List ℕ} {base : ℕ} {h : layout.Given} (by : PutBy g r (layout_at base) h) where
     pub handed : Handed g h
@@ -281,7 +271,7 @@ module _ {r : Releases} {w : List ℕ} (both : BothGiven r w) where
     forward_below some = record { room = below_room r (omega (arith, both.room)) some refl; turned = ready.turned some; apart = omega (arith, two_spans n some) }
 
     module _ {g : List ℕ} {h : layout.Given} (by : PutBy g r (forward_layout r) h) where
-      comparing_first : Comparing s t h w
+      pub comparing_first : Comparing s t h w
       comparing_first = comparing by (omega arith) (omega arith) refl ready.first ready.second (unmarked (2 * k) (omega arith) (omega arith))
 
       pub forward_asks : Setting h w
@@ -291,11 +281,14 @@ module _ {r : Releases} {w : List ℕ} (both : BothGiven r w) where
         forth : Forwarded g s t (forward_layout r) w w2
         forth = rw by.layout at (f.of_releases g s t (handed by) comparing_first)
 
-        pub backward_asks : Comparing s t i w2
-        backward_asks = comparing also (omega arith) (omega arith) forth.frame.long
+        comparing_second : Comparing s t i w2
+        comparing_second = comparing also (omega arith) (omega arith) forth.frame.long
             (inclusions_stay forth.frame (inl (omega (arith, span_size n))) ready.first)
             (inclusions_stay forth.frame (inl (omega (arith, span_size n))) ready.second)
             (frame_unmarked forth.frame (inr (omega (arith, span_size n))) (unmarked (3 * k) (omega arith) (omega arith)))
+
+        pub backward_asks : Comparing i.first.file.now i.second.file.now i w2
+        backward_asks = of_files (ap (λ (x : Terminology). x.file.now) also.first) (ap (λ (x : Terminology). x.file.now) also.second) comparing_second
 
         pub all_marked : {w3 : List ℕ} → BackwardFrom i w2 w3 → AllMarked g r w w3
         all_marked {w3} b =
@@ -312,7 +305,7 @@ module _ {r : Releases} {w : List ℕ} (both : BothGiven r w) where
   module _ {g v : List ℕ} (marked : AllMarked g r w v) where
     pub readable : signature_fault n r.roles g ≡ 0 → Readable g (forward_layout r) (backward_layout r) v
     readable accepted = record {
-      signature = long_enough g accepted;
+      signature = signature_long n r.roles g accepted;
       same_names = refl;
       forward = room_at (2 * k) (omega arith) v marked.long;
       backward = room_at (3 * k) (omega arith) v marked.long;

@@ -1,5 +1,8 @@
 -- What a comparison asks and gives: signature bytes g, releases r, the memory w, the result o.
 --   forward_layout r, backward_layout r     where the marks are read and written: four squares lie one after the other
+--   IsLent g r l                  l is the lent signature of the bytes g, for releases r
+--   Handable g r                  the tables and the signature are as marks are put by them
+--   PutBy g r l h                 h is what marks are put by: the releases, what is handed on of the signature, and a layout of the four squares
 --   BothGiven r w                 accepted releases with their tables, and memory for four squares
 --   Given g r w                   and an accepted signature
 --   BothIncluded r w v            the memory w became v: the first two squares hold the inclusions of the releases, the others are 0, and
@@ -14,17 +17,21 @@
 --   Marking g r o p w v           so it is, and the memory changed in the last two squares alone
 --   Compared g r o p w v          so it is, and the memory w became v: 0 as far as the four squares go, later bytes as before
 --   ComparedAgain g r o p w v     so it is, and the memory is as it was
-use Rattle.std.specs.Prelude.{◌≡◌, List, ℕ, ◌+◌, ◌*◌, ◌≤◌, ◌<◌, length, get_or}
+use Rattle.std.specs.Prelude.{◌≡◌, List, ℕ, ◌+◌, ◌*◌, ◌≤◌, ◌<◌, length, get_or, take}
 use Rattle.el.specs.Comparison.{IsByte}
 use Rattle.release.specs.Files.{names_of, axioms_of}
 use Rattle.release.specs.Tables.{Release}
 use Rattle.signature.specs.Bytes.{signature_fault, signature_of}
+use Rattle.signature.specs.declared.lent.LentSignature.{LentSignature}
 use Rattle.marks.specs.declared.Square.{Square}
 use Rattle.marks.specs.Squares.{span, behind}
 use Rattle.marks.specs.Inclusions.{Turned}
 use Rattle.marks.specs.Memory.{size}
 use Rattle.classification.specs.Inclusions.{Inclusions}
 use Rattle.layout.specs.declared.Layout.{Layout}
+use Rattle.layout.specs.declared.Given as layout
+use Rattle.layout.specs.Tables.{Rowed}
+use Rattle.layout.specs.Findings.{Found}
 use Rattle.comparison.specs.declared.Releases.{Releases}
 use Rattle.forward.specs.Forward.{ForwardMarked}
 use Rattle.backward.specs.Backward.{BackwardMarked}
@@ -37,6 +44,23 @@ backward_layout r = record { names = r.names; roles = r.roles; first = 0; second
 
 abbrev pub square_at : ℕ → ℕ → Square
 square_at n base = record { base = base; names = n }
+
+pub record IsLent (g : List ℕ) (r : Releases) (l : LentSignature) : Type 0 where
+  pub bytes : l.bytes.now ≡ g
+  pub names : l.names ≡ r.names
+  pub roles : l.roles ≡ r.roles
+
+pub record Handable (g : List ℕ) (r : Releases) : Type 0 where
+  pub first : Rowed r.names r.first.table.now
+  pub second : Rowed r.names r.second.table.now
+  pub signature : signature_fault r.names r.roles g ≡ 0
+
+pub record PutBy (g : List ℕ) (r : Releases) (l : Layout) (h : layout.Given) : Type 0 where
+  pub names : h.chosen_names.now ≡ take r.names g
+  pub found : Found g r.first.table.now r.names r.roles h.edges.now
+  pub first : h.first ≡ r.first
+  pub second : h.second ≡ r.second
+  pub layout : h.layout ≡ l
 
 pub record BothGiven (r : Releases) (w : List ℕ) : Type 0 where
   pub first : Release r.first.file.now r.first.table.now

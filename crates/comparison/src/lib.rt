@@ -30,7 +30,7 @@ impl<'a> Releases<'a> {
 
     // Where forward marks are read and written. The work memory has four squares, one after the other: the inclusions of the first release,
     // those of the second, forward marks and backward marks.
-    fn forward_layout(&self) -> Layout
+    pub fn forward_layout(&self) -> Layout
         ensures { result ≡ forward_layout self.now }
     {
         let size = marks::size(self.names);

@@ -1,7 +1,8 @@
 // The marks of a comparison over one signature, in prepared memory.
-ghost use Rattle.std.specs.Prelude.{◌*◌, ◌≤◌, length};
+ghost use Rattle.std.specs.Prelude.{◌≡◌, ◌*◌, ◌≤◌, length};
+ghost use Rattle.signature.specs.Bytes.{signature_fault};
 ghost use Rattle.marks.specs.Squares.{most_cells};
-ghost use Rattle.comparison.specs.Compared.{Given, Ready, AllMarked, ZeroedBetween};
+ghost use Rattle.comparison.specs.Compared.{forward_layout, IsLent, Handable, PutBy, Given, Ready, AllMarked, ZeroedBetween};
 
 use crate::Releases;
 use backward::mark_lost_below;
@@ -11,7 +12,35 @@ use release::Release;
 use signature::LentSignature;
 
 impl<'a> Releases<'a> {
-    // Fills the last two squares: the forward marks and the backward marks. The edges with a role of the signature are found once, for both.
+    // The signature as it was lent, with the numbers of names and roles of the releases.
+    pub fn lend<'b>(&self, signature: &'b [u8]) -> LentSignature<'b>
+        requires { signature_fault self.now.names self.now.roles signature.now ≡ 0 }
+        ensures { IsLent signature.now self.now result }
+    {
+        LentSignature {
+            bytes: signature,
+            names: self.names,
+            roles: self.roles,
+        }
+    }
+
+    // What marks are put by, forward marks here: whether each name has an edge with a role of the signature is found, and lent for that.
+    pub fn given(self, signature: &'a [u8], edges: &'a mut [bool]) -> layout::Given<'a>
+        requires ranged { Handable signature.now self }
+        requires names_in_bounds { self.names ≤ length edges.old }
+        ensures { PutBy signature.now self.entry (forward_layout self.entry) result }
+    {
+        find_edges(&self.lend(signature), &self.first, edges);
+        layout::Given {
+            chosen_names: &signature[..self.names],
+            edges,
+            first: self.first,
+            second: self.second,
+            layout: self.forward_layout(),
+        }
+    }
+
+    // Fills the last two squares: the forward marks and the backward marks. The edges are found once, for both.
     pub fn mark(&self, signature: &[u8], work: &mut [u8])
         requires given { Given signature.now self.now work.old }
         requires ready { Ready self.now work.old }
@@ -19,19 +48,7 @@ impl<'a> Releases<'a> {
     {
         // an array, since there is no heap
         let mut edges = [false; Release::NAMES];
-        let lent = LentSignature {
-            bytes: signature,
-            names: self.names,
-            roles: self.roles,
-        };
-        find_edges(&lent, &self.first, &mut edges);
-        let mut given = layout::Given {
-            chosen_names: &signature[..self.names],
-            edges: &edges,
-            first: self.first,
-            second: self.second,
-            layout: self.forward_layout(),
-        };
+        let mut given = self.given(signature, &mut edges);
         mark_lost_above(&given, work);
         given.layout = self.backward_layout();
         mark_lost_below(&given, work);
