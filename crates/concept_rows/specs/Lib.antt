@@ -1,0 +1,3 @@
+-- Concepts written as rows. To be read in this order.
+pub mod Rows
+pub mod Lent

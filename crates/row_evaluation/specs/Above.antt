@@ -1,0 +1,74 @@
+-- The names above a row, by the bytes of earlier rows. A row has the names that are not defined by a conjunction; the others, and ⊤, follow from
+-- those. E is what rows are evaluated by, w the memory.
+--   ShapedBy E                the table has a row for each name, and what it says of names is there
+--   Upward E w                what the functions ask: such a table, a square of inclusions, and bytes behind it
+--   PartsHold E w k y         row k has all conjuncts of y
+--   RowBelow E w k y          row k lies below the node y: ⊤; it has all conjuncts of y; or it has y
+--   AboveBy E w r y           the row r lies below the name y, which is not defined by a conjunction
+--   PlainAbove E w r y        y is such a name, and that
+--   NameAbove E ys j y        y is such a name, and row j lies below it
+--   BlankAbove E ys k w       bytes for k rows, all 0, and rows that use only what is there
+--   AboveFilled E ys k w v    the memory w became v: its bytes tell what lies above the first k rows, and all else is as before
+use Rattle.std.specs.Prelude.{◌≡◌, List, ℕ, ◌+◌, ◌*◌, ◌≤◌, ◌<◌, length, get_or}
+use Rattle.el.specs.Concepts.{name}
+use Rattle.el.specs.Derivability.{Derives}
+use Rattle.el.specs.Signatures.{Signature}
+use Rattle.el.specs.Terminologies.{NamesBelow}
+use Rattle.concept_rows.specs.Rows.{Row, concept_of_row}
+use Rattle.concept_rows.specs.Lent.{row_at}
+use Rattle.concept_rows.proofs.Rows.{Formed}
+use Rattle.release.specs.Files.{most_names}
+use Rattle.release.specs.Tables.{kind_at, role_at, filler_at, count_at, part_at, Shaped}
+use Rattle.marks.specs.Squares.{span, Room, Marked}
+use Rattle.row_evaluation.specs.declared.Evaluation.{Evaluation}
+use Rattle.row_evaluation.specs.Cells.{cell, Holds, Told}
+use Rattle.row_evaluation.specs.Worlds.{WorldOf, axioms_in}
+use Rattle.row_evaluation.specs.Below.{RowIn}
+
+abbrev pub ShapedBy : Evaluation → Type 0
+ShapedBy E = Shaped E.square.names E.terminology.file.now E.terminology.table.now
+
+pub record Upward (E : Evaluation) (w : List ℕ) : Type 0 where
+  pub shaped : ShapedBy E
+  pub room : Room E.square w
+  pub apart : E.square.base + span E.square.names ≤ E.base
+  pub few : E.square.names ≤ most_names
+
+pub record PartsHold (E : Evaluation) (w : List ℕ) (k y : ℕ) : Type 0 where
+  pub each : (i : ℕ) → i < count_at E.terminology.file.now E.terminology.table.now y
+      → Holds w E.base E.square.names k (part_at E.terminology.file.now E.terminology.table.now y i)
+
+pub data RowBelow (E : Evaluation) (w : List ℕ) (k y : ℕ) : Type 0 where
+  top_above : y ≡ E.square.names → RowBelow E w k y
+  parts_above : y < E.square.names → kind_at E.terminology.table.now y ≡ 2 → PartsHold E w k y → RowBelow E w k y
+  name_above : y < E.square.names → (kind_at E.terminology.table.now y ≡ 2 → ⊥) → Holds w E.base E.square.names k y → RowBelow E w k y
+
+pub data AboveBy (E : Evaluation) (w : List ℕ) (r : Row) (y : ℕ) : Type 0 where
+  above_name : r.kind ≡ 1 → Marked E.square w r.one y → AboveBy E w r y
+  above_one : r.kind ≡ 2 → Holds w E.base E.square.names r.one y → AboveBy E w r y
+  above_other : r.kind ≡ 2 → Holds w E.base E.square.names r.other y → AboveBy E w r y
+  above_some : r.kind ≡ 3 → kind_at E.terminology.table.now y ≡ 4 → role_at E.terminology.table.now y ≡ r.one
+      → RowBelow E w r.other (filler_at E.terminology.table.now y) → AboveBy E w r y
+
+pub record PlainAbove (E : Evaluation) (w : List ℕ) (r : Row) (y : ℕ) : Type 0 where
+  pub is_name : y < E.square.names
+  pub plain : kind_at E.terminology.table.now y ≡ 2 → ⊥
+  pub above : AboveBy E w r y
+
+pub record NameAbove (E : Evaluation) (ys : List ℕ) (j y : ℕ) : Type 0 where
+  pub is_name : y < E.square.names
+  pub plain : kind_at E.terminology.table.now y ≡ 2 → ⊥
+  pub above : Derives (axioms_in E) (concept_of_row (row_at ys) j) (name y)
+
+pub record BlankAbove (E : Evaluation) (ys : List ℕ) (k : ℕ) (w : List ℕ) : Type 0 where
+  pub upward : Upward E w
+  pub rows : 3 * k ≤ length ys
+  pub fit : (i : ℕ) → i < k → RowIn E.square.names i (row_at ys i)
+  pub inside : cell E.base E.square.names k 0 ≤ length w
+  pub zero : (p : ℕ) → E.base ≤ p → p < cell E.base E.square.names k 0 → get_or w p 0 ≡ 0
+
+pub record AboveFilled (E : Evaluation) (ys : List ℕ) (k : ℕ) (w v : List ℕ) : Type 0 where
+  pub long : length v ≡ length w
+  pub before : (p : ℕ) → p < E.base → get_or v p 0 ≡ get_or w p 0
+  pub past : (p : ℕ) → cell E.base E.square.names k 0 ≤ p → get_or v p 0 ≡ get_or w p 0
+  pub told : (sig : Signature) → WorldOf E w → NamesBelow E.square.names sig → Formed sig (row_at ys) k → Told (NameAbove E ys) E.square.names v E.base k
