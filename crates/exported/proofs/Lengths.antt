@@ -2,6 +2,7 @@
 --   counts_fit          the counts of an accepted release
 --   shown_fits          the place of an axiom shown: an accepted file is short
 --   rewriting_short     the length of a rewritten file
+--   rows_fit            how many rows of a concept are written
 use mathlib.Core.Path.{◌≡◌, refl}
 use mathlib.Core.Bool.{Bool, true, false}
 use mathlib.Core.List.{List}
@@ -29,6 +30,9 @@ use Rattle.rewriting.specs.Refusals.{rewrite_refusal}
 use Rattle.rewriting.specs.declared.refusals.RewriteRefusal.{RewriteRefusal}
 use Rattle.rewriting.proofs.Lengths.{length_found, length_few, count_few}
 use Rattle.rewriting.proofs.RoundTrip.{wrote}
+use Rattle.witness.specs.Showing.{ShownAs}
+use Rattle.witness.specs.declared.refusals.ShowRefusal.{ShowRefusal}
+use Rattle.witness.proofs.Passing.{few_rows}
 use Rattle.exported.specs.Codes.{Fits32}
 
 -- counts
@@ -84,3 +88,8 @@ rewriting_short {w} {s} {o} {p} (Ok k) does h =
     let few = length_few s ok (count_of s) (width_of s) refl refl w h in
     omega (arith, found.long, long, few, count_few s ok)
 rewriting_short (Err e) does h = tt
+
+-- a concept shown
+pub rows_fit : {s t g ys zs w v : List ℕ} {side x : ℕ} (a : Result ℕ ShowRefusal) → ShownAs s t g side x ys zs w v a → IfOk a Fits32
+rows_fit (Ok k) shown = omega (arith, few_rows shown)
+rows_fit (Err e) shown = tt

@@ -66,15 +66,16 @@ check_outcome (Err k) = Err k
 abbrev pub CheckReturns : List ℕ → List ℕ → List ℕ → ℕ → Type 0
 CheckReturns s before after r = Returns (check_outcome (checked s)) before after r
 
--- a question
-abbrev pub ask_outcome : Result Bool Numbers → Result ℕ Numbers
-ask_outcome (Ok value) = Ok (answer_number value)
-ask_outcome (Err k) = Err k
+-- what is answered yes or no: 1 or 0
+abbrev pub yes_or_no : Result Bool Numbers → Result ℕ Numbers
+yes_or_no (Ok value) = Ok (answer_number value)
+yes_or_no (Err k) = Err k
 
+-- a question
 pub record AskReturns (s c d : List ℕ) (before after : ℕ) (w w2 : List ℕ) (r : ℕ) : Type 0 where
   pub answer : Result Bool AskRefusal
   pub says : AskedAs s c d w w2 answer
-  pub returns : Returns (ask_outcome (told ask_refusal answer)) before after r
+  pub returns : Returns (yes_or_no (told ask_refusal answer)) before after r
 
 -- an axiom shown: the side that holds it, where it starts and how long it is
 abbrev pub place_numbers : Place → List ℕ

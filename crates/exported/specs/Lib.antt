@@ -1,2 +1,3 @@
--- Answers as numbers.
+-- Answers as numbers. To be read in this order.
 pub mod Codes
+pub mod Concepts

@@ -4,7 +4,7 @@
 
 ghost use Rattle.std.specs.Prelude.{◌≡◌, IfOk};
 ghost use Rattle.release.specs.Refusals.{told};
-ghost use Rattle.exported.specs.Codes.{refusal_code, code_of, Fits32, Returns};
+ghost use Rattle.exported.specs.Codes.{refusal_code, code_of, yes_or_no, Fits32, Returns};
 ghost use Rattle.exported.specs.Codes.{CheckReturns, AskReturns, ShowReturns, CompareReturns, SheetReturns};
 ghost use Rattle.exported.specs.Codes.{RewriteReturns, ReportReturns, WorkLengthReturns};
 
@@ -19,13 +19,14 @@ use release::{ConceptName, Refusal, Release, check_release};
 use report::{ReportRefusal, write_report};
 use rewriting::rewrite;
 
+pub mod concepts;
 mod refusals;
 
 // The length of the longest report there can be: 1,023 names, each with a line.
 const REPORT: usize = 6202;
 
-// The code of a refusal. Three calls below and `give_length` end in the same two arms, one that writes the answer and one that is this: a function
-// over a closure that writes would be no plainer, since its contract would have to say what each closure writes and leaves.
+// The code of a refusal. Two calls and both functions that give an answer below end in the same two arms, one that writes the answer and one that
+// is this: a function over a closure that writes would be no plainer, since its contract would have to say what each closure writes and leaves.
 fn refusal_code<R: Refusal>(refusal: R) -> u32
     ensures { result ≡ refusal_code (R.numbers refusal) }
 {
@@ -42,7 +43,7 @@ fn code_of<A: Copy, R: Refusal>(answer: Result<A, R>) -> u32
     }
 }
 
-// Gives the length of what was written. Here and below `as` is proved to keep the number; `try_from` would test it once more.
+// Gives the length of what was written, in bytes or in rows. Here and below `as` is proved to keep the number; `try_from` would test it once more.
 fn give_length<R: Refusal>(answer: Result<usize, R>, length: &mut u32) -> u32
     requires { IfOk answer Fits32 }
     ensures { Returns (told R.numbers answer) length.old length.new result }
@@ -50,6 +51,19 @@ fn give_length<R: Refusal>(answer: Result<usize, R>, length: &mut u32) -> u32
     match answer {
         Ok(written) => {
             *length = written as u32;
+            0
+        }
+        Err(refusal) => refusal_code(refusal),
+    }
+}
+
+// Gives an answer yes or no, as 1 or 0.
+fn give_answer<R: Refusal>(given: Result<bool, R>, answer: &mut u32) -> u32
+    ensures { Returns (yes_or_no (told R.numbers given)) answer.old answer.new result }
+{
+    match given {
+        Ok(value) => {
+            *answer = u32::from(value);
             0
         }
         Err(refusal) => refusal_code(refusal),
@@ -80,13 +94,7 @@ pub fn berrytick_ask(
     ensures { AskReturns file.now below.now above.now
         answer.old answer.new work.old work.new result }
 {
-    match ask_inclusion(file, below, above, work) {
-        Ok(value) => {
-            *answer = u32::from(value);
-            0
-        }
-        Err(refusal) => refusal_code(refusal),
-    }
+    give_answer(ask_inclusion(file, below, above, work), answer)
 }
 
 // Shows the axiom of a name of the release on a side: the side that holds it, where it starts there and how long it is. Never refuses: where

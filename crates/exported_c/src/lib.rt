@@ -5,8 +5,10 @@
 
 ghost use Rattle.exported.specs.Codes.{CheckReturns, AskReturns, ShowReturns, CompareReturns, SheetReturns};
 ghost use Rattle.exported.specs.Codes.{RewriteReturns, ReportReturns, WorkLengthReturns};
+ghost use Rattle.exported.specs.Concepts.{ShowConceptReturns, CheckConceptReturns};
 
 use branches::row::Row;
+use exported::concepts;
 
 // Checks a release: its counts of names, roles and axioms.
 #[unsafe(no_mangle)]
@@ -76,6 +78,42 @@ pub extern "C" fn berrytick_compare_branches(
         rows.old rows.new work.old work.new result }
 {
     exported::berrytick_compare_branches(first, second, signatures, count, work, rows)
+}
+
+// Shows a concept for a name and a side, written as rows of three numbers each: the number of rows.
+#[unsafe(no_mangle)]
+pub extern "C" fn berrytick_show_concept(
+    first: &[u8],
+    second: &[u8],
+    signature: &[u8],
+    name: usize,
+    side: usize,
+    rows: &mut [u32],
+    count: &mut u32,
+    work: &mut [u8],
+) -> u32
+    ensures { ShowConceptReturns first.now second.now signature.now side name
+        rows.old rows.new count.old count.new work.old work.new result }
+{
+    concepts::berrytick_show_concept(first, second, signature, name, side, rows, count, work)
+}
+
+// Checks rows from any editor for a name and a side: 1 for yes and 0 for no.
+#[unsafe(no_mangle)]
+pub extern "C" fn berrytick_check_concept(
+    first: &[u8],
+    second: &[u8],
+    signature: &[u8],
+    name: usize,
+    side: usize,
+    rows: &[u32],
+    answer: &mut u32,
+    work: &mut [u8],
+) -> u32
+    ensures { CheckConceptReturns first.now second.now signature.now side name
+        rows.now answer.old answer.new work.old work.new result }
+{
+    concepts::berrytick_check_concept(first, second, signature, name, side, rows, answer, work)
 }
 
 // Writes a release as a file of a wanted version, 1 or 2, to the start of the output: its length. Another version is refused 3, side 0,
