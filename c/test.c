@@ -1,5 +1,5 @@
-/* Tries the calls of include/berrytick.h: P1 to P10, the convention, and empty slices that are NULL. Prints a line for each check that fails
- * and the number of checks; the status is 0 where none fails. tools/test-bindings builds and runs it. */
+/* Tries the calls of include/berrytick.h: P1 to P10, concepts of P1, the convention, and empty slices that are NULL. Prints a line for each
+ * check that fails and the number of checks; the status is 0 where none fails. tools/test-bindings builds and runs it. */
 #include "berrytick.h"
 
 #include <stdio.h>
@@ -203,6 +203,55 @@ static void try_report(void)
     check(all_are(output + length, sizeof output - length, FILLED) && work_is_left(needed(4)), "what is beyond the report");
 }
 
+/* P1 has 4 names. */
+static uint32_t concept[BERRYTICK_CONCEPT_NUMBERS(4) + 2];
+
+/* The concept of P1 for a name and a side: these rows and no more, and the rest as it was. */
+static int concept_is(size_t name, size_t side, const uint32_t *rows, size_t numbers)
+{
+    uint32_t count = UNTOUCHED;
+    refill();
+    memset(concept, FILLED, sizeof concept);
+    uint32_t code = berrytick_show_concept(PASS(p1_first), PASS(p1_second), PASS(p1_signature), name, side, concept,
+                                           sizeof concept / sizeof concept[0], &count, work, sizeof work);
+    return code == 0 && count == numbers / 3 && memcmp(concept, rows, numbers * sizeof rows[0]) == 0 &&
+           all_are((const uint8_t *)(concept + numbers), sizeof concept - numbers * sizeof rows[0], FILLED) && work_is_left(needed(4));
+}
+
+static void try_concepts(void)
+{
+    const uint32_t left[] = {1, 2, 0};
+    const uint32_t right[] = {1, 1, 0, 1, 2, 0, 2, 0, 1};
+    const size_t numbers = BERRYTICK_CONCEPT_NUMBERS(4);
+    uint32_t count = UNTOUCHED, answer = UNTOUCHED;
+    check(concept_is(0, 1, left, 3), "2 lies above 0");
+    check(concept_is(0, 2, right, 9), "1 and 2 lie below 0");
+    check(concept_is(1, 1, left, 0) && concept_is(3, 2, left, 0), "names that are not reported");
+    check(concept_is(0, 0, left, 0) && concept_is(0, 3, left, 0) && concept_is(4, 1, left, 0), "no such side, no such name");
+    refill();
+    memset(concept, FILLED, sizeof concept);
+    check(berrytick_show_concept(PASS(p1_first), PASS(p1_second), PASS(p1_signature), 0, 1, concept, numbers - 1, &count, work,
+                                 sizeof work) == 44 * 256,
+          "too few rows");
+    check(berrytick_show_concept(PASS(p1_first), PASS(p1_second), PASS(p1_signature), 0, 1, concept, numbers, &count, work, 99) ==
+              32 * 256,
+          "too little memory to show a concept");
+    check(berrytick_check_concept(PASS(p1_first), PASS(p1_second), PASS(p1_signature), 0, 1, left, 3, &answer, work, 109) == 32 * 256,
+          "too little memory to check a row");
+    check(count == UNTOUCHED && answer == UNTOUCHED && all_are((const uint8_t *)concept, sizeof concept, FILLED) && work_is_left(0),
+          "a refusal of either changes nothing");
+    check(berrytick_check_concept(PASS(p1_first), PASS(p1_second), PASS(p1_signature), 0, 1, left, 3, &answer, work, sizeof work) == 0 &&
+              answer == 1 && work_is_left(110),
+          "2 is checked on the left");
+    refill();
+    check(berrytick_check_concept(PASS(p1_first), PASS(p1_second), PASS(p1_signature), 0, 2, right, 9, &answer, work, sizeof work) == 0 &&
+              answer == 1 && work_is_left(130),
+          "1 and 2 are checked on the right");
+    check(berrytick_check_concept(PASS(p1_first), PASS(p1_second), PASS(p1_signature), 0, 2, left, 3, &answer, work, sizeof work) == 0 &&
+              answer == 0,
+          "and not 2 alone");
+}
+
 static void try_rewrite(void)
 {
     const struct bytes expected = BYTES(0x45, 0x4C, 0x54, 2, 0, 4, 0, 0, 1, 0, 0, 0, 2, 2, 1, 0, 2, 0);
@@ -242,6 +291,14 @@ static void try_empty(void)
           "a sheet of no branches");
     check(berrytick_report(NULL, 0, NULL, 0, NULL, 0, NULL, 0, &length, NULL, 0) == 33 * 256, "a report to NULL");
     check(berrytick_report(NULL, 0, NULL, 0, NULL, 0, output, sizeof output, &length, NULL, 0) == 1 * 256 + 1, "a report of NULL");
+    check(berrytick_show_concept(NULL, 0, NULL, 0, NULL, 0, 0, 1, NULL, 0, &length, NULL, 0) == 1 * 256 + 1, "a concept of NULL");
+    check(berrytick_show_concept(PASS(p1_first), PASS(p1_second), PASS(p1_signature), 0, 1, NULL, 0, &length, work, sizeof work) ==
+              44 * 256,
+          "a concept to NULL");
+    check(berrytick_check_concept(NULL, 0, NULL, 0, NULL, 0, 0, 1, NULL, 0, &answer, NULL, 0) == 1 * 256 + 1, "a check of NULL");
+    check(berrytick_check_concept(PASS(p1_first), PASS(p1_second), PASS(p1_signature), 0, 1, NULL, 0, &answer, work, sizeof work) == 0 &&
+              answer == 0,
+          "no rows");
     check(berrytick_rewrite(NULL, 0, 1, NULL, 0, &length) == 1 * 256 + 1, "NULL is rewritten");
     check(berrytick_rewrite(PASS(p1_first), 1, NULL, 0, &length) == 41 * 256, "to NULL");
 }
@@ -255,6 +312,7 @@ int main(void)
     try_show();
     try_sheet();
     try_report();
+    try_concepts();
     try_rewrite();
     try_empty();
     printf("c: %u checks, %u failed\n", checks, failures);

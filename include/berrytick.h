@@ -9,8 +9,8 @@
  *
  * Lent memory. A slice passes as the pointer to its first element and the number of its elements; an empty one may be NULL. A single number,
  * and an array of three, pass as a pointer alone, which is not NULL. What a call may write to must not overlap anything else that it is lent;
- * what it only reads may. A call that is lent work memory and answers leaves its first berrytick_work_length bytes zero, and the others, as all
- * bytes beyond an answer, as they were. On entry it may hold anything.
+ * what it only reads may. A call that is lent work memory and answers leaves the first bytes zero, as many as it needs (berrytick_work_length,
+ * and more to check a concept), and the others, as all that is lent beyond an answer, as they were. On entry it may hold anything.
  *
  * Nothing is kept between calls, and none allocates memory. Any number of threads may call at the same time, each with memory of its own to
  * write to. A call uses less than 72 KiB of stack, whatever it is lent: measured, with all of the calling program's own, 71,216 bytes for a
@@ -95,6 +95,40 @@ uint32_t berrytick_report(const uint8_t *first, size_t first_length,
                           uint8_t *output, size_t output_length,
                           uint32_t *length,
                           uint8_t *work, size_t work_length);
+
+/* A concept as rows. A row is three numbers, row i those from 3 * i on, rows counted from 0:
+ *   0 0 0    everything
+ *   1 a 0    the name a
+ *   2 i j    the conjunction of what the earlier rows i and j are
+ *   3 r i    "some r" of what the earlier row i is, for a role r
+ * A row may be used any number of times. The last row is the concept; numbers left over after the last whole row are no row. */
+
+/* The numbers that are lent to show a concept of releases with this many names: those of (names + 2) * (names + 2) * (names + 2) rows. */
+#define BERRYTICK_CONCEPT_NUMBERS(names) (3 * ((size_t)(names) + 2) * ((size_t)(names) + 2) * ((size_t)(names) + 2))
+
+/* Shows a concept for a name that a comparison reports on a side, 1 (left) or 2 (right): over the names and roles of the signature alone, it
+ * lies above the name (left), or below it (right), by the first release and not by the second. The count is that of the rows written; it is 0
+ * exactly where the name is not reported on that side, where there is no such name or no such side. Numbers after these rows stay as they were.
+ * Refused: 1 to 15 with the release's side; 16, 17, 18, 32; 44, where fewer numbers are lent than BERRYTICK_CONCEPT_NUMBERS of the names. */
+uint32_t berrytick_show_concept(const uint8_t *first, size_t first_length,
+                                const uint8_t *second, size_t second_length,
+                                const uint8_t *signature, size_t signature_length,
+                                size_t name, size_t side,
+                                uint32_t *rows, size_t rows_length,
+                                uint32_t *count,
+                                uint8_t *work, size_t work_length);
+
+/* Checks rows from any editor for a name and a side: 1 where the side is 1 or 2, the name is chosen, there is a row, each row, used or not, is
+ * as above and keeps to the signature, and the last shows that difference; else 0. What was shown, and no row more, is answered 1. For k rows
+ * and releases of n names this needs 2 * (n + 1) * k bytes of work memory more than berrytick_work_length tells.
+ * Refused: 1 to 15 with the release's side; 16, 17, 18, 32. */
+uint32_t berrytick_check_concept(const uint8_t *first, size_t first_length,
+                                 const uint8_t *second, size_t second_length,
+                                 const uint8_t *signature, size_t signature_length,
+                                 size_t name, size_t side,
+                                 const uint32_t *rows, size_t rows_length,
+                                 uint32_t *answer,
+                                 uint8_t *work, size_t work_length);
 
 /* Writes a release as a file of the wanted version, 1 or 2: its length, at most BERRYTICK_RELEASE_BYTES.
  * Refused: 3, side 0, before all others, where the wanted version is neither 1 nor 2; 1 to 15, side 1; 40, side 1; 41. */

@@ -71,6 +71,38 @@ extern "C" {
         work_length: usize,
     ) -> u32;
 
+    pub fn berrytick_show_concept(
+        first: *const u8,
+        first_length: usize,
+        second: *const u8,
+        second_length: usize,
+        signature: *const u8,
+        signature_length: usize,
+        name: usize,
+        side: usize,
+        rows: *mut u32,
+        rows_length: usize,
+        count: &mut u32,
+        work: *mut u8,
+        work_length: usize,
+    ) -> u32;
+
+    pub fn berrytick_check_concept(
+        first: *const u8,
+        first_length: usize,
+        second: *const u8,
+        second_length: usize,
+        signature: *const u8,
+        signature_length: usize,
+        name: usize,
+        side: usize,
+        rows: *const u32,
+        rows_length: usize,
+        answer: &mut u32,
+        work: *mut u8,
+        work_length: usize,
+    ) -> u32;
+
     pub fn berrytick_rewrite(
         file: *const u8,
         file_length: usize,

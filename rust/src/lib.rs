@@ -60,6 +60,11 @@ pub struct Row {
     pub share: u32,
 }
 
+/// The rows that are lent to show a concept of releases with this many names, at most [`NAMES`].
+pub const fn concept_rows(names: usize) -> usize {
+    (names + 2).pow(3)
+}
+
 /// Checks a release: its counts of names, roles and axioms.
 pub fn check(file: &[u8]) -> Result<Counts, Refusal> {
     let mut counts = [0; 3];
@@ -183,6 +188,74 @@ pub fn report(
         )
     })?;
     Ok(length as usize)
+}
+
+/// Shows a concept for a name that a comparison reports on a side, 1 (left) or 2 (right): the number of rows written, of which the last is the
+/// concept. It is made of the signature's names and roles, and lies above the name (left), or below it (right), by the first release and not by
+/// the second. No row is written where the name is not reported on that side, or there is no such name or side. Rows lent: [`concept_rows`].
+///
+/// A row is `[0, 0, 0]` for ⊤, `[1, name, 0]`, `[2, i, j]` for the conjunction of rows i and j, or `[3, role, i]` for ∃ of row i by that role;
+/// i and j are earlier rows, counted from 0.
+pub fn show_concept(
+    first: &[u8],
+    second: &[u8],
+    signature: &[u8],
+    name: usize,
+    side: usize,
+    rows: &mut [[u32; 3]],
+    work: &mut [u8],
+) -> Result<usize, Refusal> {
+    let mut count = 0;
+    Refusal::of(unsafe {
+        calls::berrytick_show_concept(
+            first.as_ptr(),
+            first.len(),
+            second.as_ptr(),
+            second.len(),
+            signature.as_ptr(),
+            signature.len(),
+            name,
+            side,
+            rows.as_mut_ptr().cast(),
+            3 * rows.len(),
+            &mut count,
+            work.as_mut_ptr(),
+            work.len(),
+        )
+    })?;
+    Ok(count as usize)
+}
+
+/// Checks rows from any editor for a name and a side: 1 where each row is one of [`show_concept`]'s forms over the signature and the last shows
+/// the difference, 0 for no. Of work memory it needs 2 × (n + 1) bytes more a row than [`work_length`] tells of n names.
+pub fn check_concept(
+    first: &[u8],
+    second: &[u8],
+    signature: &[u8],
+    name: usize,
+    side: usize,
+    rows: &[[u32; 3]],
+    work: &mut [u8],
+) -> Result<u32, Refusal> {
+    let mut answer = 0;
+    Refusal::of(unsafe {
+        calls::berrytick_check_concept(
+            first.as_ptr(),
+            first.len(),
+            second.as_ptr(),
+            second.len(),
+            signature.as_ptr(),
+            signature.len(),
+            name,
+            side,
+            rows.as_ptr().cast(),
+            3 * rows.len(),
+            &mut answer,
+            work.as_mut_ptr(),
+            work.len(),
+        )
+    })?;
+    Ok(answer)
 }
 
 /// Writes a release as a file of the wanted version, 1 or 2, to the start of the output: its length, at most [`RELEASE_BYTES`].

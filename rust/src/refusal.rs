@@ -44,12 +44,13 @@ impl Refusal {
             (18, _) => "a byte of the signature is above 1",
             (19, _) => "the concept is not of the layout of concepts",
             (31, _) => "the result is shorter than the names",
-            (32, _) => "the work memory is shorter than 4 × (n + 1) × (n + 1) bytes for n names",
+            (32, _) => "the work memory is shorter than 4 × (n + 1) × (n + 1) bytes for n names, and to check k rows 2 × (n + 1) × k more",
             (33, _) => "the output is shorter than the longest report",
             (40, _) => "the release has more names than the wanted version can have",
             (41, _) => "the output is shorter than the rewritten file",
             (42, _) => "more than 64 signatures",
             (43, _) => "fewer rows than signatures",
+            (44, _) => "fewer rows than (n + 2) × (n + 2) × (n + 2) for n names",
             _ => "a number that this version does not know",
         }
     }

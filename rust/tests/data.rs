@@ -129,6 +129,49 @@ fn try_sheet(case: &[&[u8]]) {
     assert!(begins_with(&work, &zeros(cleared)));
 }
 
+/// What a lent row holds before a call.
+const NO_ROW: [u32; 3] = [u32::MAX; 3];
+
+/// The rows of these numbers, of four bytes each.
+fn concept(bytes: &[u8]) -> Vec<[u32; 3]> {
+    let number = |bytes: &[u8]| u32::from_le_bytes(bytes.try_into().unwrap());
+    bytes.chunks_exact(12).map(|row| [number(&row[..4]), number(&row[4..8]), number(&row[8..])]).collect()
+}
+
+/// A concept that is shown is expected row by row, or only that there is one, which the check then says yes to.
+fn try_concept(case: &[&[u8]]) {
+    let &[first, second, signature, name, side, lent_numbers, works, refused, refused_side, written, wanted, cleared] =
+        case
+    else {
+        panic!("fields of a concept shown")
+    };
+    let (name, side) = (number(name), number(side));
+    let mut rows = vec![NO_ROW; number(lent_numbers) / 3];
+    let mut work = lent(works);
+    let answer = berrytick::show_concept(first, second, signature, name, side, &mut rows, &mut work);
+    assert_eq!(answer.map(|count| (count > 0) as usize), expected(refused, refused_side, number(written)));
+    assert!(begins_with(&work, &zeros(cleared)));
+    let (shown, rest) = rows.split_at(answer.unwrap_or(0));
+    assert!(rest.iter().all(|&row| row == NO_ROW));
+    assert!(wanted.is_empty() || shown == concept(wanted));
+    if !shown.is_empty() {
+        let names = berrytick::check(first).unwrap().names;
+        let mut work = vec![FILLED; berrytick::work_length(names).unwrap() + 2 * (names + 1) * shown.len()];
+        assert_eq!(berrytick::check_concept(first, second, signature, name, side, shown, &mut work), Ok(1));
+    }
+}
+
+fn try_rowcheck(case: &[&[u8]]) {
+    let &[first, second, signature, name, side, rows, works, refused, refused_side, yes, cleared] = case else {
+        panic!("fields of rows checked")
+    };
+    let mut work = lent(works);
+    let answer =
+        berrytick::check_concept(first, second, signature, number(name), number(side), &concept(rows), &mut work);
+    assert_eq!(answer, expected(refused, refused_side, number(yes) as u32));
+    assert!(begins_with(&work, &zeros(cleared)));
+}
+
 #[test]
 fn checks() {
     each_case("check", try_check);
@@ -166,4 +209,16 @@ fn rewritten_releases() {
 #[test]
 fn sheets() {
     each_case("sheet", try_sheet);
+}
+
+#[test]
+fn concepts() {
+    each_case("shown", try_concept);
+    each_case("concepts", try_concept);
+}
+
+#[test]
+fn rows_checked() {
+    each_case("rowcheck", try_rowcheck);
+    each_case("rowchecks", try_rowcheck);
 }

@@ -5,6 +5,7 @@ use std::collections::BTreeSet;
 
 const FILLED: u8 = 0xA5;
 const UNTOUCHED: Row = Row { chosen: 7, left: 7, right: 7, share: 7 };
+const NO_ROW: [u32; 3] = [7; 3];
 
 fn refusal(number: u8, side: u8) -> Refusal {
     Refusal { number, side }
@@ -38,6 +39,7 @@ struct Lent {
     work: [u8; 100],
     output: [u8; berrytick::REPORT_BYTES],
     rows: [Row; 2],
+    concept: [[u32; 3]; 64],
 }
 
 impl Lent {
@@ -47,13 +49,15 @@ impl Lent {
             work: [FILLED; 100],
             output: [FILLED; berrytick::REPORT_BYTES],
             rows: [UNTOUCHED; 2],
+            concept: [NO_ROW; 64],
         }
     }
 
     fn is_unchanged(&self) -> bool {
-        let Lent { result, work, output, rows } = self;
+        let Lent { result, work, output, rows, concept } = self;
         [&result[..], work, output].concat().iter().all(|&byte| byte == FILLED)
             && rows.iter().all(|&row| row == UNTOUCHED)
+            && concept.iter().all(|&row| row == NO_ROW)
     }
 }
 
@@ -61,7 +65,7 @@ impl Lent {
 fn files() {
     for (file, number) in FILES {
         let mut lent = Lent::new();
-        let Lent { result, work, output, rows } = &mut lent;
+        let Lent { result, work, output, rows, concept } = &mut lent;
         let (own, other) = (Err(refusal(number, 1)), Err(refusal(number, 2)));
         assert_eq!(berrytick::check(file).map(|_| ()), own);
         assert_eq!(berrytick::ask(file, &[0], &[0], work).map(|_| ()), own);
@@ -70,6 +74,8 @@ fn files() {
         assert_eq!(berrytick::compare(RELEASE, file, &[1, 1, 1], result, work), other);
         assert_eq!(berrytick::compare_branches(RELEASE, file, &[1, 1, 1], 1, work, rows), other);
         assert_eq!(berrytick::report(RELEASE, file, &[1, 1, 1], output, work).map(|_| ()), other);
+        assert_eq!(berrytick::show_concept(RELEASE, file, &[1, 1, 1], 0, 1, concept, work).map(|_| ()), other);
+        assert_eq!(berrytick::check_concept(RELEASE, file, &[1, 1, 1], 0, 1, concept, work).map(|_| ()), other);
         assert_eq!(berrytick::show(file, RELEASE, 2, 0), Ok(&b""[..]));
         assert!(lent.is_unchanged());
     }
@@ -83,7 +89,7 @@ type Comparison = (&'static [u8], &'static [u8], usize, usize, u8);
 fn comparisons() {
     let fewer_names = b"ELT\x01\x00\x01\x01\x00";
     let mut lent = Lent::new();
-    let Lent { result, work, output, rows } = &mut lent;
+    let Lent { result, work, output, rows, concept } = &mut lent;
     let cases: [Comparison; 5] = [
         (fewer_names, &[1, 1, 1], 2, 36, 16),
         (RELEASE, &[1, 1], 2, 36, 17),
@@ -100,12 +106,25 @@ fn comparisons() {
         if number != 31 {
             assert_eq!(berrytick::compare_branches(RELEASE, second, signature, 1, &mut work[..works], rows), expected);
             assert_eq!(berrytick::report(RELEASE, second, signature, output, &mut work[..works]).map(|_| ()), expected);
+            let work = &mut work[..works];
+            let shown = berrytick::show_concept(RELEASE, second, signature, 0, 1, concept, work);
+            assert_eq!(shown.map(|_| ()), expected);
+            // Without a row the check needs no more memory than a comparison.
+            let checked = berrytick::check_concept(RELEASE, second, signature, 0, 1, &[], work);
+            assert_eq!(checked.map(|_| ()), expected);
         }
     }
     let short = berrytick::REPORT_BYTES - 1;
     assert_eq!(berrytick::report(RELEASE, RELEASE, &[1, 1, 1], &mut output[..short], work), Err(refusal(33, 0)));
     assert_eq!(berrytick::compare_branches(RELEASE, RELEASE, &[1; 65 * 3], 65, work, rows), Err(refusal(42, 0)));
     assert_eq!(berrytick::compare_branches(RELEASE, RELEASE, &[1; 3 * 3], 3, work, rows), Err(refusal(43, 0)));
+    // Two names: 36 bytes, 6 more for a row; 64 rows.
+    let too_few = &mut concept[..63];
+    assert_eq!(berrytick::show_concept(RELEASE, RELEASE, &[1, 1, 1], 0, 1, too_few, work), Err(refusal(44, 0)));
+    assert_eq!(
+        berrytick::check_concept(RELEASE, RELEASE, &[1, 1, 1], 0, 1, &[[0; 3]], &mut work[..41]),
+        Err(refusal(32, 0))
+    );
     assert!(lent.is_unchanged());
 }
 
@@ -145,7 +164,7 @@ fn work_lengths() {
 /// Every number has a meaning of its own, and numbers that no call has are told from them.
 #[test]
 fn meanings() {
-    let numbers = (1..=19).chain([31, 32, 33, 40, 41, 42, 43]);
+    let numbers = (1..=19).chain([31, 32, 33, 40, 41, 42, 43, 44]);
     let unknown = refusal(255, 0).meaning();
     let meanings: BTreeSet<&str> = numbers.clone().map(|number| refusal(number, 1).meaning()).collect();
     assert_eq!(meanings.len(), numbers.count());
