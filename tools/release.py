@@ -1,6 +1,7 @@
 """What checking a release file, showing an axiom, rewriting a release and building a signature answer by docs/FORMAT.md,
-and which refusal a question, a comparison and a sheet meet: written apart from the library, to confirm the tables
-refusals.txt, shows.txt, rewrites.txt, signatures.txt, questions.txt, comparisons.txt and sheets.txt."""
+and which refusal a question, a comparison, a sheet, a concept shown and rows checked meet: written apart from the library,
+to confirm the tables refusals.txt, shows.txt, rewrites.txt, signatures.txt, questions.txt, comparisons.txt, sheets.txt,
+concepts.txt and rowchecks.txt."""
 from typing import NamedTuple
 
 KINDS_WITH_NAMES, KINDS_WITH_ROLE = (1, 2), (3, 4)
@@ -202,6 +203,21 @@ def comparison(first, second, signature, result, work):
     return (number, side) if number else first_of((
         (17, len(signature) != n + m), (18, any(byte > 1 for byte in signature)),
         (31, result < n), (32, work < 4 * (n + 1) ** 2)))
+
+
+def concept(first, second, signature, lent, work):
+    """So many numbers are lent for rows."""
+    number, side, n, m = agreed(first, second)
+    return (number, side) if number else first_of((
+        (17, len(signature) != n + m), (18, any(byte > 1 for byte in signature)),
+        (32, work < 4 * (n + 1) ** 2), (44, lent // 3 < (n + 2) ** 3)))
+
+
+def rowcheck(first, second, signature, count, work):
+    number, side, n, m = agreed(first, second)
+    return (number, side) if number else first_of((
+        (17, len(signature) != n + m), (18, any(byte > 1 for byte in signature)),
+        (32, work < 4 * (n + 1) ** 2 + 2 * (n + 1) * count)))
 
 
 def sheet(first, second, count, signatures, lent, work):

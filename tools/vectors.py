@@ -1,12 +1,13 @@
 #!/usr/bin/env python3
 """Writes the cases that the program `examples` runs, to crates/examples/data/.
 
-usage: tools/vectors.py FOLDER
+usage: tools/vectors.py FOLDER..
 
-FOLDER holds vectors, NAME.jsonl, one JSON object a line with bytes in hex. The cases of the families `refusals`,
-`shows`, `rewrites`, `signatures`, `questions`, `comparisons` and `sheets` come from the tables of that name beside this
-script; release.py confirms these, of the last three which are refused and how many names are chosen. Those of the family
-`deep` are made here, and those of the family `lines` of the vectors `sheet`.
+The folders hold vectors, NAME.jsonl, one JSON object a line with bytes in hex; the first that has a family's counts. The
+cases of the families `refusals`, `shows`, `rewrites`, `signatures`, `questions`, `comparisons`, `sheets`, `concepts` and
+`rowchecks` come from the tables of that name beside this script; release.py confirms these, of the last five which are
+refused and how many names are chosen. Those of the family `deep` are made here, and those of the family `lines` of the
+vectors `sheet`.
 
 A data file is a case after the other. A case is a length of four bytes and that many bytes: its fields, one after the
 other, each again a length of four bytes and that many bytes. A number is a field of one to eight bytes. Numbers and
@@ -24,12 +25,17 @@ The fields of a case: first what the call is given, then what it answers.
     lines               first, second, the signatures; the text of the program `sheet`
     sheet, sheets       first, second, how many signatures, the signatures, how many rows, length of the work memory; number,
                         side, the rows filled (each chosen, left, right, share, of two bytes), zeros
+    shown, concepts     first, second, signature, name, side, how many numbers are lent for rows, length of the work memory;
+                        number, side, 1 where a row is written, the rows (of four bytes each number) where just these will
+                        do, zeros
+    rowcheck, rowchecks    first, second, signature, name, side, the rows (of four bytes each number), length of the work
+                        memory; number, side, 1 for yes, zeros
     signatures          n, m, steps; n, m, the bytes of the first places, a place more, its byte
 
 Where a call is refused, n, m, a, value and zeros are 0, and the result and the rewritten file have no byte: what is lent
 stays as it was.
 
-A family more from FOLDER is a line more in VECTORS: for each field its key and how it is written.
+A family more from the folders is a line more in VECTORS: for each field its key and how it is written.
 """
 import json
 import pathlib
@@ -68,6 +74,16 @@ def rows(values):
     return b"".join(part.to_bytes(2, "little") for row in values for part in row)
 
 
+def numbers(values):
+    """The numbers of rows, of which the last may be cut short."""
+    return b"".join(part.to_bytes(4, "little") for row in values for part in row)
+
+
+def room_for(count):
+    """How many numbers so many rows have."""
+    return number(3 * count)
+
+
 def text(value):
     return value.encode("ascii")
 
@@ -84,20 +100,27 @@ VECTORS = {
                     out_file=bytes.fromhex),
     "sheet": dict(first=bytes.fromhex, second=bytes.fromhex, q=number, sigs=bytes.fromhex, rows_len=number, work_len=number,
                   number=number, side=number, rows=rows, zeros=number),
+    "shown": dict(first=bytes.fromhex, second=bytes.fromhex, sig=bytes.fromhex, name=number, side=number, rows_len=room_for,
+                  work_len=number, number=number, rside=number, reported=number, any_rows=numbers, zeros=number),
+    "rowcheck": dict(first=bytes.fromhex, second=bytes.fromhex, sig=bytes.fromhex, name=number, side=number, rows=numbers,
+                     work_len=number, number=number, rside=number, yes=number, zeros=number),
     "station": dict(first=bytes.fromhex, second=bytes.fromhex, sig=bytes.fromhex, out=text),
 }
 
 
-def with_zeros(row):
-    """The row with `zeros`, how many bytes of its work memory are zero after the call: none where it is refused."""
+def completed(row):
+    """The row with `zeros`, how many bytes of its work memory are zero after the call: none where it is refused. The rows of
+    a concept shown are not in the vectors: any may be written."""
     if "work_len" in row:
-        row["zeros"] = needed(bytes.fromhex(row.get("file") or row["first"])) if row["number"] == 0 else 0
-    return row
+        checked = len(row["rows"]) if "yes" in row else 0
+        row["zeros"] = needed(bytes.fromhex(row.get("file") or row["first"]), checked) if row["number"] == 0 else 0
+    return row | {"any_rows": []}
 
 
-def needed(file):
-    """How many bytes of work memory a call about an accepted release needs."""
-    return 4 * (release.header(file)[1] + 1) ** 2
+def needed(file, checked=0):
+    """How many bytes of work memory a call about an accepted release needs; where it checks rows, more for each."""
+    names = release.header(file)[1]
+    return 4 * (names + 1) ** 2 + 2 * (names + 1) * checked
 
 
 def sized(content):
@@ -113,10 +136,15 @@ def write(family, cases):
     print(f"{family}: {len(cases)} cases")
 
 
-def vectors(folder, family):
+def outside(folders, family):
+    """The family's vectors, from the first folder that has them."""
+    path = next(path for path in (folder / f"{family}.jsonl" for folder in folders) if path.exists())
+    return map(json.loads, path.read_text().splitlines())
+
+
+def vectors(folders, family):
     fields = VECTORS[family].items()
-    rows = map(with_zeros, map(json.loads, (folder / f"{family}.jsonl").read_text().splitlines()))
-    return [[form(row[key]) for key, form in fields] for row in rows]
+    return [[form(row[key]) for key, form in fields] for row in map(completed, outside(folders, family))]
 
 
 def table(name):
@@ -143,11 +171,11 @@ def file_bytes(words):
     return b"".join(value.to_bytes(digits(word) // 2, "little") for word in words.split() for value in span(word, 16))
 
 
-def lines(folder):
+def lines(folders):
     """What the program `sheet` prints for the vectors of the sheet. It counts the signatures by their bytes, and lends 64 rows and
     PROGRAM_WORK bytes, so vectors with another count, or refused for what they lend, are left out."""
     cases = []
-    for row in map(json.loads, (folder / "sheet.jsonl").read_text().splitlines()):
+    for row in outside(folders, "sheet"):
         first, second, signatures = (bytes.fromhex(row[key]) for key in ("first", "second", "sigs"))
         _, _, n, m, _ = release.check(first)
         held = len(signatures) // (n + m) if n + m else 0
@@ -292,6 +320,48 @@ def sheets():
     return cases
 
 
+def concept_rows(words):
+    """The rows of `1 2 0, 60 doubled`, where the second stands for so many rows, each the conjunction of the one before it
+    with itself."""
+    found = []
+    for part in filter(None, map(str.strip, words.split(","))):
+        times, doubled, _ = part.partition(" doubled")
+        places = range(len(found), len(found) + int(times)) if doubled else []
+        found += [[2, at - 1, at - 1] for at in places] if doubled else [list(map(int, part.split()))]
+    return found
+
+
+def concepts():
+    cases = []
+    for line in table("concepts"):
+        asked, answer = line.split("=")
+        first, second, signature, what, lengths = asked.split("|")
+        first, second, signature = map(file_bytes, (first, second, signature))
+        (name, side), (lent, work) = (list(map(int, pair.split())) for pair in (what, lengths))
+        number_, side_, words = expected(answer.split())
+        confirmed("concepts", line, (number_, side_), release.concept(first, second, signature, lent, work))
+        found = [] if words in (None, ["none"]) else concept_rows(" ".join(words))
+        cases.append([first, second, signature, number(name), number(side), number(lent), number(work), number(number_),
+                      number(side_), number(len(found) > 0), numbers(found), number(0 if words is None else needed(first))])
+    return cases
+
+
+def rowchecks():
+    cases = []
+    for line in table("rowchecks"):
+        asked, answer = line.split("=")
+        first, second, signature, what, given, work = asked.split("|")
+        first, second, signature = map(file_bytes, (first, second, signature))
+        name, side = map(int, what.split())
+        given, work = concept_rows(given), int(work)
+        number_, side_, words = expected(answer.split())
+        count = sum(map(len, given)) // 3
+        confirmed("rowchecks", line, (number_, side_), release.rowcheck(first, second, signature, count, work))
+        cases.append([first, second, signature, number(name), number(side), numbers(given), number(work), number(number_),
+                      number(side_), number(words == ["yes"]), number(0 if words is None else needed(first, count))])
+    return cases
+
+
 def circle(kind, version=1, names=127):
     """A release with one role in which each name is, by this kind, ∃ of the next, and the last of the first."""
     def written(number):
@@ -368,11 +438,11 @@ def wide():
 
 
 def main():
-    folder = pathlib.Path(sys.argv[1])
+    folders = list(map(pathlib.Path, sys.argv[1:]))
     DATA.mkdir(parents=True, exist_ok=True)
     for family in VECTORS:
-        write(family, vectors(folder, family))
-    write("lines", lines(folder))
+        write(family, vectors(folders, family))
+    write("lines", lines(folders))
     write("refusals", refusals())
     write("shows", shows())
     write("rewrites", rewrites())
@@ -380,6 +450,8 @@ def main():
     write("questions", questions())
     write("comparisons", comparisons())
     write("sheets", sheets())
+    write("concepts", concepts())
+    write("rowchecks", rowchecks())
     write("deep", deep(1) + deep(2) + wide())
 
 

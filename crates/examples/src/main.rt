@@ -8,14 +8,17 @@
 mod cases;
 mod check;
 mod compare;
+mod concepts;
 mod memory;
 mod printed;
 mod questions;
 mod rewrite;
+mod rowchecks;
 mod run;
 mod sheets;
 mod show;
 mod signatures;
+mod texts;
 mod verdict;
 
 use run::family;
@@ -41,5 +44,9 @@ fn main(rt: HostRuntime) -> io::Result<()> {
     family(&rt, "sheets", sheets::judge)?;
     family(&rt, "lines", |case| {
         printed::judge(case, programs::sheet)
-    })
+    })?;
+    family(&rt, "shown", concepts::judge)?;
+    family(&rt, "concepts", concepts::judge)?;
+    family(&rt, "rowcheck", rowchecks::judge)?;
+    family(&rt, "rowchecks", rowchecks::judge)
 }

@@ -36,7 +36,7 @@ pub(crate) fn judge(case: &[u8]) -> Verdict {
 // than there can be branches.
 fn filled(case: Case, work: &mut [u8]) -> Verdict {
     let Case([first, second, count, signatures, rows, ..]) = case;
-    let Case([_, _, _, _, _, _, number, side, expected, zeros]) = case;
+    let Case([_, _, _, _, _, _, number, side, expected, zeros, ..]) = case;
     let filled = fill_part(
         first,
         second,
@@ -95,7 +95,7 @@ fn expected_row(bytes: &[u8]) -> Row {
 // Whether each row that is filled is what a single comparison over its signature tells. The signatures are cut by hand: `chunks_exact`
 // asks for a length above 0, and releases may have neither names nor roles.
 fn single_rows(case: Case, filled: Filled) -> Verdict {
-    let Case([_, _, _, signatures, _, _, _, _, expected, _]) = case;
+    let Case([_, _, _, signatures, _, _, _, _, expected, ..]) = case;
     let Ok(counts) = filled.answer else {
         return Ok(());
     };
