@@ -21,7 +21,7 @@ fn damage(mut bytes: Vec<u8>, draws: &mut Draws) -> Vec<u8> {
 }
 
 /// Mostly a few bytes more than needed, at times one less or just enough.
-fn length(needed: usize, draws: &mut Draws) -> usize {
+pub fn length(needed: usize, draws: &mut Draws) -> usize {
     (needed + draws.below(12)).saturating_sub(1)
 }
 
@@ -96,6 +96,12 @@ fn wide_question(draws: &mut Draws) -> (Call, Buffers) {
 fn buffers(names: usize, draws: &mut Draws) -> Buffers {
     let work = 4 * (names + 1) * (names + 1);
     Buffers::of(length(names, draws), length(work, draws))
+}
+
+/// A comparison, damaged at times; only where `wide` it may have a file of version 2.
+#[cfg(feature = "ours")]
+pub fn some_comparison(wide: bool, draws: &mut Draws) -> Call {
+    if wide { wide_comparison(draws) } else { narrow(comparison, draws) }.0
 }
 
 type Make = fn(&mut Draws) -> (Call, Buffers);

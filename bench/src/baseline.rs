@@ -9,6 +9,7 @@ mod classify;
 mod file;
 mod forward;
 mod question;
+mod rows;
 
 use bits::{is_small, Bits, LARGE, SMALL};
 use classify::Order;
@@ -95,6 +96,21 @@ fn compare_in<const W: usize>(
     result: &mut [u8],
     work: &mut [u8],
 ) -> Result<(), Refusal> {
+    let both = read_both::<W>(first, second)?;
+    let chosen = choose(signature, &both.0)?;
+    let names = both.0.names;
+    if result.len() < names {
+        return Err(refusal(31, 0));
+    }
+    let work = enough(work, names)?;
+    let (first, second) = (Side::of(both.0), Side::of(both.1));
+    write_result(&first, &second, &chosen, result);
+    work.fill(0);
+    Ok(())
+}
+
+/// Both releases, where they are accepted and agree in their counts.
+fn read_both<const W: usize>(first: &[u8], second: &[u8]) -> Result<(Release<W>, Release<W>), Refusal> {
     let first = read::<W>(first, 1)?;
     if names_of(second) != first.names {
         // The second may have too many names for these sets, but then it only has to be checked.
@@ -104,14 +120,7 @@ fn compare_in<const W: usize>(
     if first.roles != second.roles {
         return Err(refusal(16, 0));
     }
-    let chosen = choose(signature, &first)?;
-    if result.len() < first.names {
-        return Err(refusal(31, 0));
-    }
-    let work = enough(work, first.names)?;
-    write_result(&Side::of(first), &Side::of(second), &chosen, result);
-    work.fill(0);
-    Ok(())
+    Ok((first, second))
 }
 
 fn choose<const W: usize>(signature: &[u8], release: &Release<W>) -> Result<Chosen<W>, Refusal> {
@@ -134,7 +143,82 @@ fn choose<const W: usize>(signature: &[u8], release: &Release<W>) -> Result<Chos
 
 /// The part of the work memory that a call needs.
 fn enough(work: &mut [u8], names: usize) -> Result<&mut [u8], Refusal> {
-    work.get_mut(..4 * (names + 1) * (names + 1)).ok_or(refusal(32, 0))
+    enough_for_rows(work, names, 0)
+}
+
+/// The same for a check of so many rows.
+fn enough_for_rows(work: &mut [u8], names: usize, rows: usize) -> Result<&mut [u8], Refusal> {
+    let for_rows = (2 * (names + 1)).checked_mul(rows).ok_or(refusal(32, 0))?;
+    work.get_mut(..4 * (names + 1) * (names + 1) + for_rows).ok_or(refusal(32, 0))
+}
+
+/// What is asked of both calls about concepts.
+#[derive(Clone, Copy)]
+pub struct Asked<'a> {
+    pub first: &'a [u8],
+    pub second: &'a [u8],
+    pub signature: &'a [u8],
+    pub name: usize,
+    pub side: usize,
+}
+
+/// Whether a concept is to be shown in so many lent numbers: the name is reported on that side. Leaves the work memory zero.
+pub fn shows(asked: Asked, numbers: usize, work: &mut [u8]) -> Result<bool, Refusal> {
+    if is_small(names_of(asked.first)) {
+        shows_in::<SMALL>(asked, numbers, work)
+    } else {
+        shows_in::<LARGE>(asked, numbers, work)
+    }
+}
+
+fn shows_in<const W: usize>(asked: Asked, numbers: usize, work: &mut [u8]) -> Result<bool, Refusal> {
+    let (first, second) = read_both::<W>(asked.first, asked.second)?;
+    let chosen = choose(asked.signature, &first)?;
+    let names = first.names;
+    let work = enough(work, names)?;
+    if numbers / 3 < (names + 2).pow(3) {
+        return Err(refusal(44, 0));
+    }
+    let mut result = vec![0; names];
+    write_result(&Side::of(first), &Side::of(second), &chosen, &mut result);
+    work.fill(0);
+    let byte = result.get(asked.name).copied().unwrap_or(0);
+    Ok(match asked.side {
+        1 => byte & 1 == 1,
+        2 => byte & 2 == 2,
+        _ => false,
+    })
+}
+
+/// Whether the last of the rows shows that the name lost something on that side; leaves the work memory zero.
+pub fn check_concept(asked: Asked, numbers: &[u32], work: &mut [u8]) -> Result<bool, Refusal> {
+    if is_small(names_of(asked.first)) {
+        check_concept_in::<SMALL>(asked, numbers, work)
+    } else {
+        check_concept_in::<LARGE>(asked, numbers, work)
+    }
+}
+
+fn check_concept_in<const W: usize>(asked: Asked, numbers: &[u32], work: &mut [u8]) -> Result<bool, Refusal> {
+    let (first, second) = read_both::<W>(asked.first, asked.second)?;
+    let chosen = choose(asked.signature, &first)?;
+    let names = first.names;
+    enough_for_rows(work, names, numbers.len() / 3)?.fill(0);
+    let name = asked.name;
+    if name >= names || !chosen.names.has(name) {
+        return Ok(false);
+    }
+    let Some(rows) = rows::read(numbers, names, &chosen) else {
+        return Ok(false);
+    };
+    let sides = [first, second].map(Side::of);
+    let sets = match asked.side {
+        1 => sides.map(|side| rows::nodes_below(&side, &rows)),
+        2 => sides.map(|side| rows::names_above(&side, &rows)),
+        _ => return Ok(false),
+    };
+    let [by_first, by_second] = sets.map(|sets| sets.last().map(|last| last.has(name)));
+    Ok(by_first == Some(true) && by_second == Some(false))
 }
 
 fn write_result<const W: usize>(first: &Side<W>, second: &Side<W>, chosen: &Chosen<W>, result: &mut [u8]) {

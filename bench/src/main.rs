@@ -4,11 +4,14 @@
 //!     bench compare FOLDER [--wide]   a table of comparisons: the inputs of FOLDER, and practice inputs
 //!     bench sheet FOLDER [--wide]     a table of sheets of 64 branches beside as many single comparisons
 //!     bench question [all] [--wide]   a table of the worst questions
-//!     bench agree COUNT [--wide]      both on so many random inputs, whole and damaged, short of memory at times
+//!     bench concept FOLDER [--wide]   a table of concepts shown and checked beside the comparison; only with the proved library
+//!     bench small FOLDER              the rows of the concepts of outside vectors beside a yardstick; only with the proved library
+//!     bench agree COUNT [--wide]      both on so many random inputs, whole and damaged, short of memory at times; and with the proved
+//!                                     library concepts shown and rows checked
 //!     bench repeat BY INPUT COUNT FOLDER
 //!                                     one input, COUNT times, by `ours` or `baseline`: for counting instructions
-//!     bench repeat sheet INPUT COUNT FOLDER
-//!                                     a sheet of it, COUNT times
+//!     bench repeat sheet|show|check INPUT COUNT FOLDER
+//!                                     a sheet of it, COUNT times; a concept of it shown, or checked
 //!
 //! With --wide the inputs have files of version 2: those of FOLDER/1023, questions with 1,023 names, random ones. Without
 //! it none has, so that a library that refuses version 2 can be measured.
@@ -16,6 +19,8 @@
 mod agreement;
 mod baseline;
 mod calls;
+#[cfg(feature = "ours")]
+mod concepts;
 mod inputs;
 mod measure;
 #[cfg(test)]
@@ -45,7 +50,13 @@ fn main() -> ExitCode {
         ["sheet", folder] => sheet::table(&inputs::from_folder(Path::new(folder))),
         ["question"] => question(false, wide),
         ["question", "all"] => question(true, wide),
-        ["agree", count] => count.parse().map_or_else(|_| usage(), |count| agreement::try_many(count, wide)),
+        ["agree", count] => count.parse().map_or_else(|_| usage(), |count| agree(count, wide)),
+        #[cfg(feature = "ours")]
+        ["concept", folder] if wide => concepts::table(&inputs::from_folder(&inputs::wide_folder(Path::new(folder)))),
+        #[cfg(feature = "ours")]
+        ["concept", folder] => concepts::table(&inputs::from_folder(Path::new(folder))),
+        #[cfg(feature = "ours")]
+        ["small", folder] => concepts::against_small(Path::new(folder)),
         ["repeat", by, input, count, folder] => repeat(by, input, count, Path::new(folder)),
         _ => usage(),
     };
@@ -58,8 +69,17 @@ fn main() -> ExitCode {
 
 fn usage() -> bool {
     eprintln!("bench vectors FOLDER | compare FOLDER [--wide] | sheet FOLDER [--wide] | question [all] [--wide] | agree COUNT [--wide]");
-    eprintln!("bench repeat ours|baseline|sheet INPUT COUNT FOLDER");
+    eprintln!("bench concept FOLDER [--wide] | small FOLDER");
+    eprintln!("bench repeat ours|baseline|sheet|show|check INPUT COUNT FOLDER");
     false
+}
+
+/// All calls on so many random inputs.
+fn agree(count: usize, wide: bool) -> bool {
+    let calls = agreement::try_many(count, wide);
+    #[cfg(feature = "ours")]
+    let calls = concepts::try_many(count, wide) & calls;
+    calls
 }
 
 /// A table for the inputs of the folder, and one for the practice inputs.
@@ -122,6 +142,8 @@ fn repeat(by: &str, name: &str, count: &str, folder: &Path) -> bool {
         "ours" => Implementation::Ours,
         "baseline" => Implementation::Baseline,
         "sheet" => return sheet::repeat(&input, count),
+        #[cfg(feature = "ours")]
+        "show" | "check" => return concepts::repeat(&input, by == "check", count),
         _ => return usage(),
     };
     let mut buffers = Buffers::for_names(input.call.names());

@@ -234,6 +234,76 @@ fn questions_agree_with_plain_sweeps() {
     assert!(answers.iter().all(|&count| count > 100));
 }
 
+/// Adds a definition for each of well-formed rows; gives the node of the last.
+fn define_rows(axioms: &[Axiom], rows: &[[u32; 3]]) -> (Vec<Axiom>, usize) {
+    let mut axioms = axioms.to_vec();
+    let mut nodes: Vec<Option<u16>> = Vec::new();
+    for &[kind, one, other] in rows {
+        let axiom = match kind {
+            0 => Axiom::Conjunction { equal: true, parts: Vec::new() },
+            1 => Axiom::Conjunction { equal: true, parts: vec![one as u16] },
+            2 => {
+                let parts = [one, other].into_iter().filter_map(|row| nodes[row as usize]).collect();
+                Axiom::Conjunction { equal: true, parts }
+            }
+            _ => Axiom::Some { equal: true, role: one as u8, filler: nodes[other as usize] },
+        };
+        nodes.push(Some(axioms.len() as u16));
+        axioms.push(axiom);
+    }
+    let last = axioms.len() - 1;
+    (axioms, last)
+}
+
+/// Whether the last row lies above the name (side 1), or below it.
+fn lies(axioms: &[Axiom], rows: &[[u32; 3]], name: usize, side: usize) -> bool {
+    let (axioms, last) = define_rows(axioms, rows);
+    let order = order(&axioms);
+    if side == 1 {
+        order[name][last]
+    } else {
+        order[last][name]
+    }
+}
+
+/// Rows that are well formed over all names and roles.
+fn some_rows(made: &Practice, draws: &mut Draws) -> Vec<[u32; 3]> {
+    let mut rows = Vec::new();
+    for at in 0..=draws.below(6) {
+        let earlier = |draws: &mut Draws| draws.below(at) as u32;
+        rows.push(match draws.below(if at == 0 { 4 } else { 9 }) {
+            0 => [0, 0, 0],
+            1..=3 => [1, draws.below(made.names) as u32, 0],
+            4..=5 => [2, earlier(draws), earlier(draws)],
+            _ => [3, draws.below(made.roles) as u32, earlier(draws)],
+        });
+    }
+    rows
+}
+
+#[test]
+fn rows_agree_with_plain_sweeps() {
+    let mut draws = Draws::from(82);
+    let mut answers = [0; 2];
+    for _ in 0..3000 {
+        let form = practice::small_form(&mut draws);
+        let made = practice::practice(&form, &mut draws);
+        let (first, second) = (made.first_file(some_version(&mut draws)), made.second_file(some_version(&mut draws)));
+        let rows = some_rows(&made, &mut draws);
+        let signature = vec![1; made.names + made.roles];
+        let mut work = vec![9; 4 * (made.names + 1) * (made.names + 1) + 2 * (made.names + 1) * rows.len()];
+        for (name, side) in (0..made.names).flat_map(|name| [(name, 1), (name, 2)]) {
+            let asked = baseline::Asked { first: &first, second: &second, signature: &signature, name, side };
+            let answer = baseline::check_concept(asked, rows.as_flattened(), &mut work).expect("accepted");
+            let [before, after] = [&made.first, &made.second].map(|axioms| lies(axioms, &rows, name, side));
+            assert_eq!(answer, before && !after, "{first:?} {second:?} {rows:?} {name} {side}");
+            answers[answer as usize] += 1;
+        }
+    }
+    println!("no and yes: {answers:?}");
+    assert!(answers.iter().all(|&count| count > 100));
+}
+
 /// The practice input with so many names: its names stand far apart, in the same order, and the others have no axiom.
 fn spread(made: &Practice, names: usize) -> Practice {
     let place = |name: u16| (name as usize * (names - 1) / made.names.max(2).saturating_sub(1)) as u16;

@@ -1,9 +1,29 @@
 //! The proved library, by its wrapper in Rust (`rust/`). Its refusals are told as the baseline's, so that answers can be compared.
 //!
-//! Without the feature `ours` the baseline stands in, so that the measuring itself can be tried.
+//! Without the feature `ours` the baseline stands in, so that the measuring itself can be tried; it writes no concept, so that those are left out.
 
+#[cfg(feature = "ours")]
+use crate::baseline::Asked;
 use crate::baseline::Refusal;
 pub use linked::{Row, NAME};
+
+/// A row of a concept.
+#[cfg(feature = "ours")]
+pub type ConceptRow = [u32; 3];
+
+/// How many rows were written.
+#[cfg(feature = "ours")]
+pub fn show_concept(asked: Asked, rows: &mut [ConceptRow], work: &mut [u8]) -> Result<usize, Refusal> {
+    let Asked { first, second, signature, name, side } = asked;
+    berrytick::show_concept(first, second, signature, name, side, rows, work).map_err(told)
+}
+
+/// Whether the last of the rows shows the difference.
+#[cfg(feature = "ours")]
+pub fn check_concept(asked: Asked, rows: &[ConceptRow], work: &mut [u8]) -> Result<bool, Refusal> {
+    let Asked { first, second, signature, name, side } = asked;
+    berrytick::check_concept(first, second, signature, name, side, rows, work).map(|yes| yes == 1).map_err(told)
+}
 
 fn told(refusal: linked::Refusal) -> Refusal {
     Refusal { number: refusal.number, side: refusal.side }

@@ -1,6 +1,6 @@
 //! Agreement with outside vectors: one JSON object a line, bytes in hex.
 
-use crate::baseline::{self, Refusal};
+use crate::baseline::{self, Asked, Refusal};
 use std::path::Path;
 
 /// What follows `"key": ` in a line, up to the next comma or brace, without quotes.
@@ -10,6 +10,19 @@ fn field<'a>(line: &'a str, key: &str) -> &'a str {
     let value = &line[start..];
     let end = value.find([',', '}']).expect("a line ends with a brace");
     value[..end].trim().trim_matches('"')
+}
+
+/// What follows `"key": ` where it is true or false.
+fn truth(line: &str, key: &str) -> bool {
+    field(line, key) == "true"
+}
+
+/// The numbers of the rows of a line, one after the other.
+fn rows(line: &str) -> Vec<u32> {
+    let (_, rest) = line.split_once("\"rows\":").expect("a line with rows");
+    let end = rest.find("]]").or_else(|| rest.find("[]")).expect("rows that end");
+    let numbers = rest[..end].split(|letter: char| !letter.is_ascii_digit());
+    numbers.filter(|digits| !digits.is_empty()).map(|digits| digits.parse().expect("a number of 32 bits")).collect()
 }
 
 fn number(line: &str, key: &str) -> usize {
@@ -37,7 +50,12 @@ const FILLED: u8 = 0xA5;
 
 /// Work memory is zero in its first part after an accepted call, and as before otherwise.
 fn work_is_right(work: &[u8], accepted: bool, names: usize) -> bool {
-    let zeros = if accepted { 4 * (names + 1) * (names + 1) } else { 0 };
+    work_for_rows_is_right(work, accepted, names, 0)
+}
+
+/// The same after a check of so many rows.
+fn work_for_rows_is_right(work: &[u8], accepted: bool, names: usize, rows: usize) -> bool {
+    let zeros = if accepted { 4 * (names + 1) * (names + 1) + 2 * (names + 1) * rows } else { 0 };
     work[..zeros].iter().all(|&byte| byte == 0) && work[zeros..].iter().all(|&byte| byte == FILLED)
 }
 
@@ -110,20 +128,90 @@ fn rewrite_agrees(line: &str) -> bool {
         && out[expected.len()..].iter().all(|&byte| byte == FILLED)
 }
 
-/// Tries every line of the files and prints how many agree. Gives whether all do. Vectors from before there was
-/// rewriting have no file for it.
+/// A line of the vectors that is reported, and how many rows another station needs for it.
+#[cfg(feature = "ours")]
+pub struct Reported {
+    first: Vec<u8>,
+    second: Vec<u8>,
+    signature: Vec<u8>,
+    name: usize,
+    side: usize,
+    pub small: usize,
+}
+
+#[cfg(feature = "ours")]
+impl Reported {
+    pub fn asked(&self) -> Asked<'_> {
+        let Reported { first, second, signature, name, side, .. } = self;
+        Asked { first, second, signature, name: *name, side: *side }
+    }
+}
+
+/// The lines of `shown` that are reported.
+#[cfg(feature = "ours")]
+pub fn reported(folder: &Path) -> Vec<Reported> {
+    let text = std::fs::read_to_string(folder.join("shown.jsonl")).expect("vectors of concepts shown");
+    let reported = text.lines().filter(|line| truth(line, "reported"));
+    let read = |line| Reported {
+        first: bytes(line, "first"),
+        second: bytes(line, "second"),
+        signature: bytes(line, "sig"),
+        name: number(line, "name"),
+        side: number(line, "side"),
+        small: number(line, "small"),
+    };
+    reported.map(read).collect()
+}
+
+/// Two releases, a signature, a name and a side, and what is answered about them: here `side` is what is asked.
+fn of_concept(line: &str, tried: impl FnOnce(Asked) -> bool) -> bool {
+    let (first, second, signature) = (bytes(line, "first"), bytes(line, "second"), bytes(line, "sig"));
+    let (name, side) = (number(line, "name"), number(line, "side"));
+    tried(Asked { first: &first, second: &second, signature: &signature, name, side })
+}
+
+fn refusal_of_concept(line: &str) -> Refusal {
+    Refusal { number: number(line, "number") as u8, side: number(line, "rside") as u8 }
+}
+
+/// Whether a concept is shown. The baseline writes none.
+fn shown_agrees(line: &str) -> bool {
+    of_concept(line, |asked| {
+        let mut work = vec![FILLED; number(line, "work_len")];
+        let answer = baseline::shows(asked, 3 * number(line, "rows_len"), &mut work);
+        refusal_of(&answer) == refusal_of_concept(line)
+            && answer.unwrap_or(false) == truth(line, "reported")
+            && work_is_right(&work, answer.is_ok(), baseline::names_of(asked.first))
+    })
+}
+
+fn rowcheck_agrees(line: &str) -> bool {
+    of_concept(line, |asked| {
+        let rows = rows(line);
+        let mut work = vec![FILLED; number(line, "work_len")];
+        let answer = baseline::check_concept(asked, &rows, &mut work);
+        let names = baseline::names_of(asked.first);
+        refusal_of(&answer) == refusal_of_concept(line)
+            && answer.unwrap_or(false) == truth(line, "yes")
+            && work_for_rows_is_right(&work, answer.is_ok(), names, rows.len() / 3)
+    })
+}
+
+/// Tries every line of the files and prints how many agree. Gives whether all do. A family without a file is left out.
 pub fn try_all(folder: &Path) -> bool {
-    let families: [(&str, fn(&str) -> bool); 5] = [
+    let families: [(&str, fn(&str) -> bool); 7] = [
         ("check", check_agrees),
         ("question", question_agrees),
         ("compare", compare_agrees),
         ("station", station_agrees),
         ("rewrite", rewrite_agrees),
+        ("shown", shown_agrees),
+        ("rowcheck", rowcheck_agrees),
     ];
     let mut all = true;
     for (family, agrees) in families {
         let path = folder.join(format!("{family}.jsonl"));
-        if family == "rewrite" && !path.exists() {
+        if !path.exists() {
             continue;
         }
         let text = std::fs::read_to_string(&path).unwrap_or_else(|error| panic!("{}: {error}", path.display()));

@@ -146,12 +146,7 @@ impl<const W: usize> Question<'_, W> {
             let wider = names_with_filler_in(release, &Fresh::of(self.layers[restriction.inner].names_above));
             wider.and(&release.with_role[restriction.role]).and(&release.defined_by_some).add_to(&mut found);
         }
-        for conjunction in (release.conjunctions - found).members() {
-            if release.parts.of(conjunction).all(|part| found.has(part)) {
-                found.insert(conjunction);
-            }
-        }
-        found
+        with_conjunctions(release, found)
     }
 
     /// Whether a layer of C lies below the concept at `place` of D. A pair of these comes up at most once.
@@ -170,6 +165,16 @@ impl<const W: usize> Question<'_, W> {
     }
 }
 
+/// The names, and the defined conjunctions all of whose parts are among them; no part is itself such a conjunction.
+pub fn with_conjunctions<const W: usize>(release: &Release<W>, mut found: Bits<W>) -> Bits<W> {
+    for conjunction in (release.conjunctions - found).members() {
+        if release.parts.of(conjunction).all(|part| found.has(part)) {
+            found.insert(conjunction);
+        }
+    }
+    found
+}
+
 /// The nodes below each concept in D, from the inside out.
 fn nodes_below<const W: usize>(side: &Side<W>, concept: &[Concept]) -> Vec<Bits<W>> {
     let mut nodes = vec![side.release.nodes(); concept.len()];
@@ -185,7 +190,7 @@ fn nodes_below<const W: usize>(side: &Side<W>, concept: &[Concept]) -> Vec<Bits<
 }
 
 /// The nodes with an edge of the role into a set.
-fn nodes_with_edge<const W: usize>(side: &Side<W>, role: usize, targets: Bits<W>) -> Bits<W> {
+pub fn nodes_with_edge<const W: usize>(side: &Side<W>, role: usize, targets: Bits<W>) -> Bits<W> {
     let mut nodes = Bits::EMPTY;
     for name in side.release.with_role[role].members() {
         if targets.has(side.release.axiom[name].filler as usize) {
