@@ -6,7 +6,8 @@ use Rattle.witness_above.proofs.reach.expand_row.Goals as goal
 
 pub loop-y-preserved : goal.loop-y-preserved
 loop-y-preserved c = elim c.if-is_new.branch [
-  | then-is_new w ↦ rw (w.work-is, w.changed-is) (row_new c.requires.reach c.requires.x_le_names (omega arith) c.loop-y.invariant c.is_new.ensures w.if-is_new.true w.settle.ensures w.expand.ensures.expanded)
+  | then-is_new w ↦ rw (w.work-is, w.changed-is)
+      (row_new c.requires.reach c.requires.x_le_names (omega arith) c.loop-y.invariant c.is_new.ensures w.if-is_new.true w.settle.ensures w.expand.ensures.expanded)
   | else-is_new w ↦ rw (w.work-is, w.changed-is) (row_old c.loop-y.invariant c.is_new.ensures w.if-is_new.false)
 ]
 
