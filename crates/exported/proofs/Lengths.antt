@@ -3,6 +3,8 @@
 --   shown_fits          the place of an axiom shown: an accepted file is short
 --   rewriting_short     the length of a rewritten file
 --   rows_fit            how many rows of a concept are written
+--   session_fits        the counts of a session
+--   file_length_fits, signature_length_fits     how many bytes of it are copied
 use mathlib.Core.Path.{◌≡◌, refl}
 use mathlib.Core.Bool.{Bool, true, false}
 use mathlib.Core.List.{List}
@@ -33,6 +35,11 @@ use Rattle.rewriting.proofs.RoundTrip.{wrote}
 use Rattle.witness.specs.Showing.{ShownAs}
 use Rattle.witness.specs.declared.refusals.ShowRefusal.{ShowRefusal}
 use Rattle.witness.proofs.Passing.{few_rows}
+use Rattle.editing.specs.declared.Session.{Session}
+use Rattle.editing.specs.Readers.{names_read, roles_read, file_read, signature_read}
+use Rattle.editing.proofs.Readers.{names_few, roles_few}
+use Rattle.session_bytes.specs.Layout.{Copies}
+use Rattle.session_bytes.proofs.Layouts.{file_fits, signature_fits}
 use Rattle.exported.specs.Codes.{Fits32}
 
 -- counts
@@ -93,3 +100,17 @@ rewriting_short (Err e) does h = tt
 pub rows_fit : {s t g ys zs w v : List ℕ} {side x : ℕ} (a : Result ℕ ShowRefusal) → ShownAs s t g side x ys zs w v a → IfOk a Fits32
 rows_fit (Ok k) shown = omega (arith, few_rows shown)
 rows_fit (Err e) shown = tt
+
+-- a session, whatever it holds
+pub record SessionFits (s : Session) : Type 0 where
+  pub names : Fits32 (names_read s)
+  pub roles : Fits32 (roles_read s)
+
+pub session_fits : (s : Session) → SessionFits s
+session_fits s = record { names = omega (arith, names_few s); roles = omega (arith, roles_few s) }
+
+pub file_length_fits : (side : ℕ) (s : Session) {o q : List ℕ} {k : ℕ} → Copies (file_read side s) o q k → Fits32 k
+file_length_fits side s copies = omega (arith, copies.length_is, file_fits side s)
+
+pub signature_length_fits : (s : Session) {o q : List ℕ} {k : ℕ} → Copies (signature_read s) o q k → Fits32 k
+signature_length_fits s copies = omega (arith, copies.length_is, signature_fits s)

@@ -1,3 +1,4 @@
 -- Answers as numbers. To be read in this order.
 pub mod Codes
 pub mod Concepts
+pub mod Sessions

@@ -21,6 +21,7 @@ use rewriting::rewrite;
 
 pub mod concepts;
 mod refusals;
+pub mod sessions;
 
 // The length of the longest report there can be: 1,023 names, each with a line.
 const REPORT: usize = 6202;

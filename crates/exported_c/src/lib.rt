@@ -6,9 +6,12 @@
 ghost use Rattle.exported.specs.Codes.{CheckReturns, AskReturns, ShowReturns, CompareReturns, SheetReturns};
 ghost use Rattle.exported.specs.Codes.{RewriteReturns, ReportReturns, WorkLengthReturns};
 ghost use Rattle.exported.specs.Concepts.{ShowConceptReturns, CheckConceptReturns};
+ghost use Rattle.exported.specs.Sessions.{StartReturns, AddReturns, WithdrawReturns, CountsReturn, ByteReturns, FileReturns, SignatureReturns};
 
 use branches::row::Row;
-use exported::concepts;
+use editing::{HeldFile, Session};
+use exported::{concepts, sessions};
+use session_bytes::Layout;
 
 // Checks a release: its counts of names, roles and axioms.
 #[unsafe(no_mangle)]
@@ -154,4 +157,95 @@ pub extern "C" fn berrytick_work_length(names: usize, length: &mut u32) -> u32
     ensures { WorkLengthReturns names length.old length.new result }
 {
     exported::berrytick_work_length(names, length)
+}
+
+// Starts a session from two releases and a signature: its bytes.
+#[unsafe(no_mangle)]
+pub extern "C" fn berrytick_session_start(
+    first: &[u8],
+    second: &[u8],
+    signature: &[u8],
+    session: &mut [u8; Layout::LENGTH],
+    work: &mut [u8],
+) -> u32
+    ensures { StartReturns first.now second.now signature.now
+        session.old session.new work.old work.new result }
+{
+    sessions::berrytick_session_start(first, second, signature, session, work)
+}
+
+// Adds an axiom, given by its bytes in a file, to the release on a side.
+#[unsafe(no_mangle)]
+pub extern "C" fn berrytick_session_add(
+    session: &mut [u8; Layout::LENGTH],
+    side: usize,
+    text: &[u8],
+    work: &mut [u8],
+) -> u32
+    ensures { AddReturns side text.now
+        session.old session.new work.old work.new result }
+{
+    sessions::berrytick_session_add(session, side, text, work)
+}
+
+// Withdraws a name's axiom from the release on a side.
+#[unsafe(no_mangle)]
+pub extern "C" fn berrytick_session_withdraw(
+    session: &mut [u8; Layout::LENGTH],
+    side: usize,
+    name: usize,
+    work: &mut [u8],
+) -> u32
+    ensures { WithdrawReturns side name
+        session.old session.new work.old work.new result }
+{
+    sessions::berrytick_session_withdraw(session, side, name, work)
+}
+
+// The numbers of names and roles of a session. It never refuses, and nor do the readers below.
+#[unsafe(no_mangle)]
+pub extern "C" fn berrytick_session_counts(
+    session: &[u8; Layout::LENGTH],
+    counts: &mut [u32; 2],
+) -> u32
+    ensures { CountsReturn session.now counts.old counts.new result }
+{
+    sessions::berrytick_session_counts(session, counts)
+}
+
+// The result byte of a name.
+#[unsafe(no_mangle)]
+pub extern "C" fn berrytick_session_byte(
+    session: &[u8; Layout::LENGTH],
+    name: usize,
+    byte: &mut u32,
+) -> u32
+    ensures { ByteReturns session.now name byte.old byte.new result }
+{
+    sessions::berrytick_session_byte(session, name, byte)
+}
+
+// Copies the file held on a side to the start of the output: its length.
+#[unsafe(no_mangle)]
+pub extern "C" fn berrytick_session_file(
+    session: &[u8; Layout::LENGTH],
+    side: usize,
+    output: &mut [u8; HeldFile::LENGTH],
+    length: &mut u32,
+) -> u32
+    ensures { FileReturns session.now side output.old output.new length.old length.new result }
+{
+    sessions::berrytick_session_file(session, side, output, length)
+}
+
+// Copies the signature's bytes to the start of the output: how many these are.
+#[unsafe(no_mangle)]
+pub extern "C" fn berrytick_session_signature(
+    session: &[u8; Layout::LENGTH],
+    output: &mut [u8; Session::SIGNATURE],
+    length: &mut u32,
+) -> u32
+    ensures { SignatureReturns session.now output.old output.new length.old length.new result }
+{
+    sessions::berrytick_session_signature(session, output, length)
 }
