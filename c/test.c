@@ -1,5 +1,5 @@
-/* Tries the calls of include/berrytick.h: P1 to P10, concepts of P1, the convention, and empty slices that are NULL. Prints a line for each
- * check that fails and the number of checks; the status is 0 where none fails. tools/test-bindings builds and runs it. */
+/* Tries the calls of include/berrytick.h: P1 to P10, concepts of P1, P1 edited, the convention, and empty slices that are NULL. Prints a line
+ * for each check that fails and the number of checks; the status is 0 where none fails. tools/test-bindings builds and runs it. */
 #include "berrytick.h"
 
 #include <stdio.h>
@@ -269,6 +269,81 @@ static void try_rewrite(void)
           "and back");
 }
 
+static uint8_t session[BERRYTICK_SESSION_BYTES];
+static uint8_t session_before[BERRYTICK_SESSION_BYTES];
+
+/* What the session's readers tell of a name, of a side and of all. */
+static int byte_is(size_t name, uint32_t expected)
+{
+    uint32_t byte = UNTOUCHED;
+    return berrytick_session_byte(session, name, &byte) == 0 && byte == expected;
+}
+
+static int file_is(size_t side, struct bytes expected)
+{
+    uint8_t file[BERRYTICK_SESSION_FILE_BYTES];
+    uint32_t length = UNTOUCHED;
+    memset(file, FILLED, sizeof file);
+    return berrytick_session_file(session, side, file, &length) == 0 && length == expected.length &&
+           (length == 0 || memcmp(file, expected.start, length) == 0) && all_are(file + length, sizeof file - length, FILLED);
+}
+
+static int holds(uint32_t names, uint32_t roles, struct bytes expected)
+{
+    uint8_t signature[BERRYTICK_SESSION_SIGNATURE_BYTES];
+    uint32_t counts[2] = {UNTOUCHED, UNTOUCHED};
+    uint32_t length = UNTOUCHED;
+    memset(signature, FILLED, sizeof signature);
+    return berrytick_session_counts(session, counts) == 0 && counts[0] == names && counts[1] == roles &&
+           berrytick_session_signature(session, signature, &length) == 0 && length == expected.length &&
+           (length == 0 || memcmp(signature, expected.start, length) == 0) &&
+           all_are(signature + length, sizeof signature - length, FILLED);
+}
+
+static void try_session_start(void)
+{
+    const struct bytes axiom = BYTES(0, 2, 2, 1, 2);
+    refill();
+    memset(session, FILLED, sizeof session);
+    check(berrytick_session_start(PASS(p1_first), PASS(p1_second), PASS(p1_signature), session, work, 99) == 32 * 256,
+          "too little memory to start a session");
+    check(berrytick_session_start(PASS(p1_first), output, 8, PASS(p1_signature), session, work, sizeof work) == 2 * 256 + 2,
+          "a session of no release");
+    check(berrytick_session_add(session, 1, PASS(axiom), work, sizeof work) == 46 * 256, "no session is edited");
+    check(berrytick_session_withdraw(session, 2, 0, work, sizeof work) == 46 * 256, "none at all");
+    check(all_are(session, sizeof session, FILLED) && work_is_left(0), "a refused start or step changes nothing");
+    check(holds(0, 0, none) && file_is(1, none) && byte_is(0, 0), "no session has nothing to tell");
+    check(berrytick_session_start(PASS(p1_first), PASS(p1_second), PASS(p1_signature), session, work, sizeof work) == 0, "P1 as a session");
+    check(work_is_left(needed(4)), "P1 as a session: work memory");
+    check(holds(4, 0, p1_signature), "its names, roles and signature");
+    check(file_is(1, p1_first) && file_is(2, p1_second), "its files");
+    check(file_is(0, none) && file_is(257, none), "no such side");
+    check(byte_is(0, 3) && byte_is(1, 0) && byte_is(2, 2) && byte_is(3, 0), "its result");
+    check(byte_is(4, 0) && byte_is(SIZE_MAX, 0), "no such name");
+}
+
+/* The axiom of name 0 by the first release of P1 is withdrawn and added again. */
+static void try_session_steps(void)
+{
+    const struct bytes axiom = BYTES(0, 2, 2, 1, 2);
+    const struct bytes no_axiom = BYTES(ELT1, 4, 0, 0);
+    memcpy(session_before, session, sizeof session);
+    refill();
+    check(berrytick_session_add(session, 257, PASS(axiom), work, sizeof work) == 46 * 256, "an axiom for no side");
+    check(berrytick_session_add(session, 2, axiom.start, 4, work, sizeof work) == 7 * 256 + 2, "an axiom that is cut short");
+    check(berrytick_session_add(session, 1, PASS(axiom), work, sizeof work) == 47 * 256 + 1, "name 0 has an axiom");
+    check(berrytick_session_withdraw(session, 2, 4, work, sizeof work) == 9 * 256 + 2, "no such name is withdrawn");
+    check(berrytick_session_withdraw(session, 2, 1, work, sizeof work) == 48 * 256 + 2, "name 1 has no axiom");
+    check(berrytick_session_withdraw(session, 1, 0, work, 99) == 32 * 256, "too little memory for a step");
+    check(memcmp(session, session_before, sizeof session) == 0 && work_is_left(0), "a refused step changes nothing");
+    check(berrytick_session_withdraw(session, 1, 0, work, sizeof work) == 0 && work_is_left(needed(4)), "the axiom is withdrawn");
+    check(file_is(1, no_axiom) && file_is(2, p1_second), "none is left on its side");
+    check(byte_is(0, 0) && byte_is(2, 0), "and nothing is lost");
+    refill();
+    check(berrytick_session_add(session, 1, PASS(axiom), work, sizeof work) == 0 && work_is_left(needed(4)), "it is added again");
+    check(memcmp(session, session_before, sizeof session) == 0, "which restores every byte");
+}
+
 /* Every slice empty, as NULL and as a pointer: the same answers. */
 static void try_empty(void)
 {
@@ -299,6 +374,10 @@ static void try_empty(void)
     check(berrytick_check_concept(PASS(p1_first), PASS(p1_second), PASS(p1_signature), 0, 1, NULL, 0, &answer, work, sizeof work) == 0 &&
               answer == 0,
           "no rows");
+    check(berrytick_session_start(NULL, 0, NULL, 0, NULL, 0, session, NULL, 0) == 1 * 256 + 1, "a session of NULL");
+    check(berrytick_session_start(PASS(no_names), PASS(no_names), NULL, 0, session, NULL, 0) == 32 * 256, "in NULL");
+    check(berrytick_session_start(PASS(no_names), PASS(no_names), NULL, 0, session, work, sizeof work) == 0, "of no names, no roles");
+    check(berrytick_session_add(session, 1, NULL, 0, work, sizeof work) == 7 * 256 + 1, "NULL is added");
     check(berrytick_rewrite(NULL, 0, 1, NULL, 0, &length) == 1 * 256 + 1, "NULL is rewritten");
     check(berrytick_rewrite(PASS(p1_first), 1, NULL, 0, &length) == 41 * 256, "to NULL");
 }
@@ -314,6 +393,8 @@ int main(void)
     try_report();
     try_concepts();
     try_rewrite();
+    try_session_start();
+    try_session_steps();
     try_empty();
     printf("c: %u checks, %u failed\n", checks, failures);
     return failures != 0;

@@ -8,13 +8,15 @@
  * and numbers may have any content and length.
  *
  * Lent memory. A slice passes as the pointer to its first element and the number of its elements; an empty one may be NULL. A single number,
- * and an array of three, pass as a pointer alone, which is not NULL. What a call may write to must not overlap anything else that it is lent;
- * what it only reads may. A call that is lent work memory and answers leaves the first bytes zero, as many as it needs (berrytick_work_length,
- * and more to check a concept), and the others, as all that is lent beyond an answer, as they were. On entry it may hold anything.
+ * an array of two or three, a session and what is copied out of one pass as a pointer alone, which is not NULL. What a call may write to must
+ * not overlap anything else that it is lent; what it only reads may. A call that is lent work memory and answers leaves the first bytes zero, as
+ * many as it needs (berrytick_work_length, and more to check a concept), and the others, as all that is lent beyond an answer, as they were. On
+ * entry it may hold anything.
  *
  * Nothing is kept between calls, and none allocates memory. Any number of threads may call at the same time, each with memory of its own to
  * write to. A call uses less than 72 KiB of stack, whatever it is lent: measured, with all of the calling program's own, 71,216 bytes for a
- * question, 32,592 for a comparison, a sheet or a report, 18,424 for a shown axiom and 10,296 for a check or a rewriting.
+ * question, 67,552 for a session's start, 48,832 for a step, at most 32,592 for a comparison, a sheet, a report or a concept, 18,424 for a shown
+ * axiom, 15,480 for what reads a session and 10,296 for a check or a rewriting.
  */
 #ifndef BERRYTICK_H
 #define BERRYTICK_H
@@ -34,6 +36,11 @@ extern "C" {
 #define BERRYTICK_NAMES 1023
 #define BERRYTICK_RELEASE_BYTES 36838
 #define BERRYTICK_REPORT_BYTES 6202
+
+/* The bytes of a session, and those of the longest file and of the longest signature that one can hold. */
+#define BERRYTICK_SESSION_BYTES 5136
+#define BERRYTICK_SESSION_FILE_BYTES 2421
+#define BERRYTICK_SESSION_SIGNATURE_BYTES 159
 
 /* Checks a release: n, m and a, its counts of names, roles and axioms, in this order.
  * Refused: 1 to 15, side 1. */
@@ -136,6 +143,55 @@ uint32_t berrytick_rewrite(const uint8_t *file, size_t file_length,
                            size_t wanted,
                            uint8_t *output, size_t output_length,
                            uint32_t *length);
+
+/* A session: two releases of version 1, a signature and the result of their comparison, in bytes of a fixed layout (docs/FORMAT.md, "A session").
+ * It may be copied, kept and filled by hand, since no call supposes anything of it. A step adds an axiom to a release or withdraws one, and
+ * compares again, whatever result bytes stood there. A refused start or step changes no byte of it. */
+
+/* Starts a session from two releases of version 1 and a signature: writes all of its bytes.
+ * Refused: 1 to 15 with the release's side, 3 for any other version than 1; 16, 17, 18, 32. */
+uint32_t berrytick_session_start(const uint8_t *first, size_t first_length,
+                                 const uint8_t *second, size_t second_length,
+                                 const uint8_t *signature, size_t signature_length,
+                                 uint8_t session[BERRYTICK_SESSION_BYTES],
+                                 uint8_t *work, size_t work_length);
+
+/* Adds an axiom, its bytes as they stand in a file, to the release on a side, 1 or 2.
+ * Refused: 46, side 0, where there is no such side or the session cannot be edited; 7 to 9 and 11 to 14, then 47, where the name has an axiom, then
+ * 15, all with this side; 32. */
+uint32_t berrytick_session_add(uint8_t session[BERRYTICK_SESSION_BYTES],
+                               size_t side,
+                               const uint8_t *axiom, size_t axiom_length,
+                               uint8_t *work, size_t work_length);
+
+/* Withdraws the axiom of a name from the release on a side.
+ * Refused: 46, side 0; 9, then 48, where the name has no axiom, both with this side; 32. */
+uint32_t berrytick_session_withdraw(uint8_t session[BERRYTICK_SESSION_BYTES],
+                                    size_t side, size_t name,
+                                    uint8_t *work, size_t work_length);
+
+/* What a session holds. The four calls below never refuse: of bytes that are no session which can be edited they tell no names, no roles, empty
+ * files and an empty signature. */
+
+/* n and m, its counts of names and roles, in this order. */
+uint32_t berrytick_session_counts(const uint8_t session[BERRYTICK_SESSION_BYTES],
+                                  uint32_t counts[2]);
+
+/* The result byte of a name, as in berrytick_compare; 0 where there is no such name. */
+uint32_t berrytick_session_byte(const uint8_t session[BERRYTICK_SESSION_BYTES],
+                                size_t name,
+                                uint32_t *byte);
+
+/* Copies the file held on a side to the start of the output: its length, 0 where there is no such side. */
+uint32_t berrytick_session_file(const uint8_t session[BERRYTICK_SESSION_BYTES],
+                                size_t side,
+                                uint8_t output[BERRYTICK_SESSION_FILE_BYTES],
+                                uint32_t *length);
+
+/* Copies the signature's bytes to the start of the output: how many these are, n + m. */
+uint32_t berrytick_session_signature(const uint8_t session[BERRYTICK_SESSION_BYTES],
+                                     uint8_t output[BERRYTICK_SESSION_SIGNATURE_BYTES],
+                                     uint32_t *length);
 
 #ifdef __cplusplus
 }

@@ -1,7 +1,7 @@
 //! The calls as `include/berrytick.h` declares them. What it asks of a caller, Rust's references ensure: lent memory is valid, and what is
 //! written to is lent once.
 
-use crate::Row;
+use crate::{Row, SESSION_BYTES, SESSION_FILE_BYTES, SESSION_SIGNATURE_BYTES};
 
 extern "C" {
     pub fn berrytick_check(file: *const u8, file_length: usize, counts: &mut [u32; 3]) -> u32;
@@ -101,6 +101,52 @@ extern "C" {
         answer: &mut u32,
         work: *mut u8,
         work_length: usize,
+    ) -> u32;
+
+    pub fn berrytick_session_start(
+        first: *const u8,
+        first_length: usize,
+        second: *const u8,
+        second_length: usize,
+        signature: *const u8,
+        signature_length: usize,
+        session: &mut [u8; SESSION_BYTES],
+        work: *mut u8,
+        work_length: usize,
+    ) -> u32;
+
+    pub fn berrytick_session_add(
+        session: &mut [u8; SESSION_BYTES],
+        side: usize,
+        axiom: *const u8,
+        axiom_length: usize,
+        work: *mut u8,
+        work_length: usize,
+    ) -> u32;
+
+    pub fn berrytick_session_withdraw(
+        session: &mut [u8; SESSION_BYTES],
+        side: usize,
+        name: usize,
+        work: *mut u8,
+        work_length: usize,
+    ) -> u32;
+
+    pub fn berrytick_session_counts(session: &[u8; SESSION_BYTES], counts: &mut [u32; 2]) -> u32;
+
+    pub fn berrytick_session_byte(session: &[u8; SESSION_BYTES], name: usize, byte: &mut u32) -> u32;
+
+    pub fn berrytick_session_file(
+        session: &[u8; SESSION_BYTES],
+        side: usize,
+        output: &mut [u8; SESSION_FILE_BYTES],
+        length: &mut u32,
+    ) -> u32;
+
+    pub fn berrytick_session_signature(
+        session: &[u8; SESSION_BYTES],
+        output: &mut [u8; SESSION_SIGNATURE_BYTES],
+        length: &mut u32,
     ) -> u32;
 
     pub fn berrytick_rewrite(

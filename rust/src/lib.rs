@@ -27,8 +27,10 @@
 
 mod calls;
 mod refusal;
+mod session;
 
 pub use refusal::Refusal;
+pub use session::Session;
 
 /// The most names that a release can have.
 pub const NAMES: usize = 1023;
@@ -38,6 +40,13 @@ pub const RELEASE_BYTES: usize = 36838;
 
 /// The bytes of the longest report. An output that is shorter is refused.
 pub const REPORT_BYTES: usize = 6202;
+
+/// The bytes of a session, and those of the longest file and of the longest signature that one can hold.
+pub const SESSION_BYTES: usize = 5136;
+
+const SESSION_FILE_BYTES: usize = 2421;
+
+const SESSION_SIGNATURE_BYTES: usize = 159;
 
 /// The counts of an accepted release.
 #[derive(Clone, Copy, Debug, PartialEq, Eq)]

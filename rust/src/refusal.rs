@@ -51,6 +51,9 @@ impl Refusal {
             (42, _) => "more than 64 signatures",
             (43, _) => "fewer rows than signatures",
             (44, _) => "fewer rows than (n + 2) × (n + 2) × (n + 2) for n names",
+            (46, _) => "there is no such side, or the session cannot be edited",
+            (47, _) => "the name has an axiom already",
+            (48, _) => "the name has no axiom",
             _ => "a number that this version does not know",
         }
     }

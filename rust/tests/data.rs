@@ -1,7 +1,7 @@
 //! The cases of the program `examples`, crates/examples/data: outside vectors and tables worked out by hand. tools/vectors.py says what the
 //! fields of a family are.
 
-use berrytick::{Refusal, Row};
+use berrytick::{Refusal, Row, Session};
 use std::path::Path;
 
 const FILLED: u8 = 0xA5;
@@ -172,6 +172,83 @@ fn try_rowcheck(case: &[&[u8]]) {
     assert!(begins_with(&work, &zeros(cleared)));
 }
 
+/// Where the bytes of a session's files start, of its signature and of its result.
+const FIRST: usize = 8;
+const SECOND: usize = FIRST + 2421;
+const SIGNATURE: usize = SECOND + 2421;
+const RESULT: usize = SIGNATURE + 159;
+
+/// The session with these bytes from a place on.
+fn put(mut session: Session, at: usize, bytes: &[u8]) -> Session {
+    session.bytes[at..at + bytes.len()].copy_from_slice(bytes);
+    session
+}
+
+/// A session of so many files, each with its length, a signature and a result; what else it has.
+fn session(files: [(&[u8], u32); 2], signature: &[u8], result: &[u8], rest: u8) -> Session {
+    let [(first, one), (second, two)] = files;
+    let filled = Session { bytes: [rest; berrytick::SESSION_BYTES] };
+    let with_lengths = put(put(filled, 0, &one.to_le_bytes()), 4, &two.to_le_bytes());
+    put(put(put(put(with_lengths, FIRST, first), SECOND, second), SIGNATURE, signature), RESULT, result)
+}
+
+fn session_in(fields: &[&[u8]]) -> Session {
+    let &[first, one, second, two, signature, result] = fields else { panic!("fields of a session") };
+    session([(first, number(one) as u32), (second, number(two) as u32)], signature, result, FILLED)
+}
+
+fn whole(file: &[u8]) -> (&[u8], u32) {
+    (file, file.len() as u32)
+}
+
+fn try_start(case: &[&[u8]]) {
+    let &[first, second, signature, works, refused, side, result, cleared] = case else {
+        panic!("fields of a session's start")
+    };
+    let mut work = lent(works);
+    let answer = Session::start(first, second, signature, &mut work);
+    let started = match number(refused) {
+        0 => session([whole(first), whole(second)], signature, result, 0),
+        _ => Session { bytes: [0; berrytick::SESSION_BYTES] },
+    };
+    assert_eq!(answer, expected(refused, side, started));
+    assert!(begins_with(&work, &zeros(cleared)));
+}
+
+fn try_step(case: &[&[u8]]) {
+    let (fields, step) = case.split_at(6);
+    let &[side, axiom, name, works, refused, refused_side, file, result, cleared] = step else {
+        panic!("fields of a step")
+    };
+    let before = session_in(fields);
+    let mut after = before;
+    let (side, mut work) = (number(side), lent(works));
+    let answer = match name {
+        [] => after.add(side, axiom, &mut work),
+        name => after.withdraw(side, number(name), &mut work),
+    };
+    assert_eq!(answer, expected(refused, refused_side, ()));
+    let edited = || {
+        let (length, start) = if side == 1 { (0, FIRST) } else { (4, SECOND) };
+        put(put(put(before, length, &whole(file).1.to_le_bytes()), start, file), RESULT, result)
+    };
+    assert!(after == if answer.is_ok() { edited() } else { before });
+    assert!(begins_with(&work, &zeros(cleared)));
+}
+
+fn try_held(case: &[&[u8]]) {
+    let (fields, told) = case.split_at(6);
+    let &[names, roles, first, second, signature, result] = told else { panic!("fields of what a session tells") };
+    let session = session_in(fields);
+    assert_eq!((session.names(), session.roles()), (number(names), number(roles)));
+    assert_eq!(
+        [session.file(1), session.file(2), session.file(3), session.signature()],
+        [first, second, b"", signature]
+    );
+    assert!((0..result.len()).all(|name| session.byte(name) == result[name]));
+    assert_eq!(session.byte(number(names)), 0);
+}
+
 #[test]
 fn checks() {
     each_case("check", try_check);
@@ -221,4 +298,20 @@ fn concepts() {
 fn rows_checked() {
     each_case("rowcheck", try_rowcheck);
     each_case("rowchecks", try_rowcheck);
+}
+
+#[test]
+fn sessions_started() {
+    each_case("starts", try_start);
+}
+
+#[test]
+fn sessions_edited() {
+    each_case("steps", try_step);
+    each_case("edits", try_step);
+}
+
+#[test]
+fn sessions_read() {
+    each_case("held", try_held);
 }

@@ -1,6 +1,6 @@
 //! Each number of a refusal once, with its side, and that it changes nothing that is lent.
 
-use berrytick::{Refusal, Row};
+use berrytick::{Refusal, Row, Session};
 use std::collections::BTreeSet;
 
 const FILLED: u8 = 0xA5;
@@ -152,6 +152,26 @@ fn rewriting() {
 }
 
 #[test]
+fn sessions() {
+    let mut lent = Lent::new();
+    let work = &mut lent.work;
+    assert_eq!(Session::start(RELEASE, b"ELT\x02\x00\x02\x00", &[1, 1, 1], work), Err(refusal(1, 2)));
+    assert_eq!(Session::start(RELEASE, b"ELT\x02\x00\x02\x00\x01", &[1, 1, 1], work), Err(refusal(3, 2)));
+    let session = Session::start(RELEASE, RELEASE, &[1, 1, 1], &mut [0; 36]).unwrap();
+    let mut edited = session;
+    assert_eq!(edited.add(3, &[1, 1, 0], work), Err(refusal(46, 0)));
+    assert_eq!(Session { bytes: [0; berrytick::SESSION_BYTES] }.withdraw(1, 0, work), Err(refusal(46, 0)));
+    assert_eq!(edited.add(2, &[0, 1, 0], work), Err(refusal(47, 2)));
+    assert_eq!(edited.add(2, &[1, 1, 1, 0], work), Err(refusal(15, 2)));
+    assert_eq!(edited.add(1, &[1, 1, 0, 0], work), Err(refusal(14, 1)));
+    assert_eq!(edited.add(1, &[1, 1, 0], &mut work[..35]), Err(refusal(32, 0)));
+    assert_eq!(edited.withdraw(1, 2, work), Err(refusal(9, 1)));
+    assert_eq!(edited.withdraw(1, 1, work), Err(refusal(48, 1)));
+    assert_eq!(edited, session);
+    assert!(lent.is_unchanged());
+}
+
+#[test]
 fn work_lengths() {
     assert_eq!(berrytick::work_length(0), Ok(4));
     assert_eq!(berrytick::work_length(127), Ok(65_536));
@@ -164,7 +184,7 @@ fn work_lengths() {
 /// Every number has a meaning of its own, and numbers that no call has are told from them.
 #[test]
 fn meanings() {
-    let numbers = (1..=19).chain([31, 32, 33, 40, 41, 42, 43, 44]);
+    let numbers = (1..=19).chain([31, 32, 33, 40, 41, 42, 43, 44, 46, 47, 48]);
     let unknown = refusal(255, 0).meaning();
     let meanings: BTreeSet<&str> = numbers.clone().map(|number| refusal(number, 1).meaning()).collect();
     assert_eq!(meanings.len(), numbers.count());
