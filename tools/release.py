@@ -231,3 +231,64 @@ def chosen(first, count, signatures):
     """How many names each of the signatures has chosen."""
     _, _, n, m, _ = check(first)
     return [sum(signatures[i * (n + m):i * (n + m) + n]) for i in range(count)]
+
+
+class Session:
+    """Two files held at the start of as many bytes as the longest one has, with their lengths, and a signature's bytes. A file is None
+    where its length is past the bytes."""
+    ROOM, CHOSEN, RESULT = 2421, 159, 127
+
+    def __init__(self, first, second, chosen):
+        self.files, self.chosen = {1: first, 2: second}, chosen
+
+    def counts(self):
+        """n and m, None where the session is refused with 46."""
+        if None in self.files.values():
+            return None
+        checked = [check(file) for file in self.files.values()]
+        one_each = all(file[3:5] == bytes([1, 0]) for file in self.files.values())
+        if not one_each or any(number for number, *_ in checked) or checked[0][2:4] != checked[1][2:4]:
+            return None
+        n, m = checked[0][2:4]
+        return (n, m) if max(self.chosen[:n + m], default=0) <= 1 else None
+
+    def step(self, side, work, change):
+        """Number and side of a step's refusal, (0, 0) where it is none: `change` makes of the side's axioms those after it."""
+        if side not in (1, 2) or self.counts() is None:
+            return 46, 0
+        n, m = self.counts()
+        file = self.files[side]
+        axioms = {left: file[start:end] for left, _, _, start, end in axioms_of(file)[2]}
+        try:
+            change(n, m, axioms)
+            new = file[:7] + bytes([len(axioms)]) + b"".join(axioms[left] for left in sorted(axioms))
+            axioms_of(new)
+        except Refused as refused:
+            return refused.args[0], side
+        if work < 4 * (n + 1) ** 2:
+            return 32, 0
+        self.files[side] = new
+        return 0, 0
+
+    def add(self, side, text, work):
+        def change(n, m, axioms):
+            reader = Reader(text, VERSIONS[1])
+            reader.at = 0
+            left = axiom(reader, n, m, None)[0]
+            if reader.at < len(text):
+                raise Refused(14)
+            if left in axioms:
+                raise Refused(47)
+            axioms[left] = text
+
+        return self.step(side, work, change)
+
+    def withdraw(self, side, name, work):
+        def change(n, m, axioms):
+            if name >= n:
+                raise Refused(9)
+            if name not in axioms:
+                raise Refused(48)
+            del axioms[name]
+
+        return self.step(side, work, change)

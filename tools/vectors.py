@@ -6,8 +6,9 @@ usage: tools/vectors.py FOLDER..
 The folders hold vectors, NAME.jsonl, one JSON object a line with bytes in hex; the first that has a family's counts. The
 cases of the families `refusals`, `shows`, `rewrites`, `signatures`, `questions`, `comparisons`, `sheets`, `concepts` and
 `rowchecks` come from the tables of that name beside this script; release.py confirms these, of the last five which are
-refused and how many names are chosen. Those of the family `deep` are made here, and those of the family `lines` of the
-vectors `sheet`.
+refused and how many names are chosen. Those of the family `deep` are made here, those of the family `lines` of the
+vectors `sheet`, those of the families `starts` and `steps` of the vectors `session`, and those of the families `held`
+and `edits` of the table sessions.txt, which release.py confirms too, but for the result bytes.
 
 A data file is a case after the other. A case is a length of four bytes and that many bytes: its fields, one after the
 other, each again a length of four bytes and that many bytes. A number is a field of one to eight bytes. Numbers and
@@ -31,6 +32,13 @@ The fields of a case: first what the call is given, then what it answers.
     rowcheck, rowchecks    first, second, signature, name, side, the rows (of four bytes each number), length of the work
                         memory; number, side, 1 for yes, zeros
     signatures          n, m, steps; n, m, the bytes of the first places, a place more, its byte
+    starts              first, second, signature, length of the work memory; number, side, result, zeros
+    held                a session: first, its length, second, its length, signature, result; n, m, first, second, signature and
+                        result as its readers tell them
+    steps, edits        a session, side, the axiom added, the name withdrawn (empty where an axiom is added), length of the
+                        work memory; number, side, the side's file, result, zeros
+
+The bytes of a session past those given are marked; so the file of a length above its bytes goes on in marks.
 
 Where a call is refused, n, m, a, value and zeros are 0, and the result and the rewritten file have no byte: what is lent
 stays as it was.
@@ -60,6 +68,10 @@ PROGRAM_WORK = 65536
 
 # How many bytes a case may have.
 ROOM = 65536
+
+# The release of version 1 without names and roles, which a refused start leaves; what a session has past the bytes given.
+EMPTY = b"ELT" + bytes([1, 0, 0, 0, 0])
+MARK = bytes([165])
 
 
 def number(value):
@@ -169,6 +181,76 @@ def file_bytes(words):
 
     words = re.sub(r"each (\S+) \((.*?)\)", repeated, words).replace("ELT", "45 4C 54")
     return b"".join(value.to_bytes(digits(word) // 2, "little") for word in words.split() for value in span(word, 16))
+
+
+def session_before(first, second, signature, result):
+    """The fields of a session whose files have the lengths of their bytes."""
+    return [first, number(len(first)), second, number(len(second)), signature, result]
+
+
+def starts(folders):
+    cases = []
+    for row in outside(folders, "session"):
+        first, second, signature = (bytes.fromhex(row[key]) for key in ("first", "second", "sig"))
+        start = row["start"]
+        cases.append([first, second, signature, number(row["work_len"]), number(start["number"]), number(start["side"]),
+                      bytes.fromhex(start["result"]), number(needed(first) if start["number"] == 0 else 0)])
+    return cases
+
+
+def steps(folders):
+    """Each step of a script, on the session that the step before, or the start, left."""
+    cases = []
+    for row in outside(folders, "session"):
+        accepted = row["start"]["number"] == 0
+        first, second, signature = (bytes.fromhex(row[key]) for key in ("first", "second", "sig")) if accepted else (EMPTY, EMPTY, b"")
+        result = bytes.fromhex(row["start"]["result"])
+        for step in row["steps"]:
+            before = session_before(first, second, signature, result)
+            first, second, result = (bytes.fromhex(step[key]) for key in ("first", "second", "result"))
+            text, name = (bytes.fromhex(step["what"]), b"") if step["add"] else (b"", number(step["what"]))
+            done = step["number"] == 0
+            after = [{1: first, 2: second}[step["side"]], result, number(needed(first))] if done else [b"", b"", number(0)]
+            cases.append([*before, number(step["side"]), text, name, number(step["work_len"]), number(step["number"]),
+                          number(step["rside"]), *after])
+    return cases
+
+
+def sessions():
+    """The cases of the families `held` and `edits`, from the table."""
+    held, edits = [], []
+    for line in table("sessions"):
+        asked, answer = line.split("=")
+        answer, _, work = answer.partition(" in ")
+        work, answer = int(work or 65536), answer.split()
+        words, *parts = asked.split("|")
+        words, parts = words.split(), list(map(file_bytes, parts))
+        if words[0] == "session":
+            lengths = [len(file) if word == "whole" else int(word) for word, file in zip(words[1:], parts)]
+            files = [(file + MARK * release.Session.ROOM)[:length] if length <= release.Session.ROOM else None
+                     for file, length in zip(parts, lengths)]
+            session = release.Session(*files, parts[2] + MARK * (release.Session.CHOSEN - len(parts[2])))
+            counts = session.counts()
+            confirmed("sessions", line, tuple(map(int, answer)) if answer != ["none"] else None, counts)
+            n, m = counts or (0, 0)
+            result = b""
+            told = [*files, session.chosen[:n + m], MARK * n] if counts else [b""] * 4
+            given = [parts[0], number(lengths[0]), parts[1], number(lengths[1]), parts[2]]
+            held.append([*given, result, number(n), number(m), *told])
+            continue
+        before = [*given, result]
+        side, name = int(words[1]), int(words[2]) if words[0] == "withdraw" else None
+        number_, refused_side, words = expected(answer)
+        got = session.add(side, parts[0], work) if name is None else session.withdraw(side, name, work)
+        confirmed("sessions", line, (number_, refused_side), got)
+        after = [b"", b"", number(0)]
+        if words is not None:
+            result = file_bytes(" ".join(words))
+            after = [session.files[side], result, number(needed(session.files[side]))]
+            given[2 * side - 2:2 * side] = [session.files[side], number(len(session.files[side]))]
+        edits.append([*before, number(side), parts[0] if name is None else b"", b"" if name is None else number(name), number(work),
+                      number(number_), number(refused_side), *after])
+    return held, edits
 
 
 def lines(folders):
@@ -453,6 +535,11 @@ def main():
     write("concepts", concepts())
     write("rowchecks", rowchecks())
     write("deep", deep(1) + deep(2) + wide())
+    write("starts", starts(folders))
+    write("steps", steps(folders))
+    held, edits = sessions()
+    write("held", held)
+    write("edits", edits)
 
 
 if __name__ == "__main__":

@@ -7,7 +7,7 @@ use crate::verdict::{Difference, What, same};
 use std::array;
 
 // The most fields that a case has.
-const MOST: usize = 12;
+const MOST: usize = 15;
 
 // The fields of a case, with empty ones past its last. The array has room for all families, and the number of fields is a parameter of
 // `of`: tried as `[&[u8]; N]`, the proof did not close, as an array of references whose length is a const parameter has no proof rule yet.

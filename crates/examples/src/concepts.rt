@@ -54,6 +54,7 @@ fn shown(case: Case, rows: &mut [u32], work: &mut [u8]) -> Verdict {
             written,
             expected,
             zeros,
+            ..
         ],
     ) = case;
     let name = ConceptName(number_in(name));

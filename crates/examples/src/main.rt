@@ -9,15 +9,19 @@ mod cases;
 mod check;
 mod compare;
 mod concepts;
+mod held;
 mod memory;
 mod printed;
 mod questions;
 mod rewrite;
 mod rowchecks;
 mod run;
+mod sessions;
 mod sheets;
 mod show;
 mod signatures;
+mod starts;
+mod steps;
 mod texts;
 mod verdict;
 
@@ -48,5 +52,9 @@ fn main(rt: HostRuntime) -> io::Result<()> {
     family(&rt, "shown", concepts::judge)?;
     family(&rt, "concepts", concepts::judge)?;
     family(&rt, "rowcheck", rowchecks::judge)?;
-    family(&rt, "rowchecks", rowchecks::judge)
+    family(&rt, "rowchecks", rowchecks::judge)?;
+    family(&rt, "starts", starts::judge)?;
+    family(&rt, "held", held::judge)?;
+    family(&rt, "steps", steps::judge)?;
+    family(&rt, "edits", steps::judge)
 }

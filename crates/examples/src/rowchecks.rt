@@ -31,7 +31,7 @@ pub(crate) fn judge(case: &[u8]) -> Verdict {
 
 fn checked(case: Case, rows: &[u32], work: &mut [u8]) -> Verdict {
     let Case([first, second, signature, name, side, ..]) = case;
-    let Case([_, _, _, _, _, _, _, number, refused_side, value, zeros, _]) = case;
+    let Case([_, _, _, _, _, _, _, number, refused_side, value, zeros, ..]) = case;
     let name = ConceptName(number_in(name));
     let answer = check_concept(first, second, signature, name, number_in(side), rows, work);
     if let Some(shows) = same_outcome(answer, refusal_in(number, refused_side))? {
