@@ -7,7 +7,7 @@ use crate::practice::{self, Draws};
 use std::collections::BTreeMap;
 
 /// Changes a byte, removes the end, adds a byte, or mostly does nothing.
-fn damage(mut bytes: Vec<u8>, draws: &mut Draws) -> Vec<u8> {
+pub fn damage(mut bytes: Vec<u8>, draws: &mut Draws) -> Vec<u8> {
     let place = draws.below(bytes.len() + 1);
     match draws.below(16) {
         0 => bytes.truncate(place),

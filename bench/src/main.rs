@@ -5,13 +5,15 @@
 //!     bench sheet FOLDER [--wide]     a table of sheets of 64 branches beside as many single comparisons
 //!     bench question [all] [--wide]   a table of the worst questions
 //!     bench concept FOLDER [--wide]   a table of concepts shown and checked beside the comparison; only with the proved library
+//!     bench session FOLDER            a table of steps of sessions beside the comparison; only with the proved library
 //!     bench small FOLDER              the rows of the concepts of outside vectors beside a yardstick; only with the proved library
 //!     bench agree COUNT [--wide]      both on so many random inputs, whole and damaged, short of memory at times; and with the proved
-//!                                     library concepts shown and rows checked
+//!                                     library concepts shown and rows checked, and without --wide sessions
 //!     bench repeat BY INPUT COUNT FOLDER
 //!                                     one input, COUNT times, by `ours` or `baseline`: for counting instructions
-//!     bench repeat sheet|show|check INPUT COUNT FOLDER
-//!                                     a sheet of it, COUNT times; a concept of it shown, or checked
+//!     bench repeat sheet|show|check|step|held INPUT COUNT FOLDER
+//!                                     a sheet of it, COUNT times; a concept of it shown, or checked; an axiom of a session of it withdrawn and
+//!                                     added again, or the two comparisons of what it then holds
 //!
 //! With --wide the inputs have files of version 2: those of FOLDER/1023, questions with 1,023 names, random ones. Without
 //! it none has, so that a library that refuses version 2 can be measured.
@@ -28,6 +30,8 @@ mod naive;
 mod ours;
 mod practice;
 mod questions;
+#[cfg(feature = "ours")]
+mod sessions;
 mod sheet;
 mod vectors;
 
@@ -57,6 +61,8 @@ fn main() -> ExitCode {
         ["concept", folder] => concepts::table(&inputs::from_folder(Path::new(folder))),
         #[cfg(feature = "ours")]
         ["small", folder] => concepts::against_small(Path::new(folder)),
+        #[cfg(feature = "ours")]
+        ["session", folder] => sessions::table(&inputs::from_folder(Path::new(folder))),
         ["repeat", by, input, count, folder] => repeat(by, input, count, Path::new(folder)),
         _ => usage(),
     };
@@ -69,8 +75,8 @@ fn main() -> ExitCode {
 
 fn usage() -> bool {
     eprintln!("bench vectors FOLDER | compare FOLDER [--wide] | sheet FOLDER [--wide] | question [all] [--wide] | agree COUNT [--wide]");
-    eprintln!("bench concept FOLDER [--wide] | small FOLDER");
-    eprintln!("bench repeat ours|baseline|sheet|show|check INPUT COUNT FOLDER");
+    eprintln!("bench concept FOLDER [--wide] | small FOLDER | session FOLDER");
+    eprintln!("bench repeat ours|baseline|sheet|show|check|step|held INPUT COUNT FOLDER");
     false
 }
 
@@ -78,7 +84,7 @@ fn usage() -> bool {
 fn agree(count: usize, wide: bool) -> bool {
     let calls = agreement::try_many(count, wide);
     #[cfg(feature = "ours")]
-    let calls = concepts::try_many(count, wide) & calls;
+    let calls = concepts::try_many(count, wide) & (wide || sessions::try_many(count)) & calls;
     calls
 }
 
@@ -144,6 +150,8 @@ fn repeat(by: &str, name: &str, count: &str, folder: &Path) -> bool {
         "sheet" => return sheet::repeat(&input, count),
         #[cfg(feature = "ours")]
         "show" | "check" => return concepts::repeat(&input, by == "check", count),
+        #[cfg(feature = "ours")]
+        "step" | "held" => return sessions::repeat(&input, by == "step", count),
         _ => return usage(),
     };
     let mut buffers = Buffers::for_names(input.call.names());

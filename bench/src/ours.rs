@@ -1,10 +1,12 @@
 //! The proved library, by its wrapper in Rust (`rust/`). Its refusals are told as the baseline's, so that answers can be compared.
 //!
-//! Without the feature `ours` the baseline stands in, so that the measuring itself can be tried; it writes no concept, so that those are left out.
+//! Without the feature `ours` the baseline stands in, so that the measuring itself can be tried; it writes no concept and has no sessions, so that those are left out.
 
 #[cfg(feature = "ours")]
 use crate::baseline::Asked;
 use crate::baseline::Refusal;
+#[cfg(feature = "ours")]
+use berrytick::Session;
 pub use linked::{Row, NAME};
 
 /// A row of a concept.
@@ -23,6 +25,21 @@ pub fn show_concept(asked: Asked, rows: &mut [ConceptRow], work: &mut [u8]) -> R
 pub fn check_concept(asked: Asked, rows: &[ConceptRow], work: &mut [u8]) -> Result<bool, Refusal> {
     let Asked { first, second, signature, name, side } = asked;
     berrytick::check_concept(first, second, signature, name, side, rows, work).map(|yes| yes == 1).map_err(told)
+}
+
+#[cfg(feature = "ours")]
+pub fn session_start(first: &[u8], second: &[u8], signature: &[u8], work: &mut [u8]) -> Result<Session, Refusal> {
+    Session::start(first, second, signature, work).map_err(told)
+}
+
+#[cfg(feature = "ours")]
+pub fn session_add(session: &mut Session, side: usize, axiom: &[u8], work: &mut [u8]) -> Result<(), Refusal> {
+    session.add(side, axiom, work).map_err(told)
+}
+
+#[cfg(feature = "ours")]
+pub fn session_withdraw(session: &mut Session, side: usize, name: usize, work: &mut [u8]) -> Result<(), Refusal> {
+    session.withdraw(side, name, work).map_err(told)
 }
 
 fn told(refusal: linked::Refusal) -> Refusal {
