@@ -30,6 +30,7 @@ use Rattle.layout.specs.Tables.{has_edge}
 use Rattle.row_evaluation.specs.Cells.{cell}
 use Rattle.row_evaluation.proofs.RowBytes.{cell_first}
 use Rattle.witness_above.specs.Joining.{most, line}
+use Rattle.witness_above.specs.Reach.{edge_row, last_row}
 use Rattle.witness_above.specs.Whole as left
 use Rattle.witness_above.proofs.Rooms.{left_room}
 use Rattle.witness_below.specs.Arranging as right
@@ -90,6 +91,15 @@ module _ {g : List ℕ} {r : Releases} {ys w : List ℕ} {x : Asked} (given : To
   unfolding cell size
   line_end = omega (arith, left_room n (omega (arith, name_in)))
 
+  -- and behind the line those of the edges, up to the end of the four squares
+  edges_end : cell (2 * size n) n (edge_row n n) 0 ≡ 4 * size n
+  unfolding cell size
+  edges_end = omega arith
+
+  edges_last : cell (2 * size n) n (last_row n) n < 4 * size n
+  unfolding cell size
+  edges_last = omega arith
+
   pub to_write_left : {ps : List ℕ} → length ps ≡ 1024 → ((i : ℕ) → get_or ps i 0 ≡ 0) → left.ToWrite h x.name ys ps w
   to_write_left long blank = record {
     start = record {
@@ -104,6 +114,7 @@ module _ {g : List ℕ} {r : Releases} {ys w : List ℕ} {x : Asked} (given : To
           second_apart = comparing.second_apart;
         };
         bytes = rw by.layout (record { inside = omega (arith, line_end, given.show.given.both.room); few = omega (arith, r.few) });
+        edges = rw by.layout (record { inside = omega (arith, edges_last, given.show.given.both.room); few = omega (arith, r.few) });
       };
       blank = rw by.layout (record { zero = λ p i l. given.ready.zero p i (omega (arith, cell_first (2 * size n) n (line n) n, line_end)) });
       asked_in = rw by.layout (omega (arith, name_in));
@@ -119,7 +130,7 @@ module _ {g : List ℕ} {r : Releases} {ys w : List ℕ} {x : Asked} (given : To
       rows_long = written.rows_long;
       rows_past = written.past;
       long = written.long;
-      past = λ p i. written.beyond p (rw by.layout (omega (arith, line_end)));
+      past = λ p i. written.beyond p (rw by.layout (omega (arith, edges_end)));
     };
     shows = by_report;
   }

@@ -21,14 +21,14 @@ use Rattle.layout.specs.Tables.{has_edge}
 use Rattle.layout.proofs.Findings.{name_handed}
 use Rattle.row_evaluation.specs.Cells.{Holds}
 use Rattle.row_evaluation.proofs.Worlds.{world_after}
-use Rattle.row_evaluation.proofs.RowBytes.{room_same, cell_first}
+use Rattle.row_evaluation.proofs.RowBytes.{room_same, cell_earlier}
 use Rattle.row_evaluation.proofs.Worlds.{marked_below, below_marked}
 use Rattle.classification.specs.Inclusions.{node_at}
 use Rattle.classification.proofs.Nodes.{at_name}
 use Rattle.concept_rows.proofs.Rows.{Formed, name_row}
 use Rattle.witness_above.specs.Joining.{line, RowPut}
 use Rattle.witness_above.specs.Left.{LastAbove, LeftProgress, FirstWorld, SecondWorld, LeadsOn}
-use Rattle.witness_above.specs.Reach.{Leading, Reached}
+use Rattle.witness_above.specs.Reach.{edge_row, Leading, Reached}
 use Rattle.witness_above.specs.Passes.{ToGo, Opened, Done}
 use Rattle.witness_above.specs.Whole.{ToStart, Started, NameDiffers, ToWrite, LeftWritten}
 use Rattle.witness_above.proofs.LeftEnd.{left_lost}
@@ -118,7 +118,14 @@ module _ {G : Given} {x : ℕ} {ys ps w : List ℕ} (given : ToWrite G x ys ps w
       few = omega (arith, left_rows_fit G.layout.names j (omega (arith, all.went.turned.state.bound)));
       long = all.went.turned.long ∙ begun.long;
       rows_long = all.went.turned.rows_long;
-      beyond = λ p l. all.went.turned.beyond p l ∙ begun.beyond p (omega (arith, cell_first G.layout.marks G.layout.names (line G.layout.names) G.layout.names));
+      beyond = λ p l.
+          all.went.turned.beyond p (omega (
+            arith,
+            l,
+            cell_earlier G.layout.marks G.layout.names (edge_row G.layout.names G.layout.names) (line G.layout.names) G.layout.names
+                (omega arith) (omega arith),
+          ))
+          ∙ begun.beyond p l;
       past = all.went.turned.past;
       shows = λ g s t side one two handed comparable left is_chosen witness.
           let sig = chosen G.layout g in

@@ -16,9 +16,8 @@ use Rattle.layout.specs.Layouts.{first_square, second_square, chosen}
 use Rattle.layout.specs.Tables.{has_edge}
 use Rattle.layout.specs.Findings.{Handed}
 use Rattle.row_evaluation.specs.Cells.{cell, Holds}
-use Rattle.witness_above.specs.Joining.{line}
 use Rattle.witness_above.specs.Left.{State, LeftReport, FirstWorld, SecondWorld, LeadsOn}
-use Rattle.witness_above.specs.Reach.{ToReach, Blank}
+use Rattle.witness_above.specs.Reach.{edge_row, ToReach, Blank}
 use Rattle.witness_above.specs.Passes.{Chosen, RolesFit}
 
 pub record ToStart (G : Given) (asked : ℕ) (ys ps w : List ℕ) : Type 0 where
@@ -33,7 +32,7 @@ pub record Started (G : Given) (asked : ℕ) (ys ps w v : List ℕ) : Type 0 whe
   pub state : State G.layout 0 ys ps v
   pub long : length v ≡ length w
   pub before : (p : ℕ) → p < G.layout.marks → get_or v p 0 ≡ get_or w p 0
-  pub beyond : (p : ℕ) → cell G.layout.marks G.layout.names (line G.layout.names) 0 ≤ p → get_or v p 0 ≡ get_or w p 0
+  pub beyond : (p : ℕ) → cell G.layout.marks G.layout.names (edge_row G.layout.names G.layout.names) 0 ≤ p → get_or v p 0 ≡ get_or w p 0
   pub asked_held : Holds v G.layout.marks G.layout.names asked asked
   pub leads : (s t : List ℕ) → FirstWorld s G v → SecondWorld t G v → (x : ℕ) → x < G.layout.names → has_edge G.edges.now x ≡ true → LeadsOn G v s t x
   pub report : (sig : Signature) (t u : List Axiom) → LeftReport sig t u G.layout 0 ys ps v v
@@ -59,7 +58,7 @@ pub record LeftWritten (G : Given) (x : ℕ) (ys zs w v : List ℕ) (r : ℕ) : 
   pub few : r ≤ rows_needed G.layout.names
   pub long : length v ≡ length w
   pub rows_long : length zs ≡ length ys
-  pub beyond : (p : ℕ) → cell G.layout.marks G.layout.names (line G.layout.names) G.layout.names < p → get_or v p 0 ≡ get_or w p 0
+  pub beyond : (p : ℕ) → cell G.layout.marks G.layout.names (edge_row G.layout.names G.layout.names) 0 ≤ p → get_or v p 0 ≡ get_or w p 0
   pub past : (p : ℕ) → 3 * r ≤ p → get_or zs p 0 ≡ get_or ys p 0
   pub shows : (g s t : List ℕ) (side : ℕ) → FirstWorld s G w → SecondWorld t G w → Handed g G → Comparable G.layout.names (chosen G.layout g) (axioms_of s) (axioms_of t)
       → side ≡ 1 → (chosen G.layout g).has_name x ≡ true → LeftWitness (chosen G.layout g) (axioms_of s) (axioms_of t) x

@@ -52,6 +52,6 @@ pub fn write_left(
         put_row(rows, 0, 1, other, 0);
         return 1;
     }
-    reach(given, work, notes, asked);
+    reach(given, work, asked);
     close(given, work, rows, numbers, notes, asked)
 }

@@ -1,13 +1,16 @@
-// The pairs of nodes that the pair asked for leads to, by the edges of both releases. The byte of a pair is 0 until it is noted.
-ghost use Rattle.std.specs.Prelude.{◌≡◌, ◌≤◌, ◌<◌, length};
+// The pairs of nodes that the pair asked for leads to, by the edges of both releases. The byte of a pair is 0 until it is noted. Behind the line a row
+// of bytes for each name c has the nodes from which the edge by c was followed: so it is followed once from each, however many nodes have it.
+ghost use Rattle.std.specs.Prelude.{◌≡◌, true, ◌≤◌, ◌<◌, length};
 ghost use Rattle.el.proofs.Tests.{Tells};
 ghost use Rattle.marks.specs.Squares.{Room};
 ghost use Rattle.layout.specs.Layouts.{first_square, second_square};
+ghost use Rattle.layout.specs.Tables.{has_edge as edge_told};
 ghost use Rattle.row_evaluation.specs.Cells.{RowRoom};
 ghost use Rattle.witness_above.specs.Joining.{line};
-ghost use Rattle.witness_above.specs.Reach.{New, NotedPair, Settled, EdgeBy, Listed, RowNoted, EdgeOf, ToReach, Expanded, Swept, Settling, Blank, Reached};
+ghost use Rattle.witness_above.specs.Reach.{New, NotedPair, Settled, LeadsTo, RowNoted, EdgeOf, ToReach, Expanded};
+ghost use Rattle.witness_above.specs.Reach.{edge_row, last_row, BytesCleared, EdgesCleared, Followed, EdgeFollowed, Swept, Settling, Blank, Reached};
 
-use crate::rows::{narrow, wide};
+use crate::pairs::holds;
 use layout::{Given, Layout};
 
 // The byte of a pair that is noted.
@@ -38,55 +41,55 @@ fn note(layout: Layout, work: &mut [u8], x: usize, y: usize)
     }
 }
 
+// Gives the byte of row x and node y the value of what is settled.
 fn settle(layout: Layout, work: &mut [u8], x: usize, y: usize)
-    requires room { RowRoom layout.marks layout.names (line layout.names) work.old }
-    requires x_le_names { (x ≤ layout.names) × (y ≤ layout.names) }
+    requires room { RowRoom layout.marks layout.names x work.old }
+    requires y_le_names { y ≤ layout.names }
     ensures { Settled layout.marks layout.names x y work.old work.new }
 {
     work[layout.marks + (x * (layout.names + 1) + y)] = SETTLED;
 }
 
-// Whether y has an edge by the name d, by the second release.
-fn leads(given: &Given, work: &[u8], y: usize, d: usize) -> bool
+// Whether y has an edge with the role by the name d, by the second release.
+fn leads(given: &Given, work: &[u8], role: usize, y: usize, d: usize) -> bool
     requires room { Room (second_square given.now.layout) work.now }
     requires y_le_names { (y ≤ given.now.layout.names) × (d < given.now.layout.names) }
-    ensures { Tells result (EdgeBy given.now work.now y d) }
+    ensures { Tells result (LeadsTo given.now work.now role y d) }
 {
-    given.second.is_restriction(d) && given.layout.second_square().is_marked(work, y, d)
+    given.second.is_restriction(d)
+        && given.second.role(d) == role
+        && given.layout.second_square().is_marked(work, y, d)
 }
 
-// Lists the names by which y has an edge, by the second release: how many there are. They are listed once for a pair, since most names are none
-// of them, and each edge of x asks for them again.
-fn list_edges(given: &Given, work: &[u8], listed: &mut [u32], y: usize) -> usize
-    requires room { Room (second_square given.now.layout) work.now }
-    requires y_le_names { (y ≤ given.now.layout.names) × (given.now.layout.names ≤ length listed.old) }
-    ensures long { length listed.new ≡ length listed.old }
-    ensures few { result ≤ length listed.new }
-    ensures all { Listed given.now work.now y given.now.layout.names listed.new result }
-{
-    let mut count = 0;
-    for d in 0..given.layout.names {
-        if leads(given, work, y, d) {
-            listed[count] = narrow(d);
-            count += 1;
-        }
-    }
-    count
-}
-
-// Notes the pairs of x and each node that y has an edge to with the role. The names by which y has edges are listed.
-fn note_row(given: &Given, work: &mut [u8], listed: &[u32], role: usize, x: usize, y: usize)
+// Notes the pairs of x and each node that y has an edge to with the role.
+fn note_row(given: &Given, work: &mut [u8], role: usize, x: usize, y: usize)
     requires reach { ToReach given.now work.old }
     requires x_le_names { (x ≤ given.now.layout.names) × (y ≤ given.now.layout.names) }
-    requires all { Listed given.now work.old y given.now.layout.names listed.now (length listed.now) }
     ensures { RowNoted given.now role x y given.now.layout.names work.old work.new }
 {
-    for name in listed {
-        let d = wide(*name);
-        if given.second.role(d) == role {
+    for d in 0..given.layout.names {
+        if leads(given, work, role, y, d) {
             note(given.layout, work, x, given.second.filler(d));
         }
     }
+}
+
+// Notes all that the edge by the name c leads to from y, if it was not followed from y before.
+fn follow(given: &Given, work: &mut [u8], c: usize, y: usize)
+    requires reach { ToReach given.now work.old }
+    requires c_lt_names { (c < given.now.layout.names) × (y ≤ given.now.layout.names) }
+    requires edge { edge_told given.now.edges.now c ≡ true }
+    requires followed { Followed given.now work.old }
+    ensures { EdgeFollowed given.now c y work.old work.new }
+{
+    let row = given.layout.names + 2 + c;
+    if holds(given.layout, work, row, y) {
+        return;
+    }
+    let role = given.first.role(c);
+    let node = given.first.filler(c);
+    note_row(given, work, role, node, y);
+    settle(given.layout, work, row, y);
 }
 
 // Whether x has an edge with a role of the signature by the name c, by the first release.
@@ -99,37 +102,31 @@ fn has_edge(given: &Given, work: &[u8], x: usize, c: usize) -> bool
 }
 
 // Notes all that the pair x, y leads to.
-fn expand(given: &Given, work: &mut [u8], notes: &mut [u32], x: usize, y: usize)
+fn expand(given: &Given, work: &mut [u8], x: usize, y: usize)
     requires reach { ToReach given.now work.old }
     requires x_le_names { (x ≤ given.now.layout.names) × (y ≤ given.now.layout.names) }
-    requires notes { given.now.layout.names ≤ length notes.old }
-    ensures expanded { Expanded given.now x y given.now.layout.names work.old work.new }
-    ensures long { length notes.new ≡ length notes.old }
+    requires followed { Followed given.now work.old }
+    ensures { Expanded given.now x y given.now.layout.names work.old work.new }
 {
-    let count = list_edges(given, work, notes, y);
-    let listed = &notes[..count];
     for c in 0..given.layout.names {
         if has_edge(given, work, x, c) {
-            let role = given.first.role(c);
-            let node = given.first.filler(c);
-            note_row(given, work, listed, role, node, y);
+            follow(given, work, c, y);
         }
     }
 }
 
 // Expands the new pairs of x: whether there is one.
-fn expand_row(given: &Given, work: &mut [u8], notes: &mut [u32], x: usize) -> bool
+fn expand_row(given: &Given, work: &mut [u8], x: usize) -> bool
     requires reach { ToReach given.now work.old }
     requires x_le_names { x ≤ given.now.layout.names }
-    requires notes { given.now.layout.names ≤ length notes.old }
-    ensures long { length notes.new ≡ length notes.old }
-    ensures swept { Swept given.now (λ a b. a ≡ x) work.old work.new result }
+    requires followed { Followed given.now work.old }
+    ensures { Swept given.now (λ a b. a ≡ x) work.old work.new result }
 {
     let mut changed = false;
     for y in 0..=given.layout.names {
         if is_new(given.layout, work, x, y) {
             settle(given.layout, work, x, y);
-            expand(given, work, notes, x, y);
+            expand(given, work, x, y);
             changed = true;
         }
     }
@@ -137,38 +134,53 @@ fn expand_row(given: &Given, work: &mut [u8], notes: &mut [u32], x: usize) -> bo
 }
 
 // Expands new pairs, each once: whether there is one.
-fn expand_all(given: &Given, work: &mut [u8], notes: &mut [u32]) -> bool
+fn expand_all(given: &Given, work: &mut [u8]) -> bool
     requires reach { ToReach given.now work.old }
-    requires notes { given.now.layout.names ≤ length notes.old }
-    ensures long { length notes.new ≡ length notes.old }
-    ensures swept { Swept given.now (λ a b. a ≤ given.now.layout.names) work.old work.new result }
+    requires followed { Followed given.now work.old }
+    ensures { Swept given.now (λ a b. a ≤ given.now.layout.names) work.old work.new result }
 {
     let mut changed = false;
     for x in 0..=given.layout.names {
-        changed |= expand_row(given, work, notes, x);
+        changed |= expand_row(given, work, x);
     }
     changed
 }
 
 // Expands pairs until none is new.
-fn settle_all(given: &Given, work: &mut [u8], notes: &mut [u32])
+fn settle_all(given: &Given, work: &mut [u8])
     requires reach { ToReach given.now work.old }
-    requires notes { given.now.layout.names ≤ length notes.old }
-    ensures long { length notes.new ≡ length notes.old }
-    ensures settling { Settling given.now work.old work.new }
+    requires followed { Followed given.now work.old }
+    ensures { Settling given.now work.old work.new }
 {
-    while expand_all(given, work, notes) {}
+    while expand_all(given, work) {}
+}
+
+// Writes 0 from one place up to another: a name for one `fill`, so that its contract says which bytes are as before.
+fn clear_between(work: &mut [u8], from: usize, end: usize)
+    requires { (from ≤ end) × (end ≤ length work.old) }
+    ensures { BytesCleared from end work.old work.new }
+{
+    work[from..end].fill(0);
+}
+
+// Says of no edge that it was followed.
+fn clear_edges(layout: Layout, work: &mut [u8])
+    requires { RowRoom layout.marks layout.names (last_row layout.names) work.old }
+    ensures { EdgesCleared layout.marks layout.names work.old work.new }
+{
+    let columns = layout.names + 1;
+    let from = layout.marks + (layout.names + 2) * columns;
+    clear_between(work, from, from + layout.names * columns);
 }
 
 // Gives byte 1 to the pair asked for and all pairs that it leads to, in bytes that are all 0.
-pub fn reach(given: &Given, work: &mut [u8], notes: &mut [u32], asked: usize)
+pub fn reach(given: &Given, work: &mut [u8], asked: usize)
     requires reach { ToReach given.now work.old }
     requires blank { Blank given.now.layout.marks given.now.layout.names work.old }
     requires asked_le_names { asked ≤ given.now.layout.names }
-    requires notes { given.now.layout.names ≤ length notes.old }
-    ensures long { length notes.new ≡ length notes.old }
-    ensures reached { Reached given.now asked work.old work.new }
+    ensures { Reached given.now asked work.old work.new }
 {
+    clear_edges(given.layout, work);
     note(given.layout, work, asked, asked);
-    settle_all(given, work, notes);
+    settle_all(given, work);
 }

@@ -10,7 +10,7 @@ pub returns-in-Some : goal.returns-in-Some
 returns-in-Some c = name_whole c.requires.write c.in-Some.ensures c.put_row.ensures
 
 pub close-requires-clause-go : goal.close-requires-clause-go
-close-requires-clause-go c = go_start c.requires.write (started c.requires.write.start c.reach.ensures.reached)
+close-requires-clause-go c = go_start c.requires.write (started c.requires.write.start c.reach.ensures)
 
 pub returns : goal.returns
-returns c = whole c.requires.write (started c.requires.write.start c.reach.ensures.reached) c.close.ensures
+returns c = whole c.requires.write (started c.requires.write.start c.reach.ensures) c.close.ensures

@@ -1,7 +1,10 @@
--- `reach::note_row` meets its contract: what is listed are names whose axioms are restrictions, so that their fillers are nodes.
+-- `reach::note_row` meets its contract. Invariant: the pairs of the names before d are noted.
+use Rattle.witness_above.proofs.Reaching.{row_more, row_skip}
+use Rattle.witness_above.proofs.reach.note_row.Goals.{then-leads, else-leads}
 use Rattle.witness_above.proofs.reach.note_row.Goals as goal
 
-pub note-requires-clause-x_le_names : goal.note-requires-clause-x_le_names
-note-requires-clause-x_le_names c =
-    let listed = c.requires.all in
-    (c.requires.x_le_names.0, rw (c.filler.ensures, c.wide-d.ensures.0) (c.args.given.now.second_rowed.filler _ (listed.names _ c.loop-name-test.true) (listed.restrictions _ c.loop-name-test.true)))
+pub loop-d-preserved : goal.loop-d-preserved
+loop-d-preserved c = elim c.if-leads.branch [
+  | then-leads w ↦ rw w.work-is (row_more c.requires.reach c.requires.x_le_names.1 c.loop-d-test.true c.loop-d.invariant c.leads.ensures w.if-leads.true w.filler.ensures w.note.ensures)
+  | else-leads w ↦ rw w.work-is (row_skip c.requires.reach c.requires.x_le_names.1 c.loop-d-test.true c.loop-d.invariant c.leads.ensures w.if-leads.false)
+]

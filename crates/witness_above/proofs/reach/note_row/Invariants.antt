@@ -1,6 +1,6 @@
--- `reach::note_row` meets its contract. Invariant: the pairs of the names before this one are noted.
-use Rattle.witness_above.proofs.Reaching.{RowSoFar}
+-- `reach::note_row` meets its contract. Invariant: the pairs of the names before d are noted.
+use Rattle.witness_above.specs.Reach.{RowNoted}
 use Rattle.witness_above.proofs.reach.note_row.Given as goal
 
-abbrev pub invariant-loop-name : goal.invariant-loop-name
-invariant-loop-name l = RowSoFar l.given l.role l.x l.listed l.name-index l.initial.work l.work
+abbrev pub invariant-loop-d : goal.invariant-loop-d
+invariant-loop-d l = RowNoted l.given l.role l.x l.y l.d l.initial.work l.work

@@ -1,14 +1,21 @@
--- `reach::settle` meets its contract: the byte of the pair is in the memory.
+-- `reach::settle` meets its contract: the byte is in the memory.
 use native.Mathlib.Omega.{arith}
 use mathlib.Core.Path.{refl}
-use Rattle.witness_above.proofs.Reaching.{pair_inside, settled_is}
+use Rattle.row_evaluation.proofs.RowBytes.{place_inside}
+use Rattle.witness_above.proofs.Reaching.{settled_is}
 use Rattle.witness_above.proofs.reach.settle.Goals as goal
 
+pub overflow_mul-work : goal.overflow_mul-work
+overflow_mul-work c = omega (arith, place_inside c.requires.room c.requires.y_le_names)
+
+pub overflow_add-work-2 : goal.overflow_add-work-2
+overflow_add-work-2 c = omega (arith, place_inside c.requires.room c.requires.y_le_names)
+
 pub overflow_add-work-3 : goal.overflow_add-work-3
-overflow_add-work-3 c = let a = c.args in let p = c.requires in omega (arith, pair_inside a.layout.marks a.layout.names a.x a.y p.room p.x_le_names.0 p.x_le_names.1)
+overflow_add-work-3 c = omega (arith, place_inside c.requires.room c.requires.y_le_names)
 
 pub bounds-work-layout : goal.bounds-work-layout
-bounds-work-layout c = let a = c.args in let p = c.requires in pair_inside a.layout.marks a.layout.names a.x a.y p.room p.x_le_names.0 p.x_le_names.1
+bounds-work-layout c = place_inside c.requires.room c.requires.y_le_names
 
 pub returns : goal.returns
-returns c = let p = c.requires in settled_is _ _ _ _ p.room p.x_le_names.0 p.x_le_names.1 _ refl
+returns c = settled_is c.requires.room c.requires.y_le_names _ refl

@@ -3,4 +3,4 @@ use Rattle.witness_above.proofs.Reaching.{sweep_less}
 use Rattle.witness_above.proofs.reach.settle_all.Goals as goal
 
 pub loop-smaller : goal.loop-smaller
-loop-smaller c = sweep_less c.expand_all.ensures.swept c.loop-test.true
+loop-smaller c = sweep_less c.expand_all.ensures c.loop-test.true
