@@ -1,13 +1,18 @@
 -- Grids: rows that gain places one after the other.
 --   same_cell                              a place of a row is of no other row
 --   adds_more, adds_skipped                a turn of a row's loop that sets the place, and one that does not
+--   place_kept, place_lost                 the same by a test of what is not lost
+--   adds_as                                what is gained and what is not, in other words
 --   adds_row                               another row has what it had
 use mathlib.Core.Path.{◌≡◌}
 use mathlib.Core.Logic.{◌⊎◌, inl, inr}
+use mathlib.Core.Bool.{Bool, true, false}
 use Prim.Native.Nat.{ℕ, ◌+◌, ◌<◌}
 use native.Mathlib.Omega.{arith}
 use native.Mathlib.Decide.{ℕ_discrete}
+use Rattle.el.proofs.Tests.{Tells}
 use Rattle.marks.specs.Lines.{Added}
+use Rattle.marks.proofs.Squares.{refuted}
 use Rattle.points.specs.declared.Grid.{Grid}
 use Rattle.points.specs.Grids.{most_nodes, cell, Set, Adds}
 
@@ -42,8 +47,23 @@ module _ {P Q : ℕ → Type 0} {k : ℕ} {w : Grid} where
         by_place y h (yes z) = inl (rw z added.there)
         by_place y h (no z) = elim (adds.all y (omega arith)) [ inl x ↦ inl (added.stays _ x) | inr x ↦ inr x ]
 
+-- a turn of a row's loop that takes what a test does not tell
+module _ {B : ℕ → Type 0} {k e : ℕ} {w u : Grid} (adds : Adds k e (λ y. B y → ⊥) B w u) {z : Bool} (tells : Tells z (B e)) where
+  pub place_kept : z ≡ true → Adds k (e + 1) (λ y. B y → ⊥) B w u
+  place_kept is = adds_skipped adds (tells.sound is)
+
+  pub place_lost : {v : Grid} → z ≡ false → e < most_nodes → Added (cell k e) u.rows v.rows → Adds k (e + 1) (λ y. B y → ⊥) B w v
+  place_lost is small added = adds_more adds (refuted tells is) small added
+
 pub adds_end : {P Q : ℕ → Type 0} {k e f : ℕ} {w v : Grid} → e ≡ f → Adds k e P Q w v → Adds k f P Q w v
 adds_end z adds = rw (← z) adds
+
+pub adds_as : {P Q R S : ℕ → Type 0} {k e : ℕ} {w v : Grid} → ((y : ℕ) → P y → R y) → ((y : ℕ) → Q y → S y) → Adds k e P Q w v → Adds k e R S w v
+adds_as f g adds = record {
+  old = adds.old;
+  all = λ y h. elim (adds.all y h) [ inl z ↦ inl z | inr z ↦ inr (g y z) ];
+  only = λ a b l m. elim (adds.only a b l m) [ inl z ↦ inl z | inr z ↦ inr (z.0, (z.1.0, f b z.1.1)) ];
+}
 
 -- another row
 pub adds_row : {P Q : ℕ → Type 0} {k e : ℕ} {w v : Grid} → Adds k e P Q w v → (a b : ℕ) → (a ≡ k → ⊥) → b < most_nodes → Set v a b → Set w a b

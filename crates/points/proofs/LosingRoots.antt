@@ -1,87 +1,74 @@
--- The roots that a row loses: what its loops keep, and one law for each turn. Whether a root lies below an atom stays as it was while the row of
--- the atom's owner loses roots, since only the row of its child is read.
-use mathlib.Core.Path.{◌≡◌, sym, subst, ◌∙◌}
+-- The roots that a row loses: what its loops keep, and one law for each turn.
+--   reaching_..                               the line of the roots of which an atom reaches, atom by atom
+--   lost_under_name, lost_under_restriction   the roots that do not lie below an atom, by its form
+use mathlib.Core.Path.{◌≡◌, sym, ap, ◌∙◌}
 use mathlib.Core.List.{List}
+use mathlib.Core.Logic.{inl, inr}
 use mathlib.Core.Bool.{Bool, true, false}
 use Prim.Native.Nat.{ℕ, ◌+◌, ◌≤◌, ◌<◌}
 use native.Mathlib.Omega.{arith}
+use native.Mathlib.Decide.{ℕ_discrete}
 use lib.ListN.{length, get_or, take}
 use lib.Seq.{get_or-take, length-take-le}
-use Rattle.std.specs.Prelude.{MatchBool}
-use Rattle.std.specs.List.{HoldsAt, AllWithin}
-use Rattle.std.proofs.lemmas.List.{get_or_default}
-use Rattle.el.proofs.Tests.{Tells, tells_as, always, never}
-use Rattle.marks.specs.Lines.{Added}
+use Rattle.el.proofs.Tests.{Tells}
+use Rattle.marks.specs.Lines.{Has, Empty, Added}
 use Rattle.marks.proofs.Squares.{refuted}
 use Rattle.outline.specs.declared.Atom.{Atom}
-use Rattle.outline.specs.Atoms.{child_number, blank, atom_at}
+use Rattle.outline.specs.declared.Outline.{Outline}
+use Rattle.outline.specs.Atoms.{blank, atom_at, owner_at}
 use Rattle.points.specs.declared.Grid.{Grid}
 use Rattle.points.specs.declared.Classified.{Classified}
-use Rattle.points.specs.declared.Subsumee.{Subsumee}
-use Rattle.points.specs.Grids.{most_roots, most_nodes, cell, Set, Adds}
-use Rattle.points.specs.Above.{ValueInRange}
-use Rattle.points.specs.Roots.{outline_of, AtomReaches, name_reaches, some_reaches, RootReaches, RootBelowAtom, root_below_name, root_below_some, AtomsInRange, OfAtom}
-use Rattle.points.proofs.Grids.{adds_more, adds_skipped, adds_row}
+use Rattle.points.specs.declared.Restriction.{Restriction}
+use Rattle.points.specs.Grids.{root_bytes, Adds}
+use Rattle.points.specs.Roots.{AtomReaches, RootReaches, Reaching, RestrictionLost}
+use Rattle.points.proofs.Grids.{adds_as}
 
--- an atom of the root k that does; what `any` is asked and tells, over the atoms of an outline
-abbrev pub Owned : Classified → Grid → Grid → ℕ → ℕ → ℕ → Atom → Type 0
-Owned g ln l k r j e = (e.owner ≡ k) × AtomReaches g e ln l r j
+-- an atom of a loop over the atoms that are written
+pub same_atom : (o : Outline) {s : List Atom} {i : ℕ} → o.extent.atoms ≤ length o.atoms → s ≡ take o.extent.atoms o.atoms → i < length s
+    → (i < o.extent.atoms) × (get_or s i blank ≡ atom_at o.atoms i)
+same_atom o {s} {i} inside is h =
+    let there : i < o.extent.atoms = omega (arith, h, ap length is, length-take-le o.extent.atoms o.atoms inside) in
+    (there, rw is (get_or-take _ _ i blank there))
 
-module _ (c : Subsumee) (inside : (outline_of c).extent.atoms ≤ length (outline_of c).atoms) where
-  abbrev atoms : List Atom
-  atoms = take (outline_of c).extent.atoms (outline_of c).atoms
+module _ {g : Classified} {o : Outline} {ln l : Grid} {r j : ℕ} where
+  pub reaching_none : {v : List ℕ} → root_bytes ≤ length v → Empty v → Reaching g o 0 ln l r j v
+  reaching_none long empty = record { long = long; sound = λ k h. absurd (empty.none k h); complete = λ i h m. absurd (omega arith) }
 
-  long : length atoms ≡ (outline_of c).extent.atoms
-  long = length-take-le _ _ inside
+  module _ {e : ℕ} {v : List ℕ} (before : Reaching g o e ln l r j v) {x : Atom} (is : x ≡ atom_at o.atoms e) where
+    own : x.owner ≡ owner_at o.atoms e
+    own = ap (λ (a : Atom). a.owner) is
 
-  pub each_in_range : {n i : ℕ} {x : Atom} → AtomsInRange n (outline_of c) → i < length atoms → x ≡ get_or atoms i x → ValueInRange n x
-  each_in_range {n} {i} {x} range h e =
-      let there : i < (outline_of c).extent.atoms = omega (arith, h, long) in
-      let same : x ≡ atom_at (outline_of c).atoms i = e ∙ get_or_default atoms i x blank h ∙ get_or-take _ _ i blank there in
-      rw same (range.each i there)
+    passed : (AtomReaches g x ln l r j → Has v x.owner) → Reaching g o (e + 1) ln l r j v
+    passed f = record { long = before.long; sound = before.sound; complete = λ i h m. by_place i h m (ℕ_discrete i e) }
+      where
+        by_place : (i : ℕ) → i < e + 1 → AtomReaches g (atom_at o.atoms i) ln l r j → Dec (i ≡ e) → Has v (owner_at o.atoms i)
+        by_place i h m (yes z) = rw (z, ← own) (f (rw (z, ← is) at m))
+        by_place i h m (no z) = before.complete i (omega arith) m
 
-  module _ (g : Classified) (ln l : Grid) (k r j : ℕ) where
-    pub some_told : (b : Bool) → MatchBool b ((i : ℕ) × (i < length atoms) × HoldsAt (Owned g ln l k r j) atoms i) (AllWithin (λ e. Owned g ln l k r j e → ⊥) atoms 0 (length atoms))
-        → Tells b (RootReaches g c ln l k r j)
-    some_told true h =
-        let there : h.0 < (outline_of c).extent.atoms = omega (arith, h.1, long) in
-        let holds : Owned g ln l k r j (atom_at (outline_of c).atoms h.0) = subst (Owned g ln l k r j) (get_or-take _ _ h.0 blank there) (h.2 blank) in
-        always (record { by = h.0; is_atom = there; owner = holds.0; reaches = holds.1 })
-    some_told false h = never (λ z.
-        let same = get_or-take _ _ z.by blank z.is_atom in
-        h z.by blank (omega arith) (omega (arith, z.is_atom, long)) (subst (Owned g ln l k r j) (sym same) (z.owner, z.reaches)))
+    pub reaching_had : {z : Bool} → Tells z (Has v x.owner) → z ≡ true → Reaching g o (e + 1) ln l r j v
+    reaching_had tells z = passed (λ m. tells.sound z)
 
--- losing roots changes the row of the atom's owner only, and reads that of its child
-same_reaching : {g : Classified} {c : Atom} {ln l v : Grid} {r j : ℕ} → child_number c < most_roots → ((z : ℕ) → z < most_nodes → Set v j z → Set l j z)
-    → AtomReaches g c ln l r j → AtomReaches g c ln v r j
-same_reaching h f (name_reaches k m) = name_reaches k m
-same_reaching h f (some_reaches k e m) = some_reaches k e (λ z. m (f _ (omega arith) z))
+    pub reaching_not : {z : Bool} → Tells z (AtomReaches g x ln l r j) → z ≡ false → Reaching g o (e + 1) ln l r j v
+    reaching_not tells z = passed (λ m. absurd (refuted tells z m))
 
-module _ {g : Classified} {c : Subsumee} {b : Atom} {ln : Grid} (given : OfAtom g c b) {l : Grid} where
-  module _ {P Q : ℕ → Type 0} {e : ℕ} {v : Grid} (adds : Adds b.owner e P Q l v) where
-    as_before : {k : ℕ} → RootBelowAtom g c b ln v k → RootBelowAtom g c b ln l k
-    as_before (root_below_name z m) = root_below_name z m
-    as_before (root_below_some y m) = root_below_some y
-        (record { by = m.by; is_atom = m.is_atom; owner = m.owner; reaches = same_reaching (given.from.each m.by m.is_atom).child (λ z h k. adds.old _ z k) m.reaches })
+    pub reaching_more : {u : List ℕ} {z : Bool} → e < o.extent.atoms → Tells z (AtomReaches g x ln l r j) → z ≡ true → Added x.owner v u → Reaching g o (e + 1) ln l r j u
+    reaching_more {u} inside tells z added = record {
+      long = omega (arith, before.long, added.long);
+      sound = λ b h. elim (added.only b h) [
+        | inl y ↦ before.sound b y
+        | inr y ↦ record { by = e; is_atom = inside; owner = sym own ∙ sym y; reaches = rw (← is) (tells.sound z) }
+      ];
+      complete = λ i h m. by_place i h m (ℕ_discrete i e);
+    }
+      where
+        by_place : (i : ℕ) → i < e + 1 → AtomReaches g (atom_at o.atoms i) ln l r j → Dec (i ≡ e) → Has u (owner_at o.atoms i)
+        by_place i h m (yes y) = rw (y, ← own) added.there
+        by_place i h m (no y) = added.stays _ (before.complete i (omega arith) m)
 
-    as_after : {k : ℕ} → RootBelowAtom g c b ln l k → RootBelowAtom g c b ln v k
-    as_after (root_below_name z m) = root_below_name z m
-    as_after (root_below_some y m) = root_below_some y
-        (record {
-          by = m.by;
-          is_atom = m.is_atom;
-          owner = m.owner;
-          reaches = same_reaching (given.from.each m.by m.is_atom).child (λ z h. adds_row adds _ z (λ same. omega (arith, given.atom.later y)) h) m.reaches;
-        })
-
-    tells_before : {r : Bool} {k : ℕ} → Tells r (RootBelowAtom g c b ln v k) → Tells r (RootBelowAtom g c b ln l k)
-    tells_before tells = tells_as as_before as_after tells
-
-  module _ {e : ℕ} {v : Grid} (adds : Adds b.owner e (λ k. RootBelowAtom g c b ln l k → ⊥) (RootBelowAtom g c b ln l) l v) {r : Bool}
-      (tells : Tells r (RootBelowAtom g c b ln v e)) where
-    pub root_lost : {u : Grid} (row : ℕ) → row ≡ b.owner → e < (outline_of c).extent.roots → r ≡ false → Added (cell row e) v.rows u.rows
-        → Adds b.owner (e + 1) (λ k. RootBelowAtom g c b ln l k → ⊥) (RootBelowAtom g c b ln l) l u
-    root_lost row is h z added = adds_more adds (refuted (tells_before adds tells) z) (omega (arith, given.from.few)) (rw is at added)
-
-    pub root_kept : r ≡ true → Adds b.owner (e + 1) (λ k. RootBelowAtom g c b ln l k → ⊥) (RootBelowAtom g c b ln l) l v
-    root_kept z = adds_skipped adds ((tells_before adds tells).sound z)
+-- the line of all atoms, and the row that lost what is outside
+pub lost_outside : {g : Classified} {o : Outline} {x : Restriction} {row : ℕ} {l m : Grid} {v : List ℕ} → Reaching g o o.extent.atoms x.lost.now l x.role x.root v
+    → Adds row o.extent.roots (λ k. Has v k → ⊥) (Has v) l m → RestrictionLost g o row x l m
+lost_outside {g} {o} {x} {row} {l} {m} {v} reaching adds = record { adds = adds_as (λ k n h. n (back k h)) (λ k h. reaching.sound k h) adds }
+  where
+    back : (k : ℕ) → RootReaches g o x.lost.now l k x.role x.root → Has v k
+    back k h = rw h.owner at (reaching.complete h.by h.is_atom h.reaches)

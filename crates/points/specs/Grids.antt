@@ -1,6 +1,7 @@
 -- Grids: rows of marks, a row for each root that a concept can have and in it a place for each node that there can be. A grid is one line of
 -- columns, row after row.
 --   most_roots, most_nodes   the rows of a grid, and the places of a row
+--   root_bytes             the bytes of a line of all roots that a concept can have
 --   cell k y               the column of the line that is the place y of row k
 --   Set w k y              the place y of row k is marked;  Blank w: none is
 --   Adds k e P Q w v       of the places below e, row k gained just those of which P holds; Q holds of those that it does not have
@@ -13,6 +14,9 @@ most_roots = 128
 
 abbrev pub most_nodes : ℕ
 most_nodes = 1024
+
+abbrev pub root_bytes : ℕ
+root_bytes = 16
 
 unfoldable pub cell : ℕ → ℕ → ℕ
 cell k y = most_nodes * k + y

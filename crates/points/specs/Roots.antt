@@ -1,17 +1,22 @@
 -- The roots of a concept C that lie below an atom of a concept D, by what the rows of the atom's child have lost. The release and the square of the
 -- inclusions between its nodes are g; c is C, its outline with the rows above its roots.
 --   AtomReaches g e ln l r j        the atom e of C lies below ∃r over root j of D: as a name, or by a root that row j of l has not lost
---   RootReaches g c ln l k r j      an atom of root k does
+--   RootReaches g o ln l k r j      an atom of root k does, by the outline o of C
+--   Reaching g o e ln l r j v       the line v has just roots of which an atom does, and all those of which one of the first e atoms does
 --   RootBelowAtom g c b ln l k      root k of C lies below the atom b of D
+--   NodeLost g c k y l v            row k lost the roots that do not lie below the node y
+--   RestrictionLost g o k x l v     row k lost the roots that do not lie below the ∃ x
 --   RootsLost g c b ln l v          the row of b's owner lost the roots that do not lie below b: the grid l became v
-use Rattle.std.specs.Prelude.{◌≡◌, ℕ, ◌≤◌, ◌<◌, length}
+use Rattle.std.specs.Prelude.{◌≡◌, List, ℕ, ◌≤◌, ◌<◌, length}
+use Rattle.marks.specs.Lines.{Has}
 use Rattle.outline.specs.declared.Atom.{Atom}
 use Rattle.outline.specs.declared.Outline.{Outline}
 use Rattle.outline.specs.Atoms.{child_number, value_of, atom_at, owner_at}
 use Rattle.points.specs.declared.Grid.{Grid}
 use Rattle.points.specs.declared.Classified.{Classified}
 use Rattle.points.specs.declared.Subsumee.{Subsumee}
-use Rattle.points.specs.Grids.{most_roots, Set, Adds}
+use Rattle.points.specs.declared.Restriction.{Restriction}
+use Rattle.points.specs.Grids.{most_roots, root_bytes, Set, Adds}
 use Rattle.points.specs.Above.{Ranges, RootBelow, ValueInRange, InRange}
 use Rattle.points.specs.Nodes.{Inclusive, NodeReaches}
 
@@ -22,15 +27,20 @@ pub data AtomReaches (g : Classified) (e : Atom) (ln l : Grid) (r j : ℕ) : Typ
   name_reaches : child_number e ≡ 0 → NodeReaches g ln (value_of e) r j → AtomReaches g e ln l r j
   some_reaches : 0 < child_number e → value_of e ≡ r → (Set l j (child_number e) → ⊥) → AtomReaches g e ln l r j
 
-pub record RootReaches (g : Classified) (c : Subsumee) (ln l : Grid) (k r j : ℕ) : Type 0 where
+pub record RootReaches (g : Classified) (o : Outline) (ln l : Grid) (k r j : ℕ) : Type 0 where
   pub by : ℕ
-  pub is_atom : by < (outline_of c).extent.atoms
-  pub owner : owner_at (outline_of c).atoms by ≡ k
-  pub reaches : AtomReaches g (atom_at (outline_of c).atoms by) ln l r j
+  pub is_atom : by < o.extent.atoms
+  pub owner : owner_at o.atoms by ≡ k
+  pub reaches : AtomReaches g (atom_at o.atoms by) ln l r j
+
+pub record Reaching (g : Classified) (o : Outline) (e : ℕ) (ln l : Grid) (r j : ℕ) (v : List ℕ) : Type 0 where
+  pub long : root_bytes ≤ length v
+  pub sound : (k : ℕ) → Has v k → RootReaches g o ln l k r j
+  pub complete : (i : ℕ) → i < e → AtomReaches g (atom_at o.atoms i) ln l r j → Has v (owner_at o.atoms i)
 
 pub data RootBelowAtom (g : Classified) (c : Subsumee) (b : Atom) (ln l : Grid) (k : ℕ) : Type 0 where
   root_below_name : child_number b ≡ 0 → RootBelow g c.above.now k (value_of b) → RootBelowAtom g c b ln l k
-  root_below_some : 0 < child_number b → RootReaches g c ln l k (value_of b) (child_number b) → RootBelowAtom g c b ln l k
+  root_below_some : 0 < child_number b → RootReaches g (outline_of c) ln l k (value_of b) (child_number b) → RootBelowAtom g c b ln l k
 
 -- what the functions ask
 pub record FromRoot (g : Classified) (e : Atom) (j : ℕ) : Type 0 where
@@ -42,18 +52,32 @@ pub record FromRoot (g : Classified) (e : Atom) (j : ℕ) : Type 0 where
 pub record AtomsInRange (n : ℕ) (o : Outline) : Type 0 where
   pub inside : o.extent.atoms ≤ length o.atoms
   pub few : o.extent.roots ≤ most_roots
+  pub owner : (i : ℕ) → i < o.extent.atoms → owner_at o.atoms i < most_roots
   pub each : (i : ℕ) → i < o.extent.atoms → ValueInRange n (atom_at o.atoms i)
 
-pub record FromRoots (g : Classified) (c : Subsumee) (j : ℕ) : Type 0 where
+pub record FromRoots (g : Classified) (o : Outline) (j : ℕ) : Type 0 where
   pub inclusive : Inclusive g
-  pub atoms : AtomsInRange g.square.names (outline_of c)
+  pub atoms : AtomsInRange g.square.names o
   pub row : j < most_roots
+
+-- a node y and the row k of the roots that are lost
+pub record OfNode (g : Classified) (c : Subsumee) (y k : ℕ) : Type 0 where
+  pub ranges : Ranges g
+  pub few : (outline_of c).extent.roots ≤ most_roots
+  pub node : y ≤ g.square.names
+  pub row : k < most_roots
 
 pub record OfAtom (g : Classified) (c : Subsumee) (b : Atom) : Type 0 where
   pub ranges : Ranges g
   pub inclusive : Inclusive g
   pub from : AtomsInRange g.square.names (outline_of c)
   pub atom : InRange g.square.names b
+
+pub record NodeLost (g : Classified) (c : Subsumee) (row y : ℕ) (l v : Grid) : Type 0 where
+  pub adds : Adds row (outline_of c).extent.roots (λ k. RootBelow g c.above.now k y → ⊥) (λ k. RootBelow g c.above.now k y) l v
+
+pub record RestrictionLost (g : Classified) (o : Outline) (row : ℕ) (x : Restriction) (l v : Grid) : Type 0 where
+  pub adds : Adds row o.extent.roots (λ k. RootReaches g o x.lost.now l k x.role x.root → ⊥) (λ k. RootReaches g o x.lost.now l k x.role x.root) l v
 
 pub record RootsLost (g : Classified) (c : Subsumee) (b : Atom) (ln l v : Grid) : Type 0 where
   pub adds : Adds b.owner (outline_of c).extent.roots (λ k. RootBelowAtom g c b ln l k → ⊥) (RootBelowAtom g c b ln l) l v

@@ -2,10 +2,10 @@
 // of another concept C.
 #![tactic(auto)]
 
-ghost use Rattle.std.specs.Prelude.{◌≡◌, Some, ◌<◌};
+ghost use Rattle.std.specs.Prelude.{◌≡◌, Some, ◌≤◌, ◌<◌, length};
 ghost use Rattle.el.proofs.Tests.{Tells};
-ghost use Rattle.marks.specs.Lines.{Added};
-ghost use Rattle.points.specs.Grids.{most_roots, most_nodes, cell, Set};
+ghost use Rattle.marks.specs.Lines.{Has, Added};
+ghost use Rattle.points.specs.Grids.{most_roots, most_nodes, root_bytes, cell, Set, Adds};
 ghost use Rattle.outline.specs.declared.Conjunct.TheVariants as conjunct;
 ghost use Rattle.points.specs.Nodes.{RestrictionOf};
 
@@ -19,6 +19,9 @@ pub mod roots;
 
 // The places of a row of a grid: as many as there can be nodes.
 const NODES: usize = 1024;
+
+// The bytes of a line of all roots that a concept can have.
+const ROOT_BYTES: usize = 16;
 
 // The bytes of a grid of 128 rows: a bit a place.
 const AREA: usize = 16384;
@@ -45,6 +48,19 @@ impl Grid {
         ensures { Added (cell row place) self.old.rows self.new.rows }
     {
         line::add(&mut self.rows, NODES * row + place);
+    }
+
+    // Adds to a row the places of the first `end` that a line does not have.
+    fn add_outside(&mut self, line: &[u8], row: usize, end: usize)
+        requires row { row < most_roots }
+        requires line { (root_bytes ≤ length line.now) × (end ≤ most_roots) }
+        ensures { Adds row end (λ place. Has line.now place → ⊥) (Has line.now) self.old self.new }
+    {
+        for place in 0..end {
+            if !line::has(line, place) {
+                self.add(row, place);
+            }
+        }
     }
 }
 

@@ -30,7 +30,7 @@ impl Classified<'_> {
 
     // Adds to the line the names that do not serve: no node lies below ∃ of the role over the root by one of them. Names are numbers here, which no
     // slice holds.
-    fn find_idle(&self, lost: &Grid, idle: &mut [u8], role: usize, root: usize)
+    pub fn find_idle(&self, lost: &Grid, idle: &mut [u8], role: usize, root: usize)
         requires ranged { Ranged self.now }
         requires spans { Spans self.now.square.names idle.old × Empty idle.old × (root < most_roots) }
         ensures { Idle self.now lost.now role root idle.new }
@@ -43,7 +43,7 @@ impl Classified<'_> {
     }
 
     // The same for an atom, where it is an ∃.
-    pub fn find_idle_of(&self, atom: Atom, lost: &Grid, idle: &mut [u8])
+    fn find_idle_of(&self, atom: Atom, lost: &Grid, idle: &mut [u8])
         requires ranged { Ranged self.now }
         requires spans { Spans self.now.square.names idle.old × Empty idle.old }
         requires child_lt_most_roots { child_number atom < most_roots }

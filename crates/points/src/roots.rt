@@ -1,14 +1,17 @@
 // The roots of a concept C that do not lie below an atom of a concept D: its row loses them. The steps are those of nodes, but a root has an outline
 // to ask and a node a row of the square: one trait of both would have as many methods as these functions, and a closure that asks would hold the grid
 // that the loop writes.
-ghost use Rattle.std.specs.Prelude.{◌<◌};
+ghost use Rattle.std.specs.Prelude.{◌≤◌, ◌<◌, length};
 ghost use Rattle.el.proofs.Tests.{Tells};
-ghost use Rattle.points.specs.Nodes.{IdleBy, IdleFor};
-ghost use Rattle.points.specs.Roots.{AtomReaches, RootReaches, RootBelowAtom, FromRoot, FromRoots, OfAtom, RootsLost};
+ghost use Rattle.marks.specs.Lines.{Empty};
+ghost use Rattle.points.specs.Grids.{most_roots, root_bytes};
+ghost use Rattle.points.specs.Nodes.{IdleFor};
+ghost use Rattle.points.specs.Roots.{AtomReaches, Reaching, FromRoot, FromRoots, OfNode, OfAtom, NodeLost, RestrictionLost, RootsLost};
 
-use crate::{Classified, Grid, Restriction, Subsumee, Subsumer};
+use crate::{Classified, Grid, ROOT_BYTES, Restriction, Subsumee};
+use marks::line;
 use marks::line::Line;
-use outline::{Atom, Conjunct};
+use outline::{Atom, Conjunct, Outline};
 
 impl Classified<'_> {
     // Whether an atom of C lies below an ∃ of D: a name that does, or an ∃ of the role over a root that the row of D's root has not lost. `lost` is the
@@ -27,65 +30,80 @@ impl Classified<'_> {
         }
     }
 
-    // Whether some atom of a root does.
-    fn root_reaches(
+    // Adds to a line the roots of which an atom does. Each atom is looked at once, and not once a root.
+    fn find_reaching(
         &self,
-        subsumee: &Subsumee,
+        outline: &Outline,
         restriction: &Restriction,
         lost: &Grid,
-        root: usize,
-    ) -> bool
-        requires from_roots { FromRoots self.now subsumee.now restriction.now.root }
+        reaching: &mut [u8],
+    )
+        requires from_roots { FromRoots self.now outline.now restriction.now.root }
         requires idle { IdleFor self.now restriction.now }
-        ensures { Tells result (RootReaches self.now subsumee.now restriction.now.lost.now lost.now root restriction.now.role restriction.now.root) }
+        requires reaching { (root_bytes ≤ length reaching.old) × Empty reaching.old }
+        ensures { Reaching self.now outline.now outline.now.extent.atoms restriction.now.lost.now lost.now restriction.now.role restriction.now.root reaching.new }
     {
-        subsumee.outline.atoms().iter().any(|atom| atom.owner() == root
-            && self.atom_reaches(*atom, restriction, lost))
-    }
-
-    // Whether a root of C lies below an atom of D.
-    fn root_below(&self, subsumee: &Subsumee, subsumer: &Subsumer, lost: &Grid, root: usize) -> bool
-        requires of_atom { OfAtom self.now subsumee.now subsumer.now.atom }
-        requires root_lt_roots { root < subsumee.now.outline.now.extent.roots }
-        requires idle { IdleBy self.now subsumer.now }
-        ensures { Tells result (RootBelowAtom self.now subsumee.now subsumer.now.atom subsumer.now.lost.now lost.now root) }
-    {
-        match subsumer.atom.conjunct {
-            Conjunct::Name(name) => self.is_above(subsumee.above, root, usize::from(name)),
-            Conjunct::Restriction { role, filler } => {
-                let restriction = subsumer.restriction(role, filler);
-                self.root_reaches(subsumee, &restriction, lost, root)
+        for atom in outline.atoms() {
+            let owner = atom.owner();
+            if line::has(reaching, owner) {
+                continue;
+            }
+            if self.atom_reaches(*atom, restriction, lost) {
+                line::add(reaching, owner);
             }
         }
     }
 
-    // Takes the roots of C that do not lie below an atom of D from the row of its owner.
-    fn lose_roots_but(&self, subsumee: &Subsumee, subsumer: &Subsumer, lost: &mut Grid)
-        requires of_atom { OfAtom self.now subsumee.now subsumer.now.atom }
-        requires idle { IdleBy self.now subsumer.now }
-        ensures { RootsLost self.now subsumee.now subsumer.now.atom subsumer.now.lost.now lost.old lost.new }
+    // Takes the roots of C that do not lie below a node from a row.
+    fn lose_not_below(&self, subsumee: &Subsumee, node: usize, lost: &mut Grid, row: usize)
+        requires { OfNode self.now subsumee.now node row }
+        ensures { NodeLost self.now subsumee.now row node lost.old lost.new }
     {
-        let row = subsumer.atom.owner();
         for root in 0..subsumee.outline.extent.roots {
-            if !self.root_below(subsumee, subsumer, lost, root) {
+            if !self.is_above(subsumee.above, root, node) {
                 lost.add(row, root);
             }
         }
     }
 
-    // The same, with the line of names by which none does found once for all roots.
+    // Takes the roots of C that do not lie below an ∃ of D from a row.
+    fn lose_not_reaching(
+        &self,
+        outline: &Outline,
+        restriction: &Restriction,
+        lost: &mut Grid,
+        row: usize,
+    )
+        requires from_roots { FromRoots self.now outline.now restriction.now.root }
+        requires idle { IdleFor self.now restriction.now }
+        requires row { row < most_roots }
+        ensures { RestrictionLost self.now outline.now row restriction.now lost.old lost.new }
+    {
+        let mut reaching = [0; ROOT_BYTES];
+        self.find_reaching(outline, restriction, lost, &mut reaching);
+        lost.add_outside(&reaching, row, outline.extent.roots);
+    }
+
+    // Takes the roots of C that do not lie below an atom of D from the row of its owner.
     pub fn lose_roots(&self, subsumee: &Subsumee, atom: Atom, nodes: &Grid, lost: &mut Grid)
         requires { OfAtom self.now subsumee.now atom }
         ensures { RootsLost self.now subsumee.now atom nodes.now lost.old lost.new }
     {
-        // as long as any line, since there is no heap
-        let mut idle = [0; Line::LENGTH];
-        self.find_idle_of(atom, nodes, &mut idle);
-        let subsumer = Subsumer {
-            atom,
-            lost: nodes,
-            idle: &idle,
-        };
-        self.lose_roots_but(subsumee, &subsumer, lost);
+        let row = atom.owner();
+        match atom.conjunct {
+            Conjunct::Name(name) => self.lose_not_below(subsumee, usize::from(name), lost, row),
+            Conjunct::Restriction { role, filler } => {
+                // as long as any line, since there is no heap
+                let mut idle = [0; Line::LENGTH];
+                self.find_idle(nodes, &mut idle, usize::from(role), usize::from(filler));
+                let restriction = Restriction {
+                    role: usize::from(role),
+                    root: usize::from(filler),
+                    lost: nodes,
+                    idle: &idle,
+                };
+                self.lose_not_reaching(subsumee.outline, &restriction, lost, row);
+            }
+        }
     }
 }

@@ -146,10 +146,10 @@ module _ {g : Classified} (world : World g) (c : Subsumee) (shape : Shape g.squa
           (rw (some_atom {r = value_at (atoms_in c) i} {d = root_point (outline_of c) (child_at (atoms_in c) i)} (child_at (atoms_in c) i) z) at p) in
           some_reaches z parts.0 (λ m. roots.lost (child_at (atoms_in c) i) (shape.child i h) m parts.1)
 
-  root_reaches_sound : {k role : ℕ} → RootReaches g c ln l k role j → Derives (axioms_in g) (root_point (outline_of c) k) (some role d)
+  root_reaches_sound : {k role : ℕ} → RootReaches g (outline_of c) ln l k role j → Derives (axioms_in g) (root_point (outline_of c) k) (some role d)
   root_reaches_sound reaches = rw reaches.owner at (below_own_atom shape {al = axioms_in g} reaches.by reaches.is_atom) ▹ atom_reaches_sound reaches.is_atom reaches.reaches
 
-  root_reaches_complete : (k role : ℕ) → Derives (axioms_in g) (root_point (outline_of c) k) (some role d) → RootReaches g c ln l k role j
+  root_reaches_complete : (k role : ℕ) → Derives (axioms_in g) (root_point (outline_of c) k) (some role d) → RootReaches g (outline_of c) ln l k role j
   root_reaches_complete k role p =
       let found = some_atom_below (outline_of c).atoms (terminology world) 0 (outline_of c).extent.atoms k role d p in
       let z : 0 + (outline_of c).extent.atoms ≡ (outline_of c).extent.atoms = omega arith in

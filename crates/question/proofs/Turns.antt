@@ -62,7 +62,12 @@ module _ {g : Classified} (world : World g) where
     root_atom from = record {
       ranges = ranges;
       inclusive = inclusive;
-      from = record { inside = from.room; few = from.few; each = λ j m. record { child = omega (arith, from.child j m, from.few); named = from.named j m; rooted = from.rooted j m } };
+      from = record {
+        inside = from.room;
+        few = from.few;
+        owner = λ j m. omega (arith, from.owner j m, from.few);
+        each = λ j m. record { child = omega (arith, from.child j m, from.few); named = from.named j m; rooted = from.rooted j m };
+      };
       atom = in_range;
     }
 
