@@ -40,7 +40,7 @@ same_reach inclusive f reaches =
       };
     }
 
-module _ {g : Classified} {b : Atom} (given : OfAtom g b) {P Q : ℕ → Type 0} {l : Grid} {e : ℕ} {v : Grid} (adds : Adds b.owner e P Q l v) where
+module _ {g : Classified} {b : Atom} (given : OfAtom g b) {P Q : ℕ → Type 0} {l : Grid} {e : ℕ} {v : Grid} (adds : Adds most_nodes b.owner e P Q l.rows v.rows) where
   as_before : {x : ℕ} → NodeBelow g b v x → NodeBelow g b l x
   as_before (below_name c m) = below_name c m
   as_before (below_some c m) = below_some c (same_reach given.inclusive (λ z h k. adds.old _ z k) m)
@@ -53,10 +53,10 @@ module _ {g : Classified} {b : Atom} (given : OfAtom g b) {P Q : ℕ → Type 0}
   tells_before tells = tells_as as_before as_after tells
 
 module _ {g : Classified} {b : Atom} (given : OfAtom g b) {l : Grid} {e : ℕ} {v : Grid}
-    (adds : Adds b.owner e (λ x. NodeBelow g b l x → ⊥) (NodeBelow g b l) l v) {r : Bool} (tells : Tells r (NodeBelow g b v e)) where
-  pub node_lost : {u : Grid} (row : ℕ) → row ≡ b.owner → e ≤ g.square.names → r ≡ false → Added (cell row e) v.rows u.rows
-      → Adds b.owner (e + 1) (λ x. NodeBelow g b l x → ⊥) (NodeBelow g b l) l u
+    (adds : Adds most_nodes b.owner e (λ x. NodeBelow g b l x → ⊥) (NodeBelow g b l) l.rows v.rows) {r : Bool} (tells : Tells r (NodeBelow g b v e)) where
+  pub node_lost : {u : Grid} (row : ℕ) → row ≡ b.owner → e ≤ g.square.names → r ≡ false → Added (cell most_nodes row e) v.rows u.rows
+      → Adds most_nodes b.owner (e + 1) (λ x. NodeBelow g b l x → ⊥) (NodeBelow g b l) l.rows u.rows
   node_lost row is h z added = adds_more adds (refuted (tells_before given adds tells) z) (omega (arith, given.inclusive.few)) (rw is at added)
 
-  pub node_kept : r ≡ true → Adds b.owner (e + 1) (λ x. NodeBelow g b l x → ⊥) (NodeBelow g b l) l v
+  pub node_kept : r ≡ true → Adds most_nodes b.owner (e + 1) (λ x. NodeBelow g b l x → ⊥) (NodeBelow g b l) l.rows v.rows
   node_kept z = adds_skipped adds ((tells_before given adds tells).sound z)

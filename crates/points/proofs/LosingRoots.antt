@@ -17,9 +17,10 @@ use Rattle.outline.specs.declared.Atom.{Atom}
 use Rattle.outline.specs.declared.Outline.{Outline}
 use Rattle.outline.specs.Atoms.{blank, atom_at, owner_at}
 use Rattle.points.specs.declared.Grid.{Grid}
+use Rattle.points.specs.declared.Pairs.{Pairs}
 use Rattle.points.specs.declared.Classified.{Classified}
 use Rattle.points.specs.declared.Restriction.{Restriction}
-use Rattle.points.specs.Grids.{root_bytes, Adds}
+use Rattle.points.specs.Grids.{most_roots, root_bytes, Adds}
 use Rattle.points.specs.Roots.{AtomReaches, RootReaches, Reaching, RestrictionLost}
 use Rattle.points.proofs.Grids.{adds_as}
 
@@ -30,7 +31,7 @@ same_atom o {s} {i} inside is h =
     let there : i < o.extent.atoms = omega (arith, h, ap length is, length-take-le o.extent.atoms o.atoms inside) in
     (there, rw is (get_or-take _ _ i blank there))
 
-module _ {g : Classified} {o : Outline} {ln l : Grid} {r j : ℕ} where
+module _ {g : Classified} {o : Outline} {ln : Grid} {l : Pairs} {r j : ℕ} where
   pub reaching_none : {v : List ℕ} → root_bytes ≤ length v → Empty v → Reaching g o 0 ln l r j v
   reaching_none long empty = record { long = long; sound = λ k h. absurd (empty.none k h); complete = λ i h m. absurd (omega arith) }
 
@@ -66,8 +67,8 @@ module _ {g : Classified} {o : Outline} {ln l : Grid} {r j : ℕ} where
         by_place i h m (no y) = added.stays _ (before.complete i (omega arith) m)
 
 -- the line of all atoms, and the row that lost what is outside
-pub lost_outside : {g : Classified} {o : Outline} {x : Restriction} {row : ℕ} {l m : Grid} {v : List ℕ} → Reaching g o o.extent.atoms x.lost.now l x.role x.root v
-    → Adds row o.extent.roots (λ k. Has v k → ⊥) (Has v) l m → RestrictionLost g o row x l m
+pub lost_outside : {g : Classified} {o : Outline} {x : Restriction} {row : ℕ} {l m : Pairs} {v : List ℕ} → Reaching g o o.extent.atoms x.lost.now l x.role x.root v
+    → Adds most_roots row o.extent.roots (λ k. Has v k → ⊥) (Has v) l.rows m.rows → RestrictionLost g o row x l m
 lost_outside {g} {o} {x} {row} {l} {m} {v} reaching adds = record { adds = adds_as (λ k n h. n (back k h)) (λ k h. reaching.sound k h) adds }
   where
     back : (k : ℕ) → RootReaches g o x.lost.now l k x.role x.root → Has v k

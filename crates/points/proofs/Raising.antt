@@ -28,7 +28,7 @@ same_row {y = y} ranges f (parts_above h e p) = parts_above h e (record { each =
 same_row ranges f (name_above h e m) = name_above h e (f _ (omega (arith, ranges.few)) m)
 
 -- raising an atom changes the row of its owner only, and reads that of its child
-module _ {g : Classified} {c : Atom} (given : OfAtom g c) {a : Grid} {P Q : ℕ → Type 0} {e : ℕ} {b : Grid} (adds : Adds c.owner e P Q a b) where
+module _ {g : Classified} {c : Atom} (given : OfAtom g c) {a : Grid} {P Q : ℕ → Type 0} {e : ℕ} {b : Grid} (adds : Adds most_nodes c.owner e P Q a.rows b.rows) where
   as_before : {y : ℕ} → AtomBelow g c b y → AtomBelow g c a y
   as_before (name_below z k m) = name_below z k m
   as_before (some_below z k r m) = some_below z k r (same_row given.ranges (λ x h. adds_row adds _ x (λ same. omega (arith, given.atom.later k)) h) m)
@@ -42,10 +42,10 @@ module _ {g : Classified} {c : Atom} (given : OfAtom g c) {a : Grid} {P Q : ℕ 
 
 -- the turns
 module _ {g : Classified} {c : Atom} (given : OfAtom g c) {a : Grid} {e : ℕ} {b : Grid}
-    (adds : Adds c.owner e (AtomBelow g c a) (λ y. AtomBelow g c a y → ⊥) a b) {r : Bool} (tells : Tells r (AtomBelow g c b e)) where
-  pub raise_sets : {v : Grid} (row : ℕ) → row ≡ c.owner → e < g.square.names → r ≡ true → Added (cell row e) b.rows v.rows
-      → Adds c.owner (e + 1) (AtomBelow g c a) (λ y. AtomBelow g c a y → ⊥) a v
+    (adds : Adds most_nodes c.owner e (AtomBelow g c a) (λ y. AtomBelow g c a y → ⊥) a.rows b.rows) {r : Bool} (tells : Tells r (AtomBelow g c b e)) where
+  pub raise_sets : {v : Grid} (row : ℕ) → row ≡ c.owner → e < g.square.names → r ≡ true → Added (cell most_nodes row e) b.rows v.rows
+      → Adds most_nodes c.owner (e + 1) (AtomBelow g c a) (λ y. AtomBelow g c a y → ⊥) a.rows v.rows
   raise_sets row is h z added = adds_more adds ((tells_before given adds tells).sound z) (omega (arith, given.ranges.few)) (rw is at added)
 
-  pub raise_skips : r ≡ false → Adds c.owner (e + 1) (AtomBelow g c a) (λ y. AtomBelow g c a y → ⊥) a b
+  pub raise_skips : r ≡ false → Adds most_nodes c.owner (e + 1) (AtomBelow g c a) (λ y. AtomBelow g c a y → ⊥) a.rows b.rows
   raise_skips z = adds_skipped adds (refuted (tells_before given adds tells) z)

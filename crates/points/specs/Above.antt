@@ -65,4 +65,4 @@ pub record OfAtom (g : Classified) (b : Atom) : Type 0 where
   pub atom : InRange g.square.names b
 
 pub record Risen (g : Classified) (b : Atom) (a c : Grid) : Type 0 where
-  pub adds : Adds b.owner g.square.names (AtomBelow g b a) (λ y. AtomBelow g b a y → ⊥) a c
+  pub adds : Adds most_nodes b.owner g.square.names (AtomBelow g b a) (λ y. AtomBelow g b a y → ⊥) a.rows c.rows

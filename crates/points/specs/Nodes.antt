@@ -87,4 +87,4 @@ pub record OfAtom (g : Classified) (b : Atom) : Type 0 where
   pub atom : InRange g.square.names b
 
 pub record NodesLost (g : Classified) (b : Atom) (l v : Grid) : Type 0 where
-  pub adds : Adds b.owner (suc g.square.names) (λ x. NodeBelow g b l x → ⊥) (NodeBelow g b l) l v
+  pub adds : Adds most_nodes b.owner (suc g.square.names) (λ x. NodeBelow g b l x → ⊥) (NodeBelow g b l) l.rows v.rows

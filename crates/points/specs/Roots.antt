@@ -13,32 +13,33 @@ use Rattle.outline.specs.declared.Atom.{Atom}
 use Rattle.outline.specs.declared.Outline.{Outline}
 use Rattle.outline.specs.Atoms.{child_number, value_of, atom_at, owner_at}
 use Rattle.points.specs.declared.Grid.{Grid}
+use Rattle.points.specs.declared.Pairs.{Pairs}
 use Rattle.points.specs.declared.Classified.{Classified}
 use Rattle.points.specs.declared.Subsumee.{Subsumee}
 use Rattle.points.specs.declared.Restriction.{Restriction}
-use Rattle.points.specs.Grids.{most_roots, root_bytes, Set, Adds}
+use Rattle.points.specs.Grids.{most_roots, root_bytes, Pair, Adds}
 use Rattle.points.specs.Above.{Ranges, RootBelow, ValueInRange, InRange}
 use Rattle.points.specs.Nodes.{Inclusive, NodeReaches}
 
 abbrev pub outline_of : Subsumee → Outline
 outline_of c = c.outline.now
 
-pub data AtomReaches (g : Classified) (e : Atom) (ln l : Grid) (r j : ℕ) : Type 0 where
+pub data AtomReaches (g : Classified) (e : Atom) (ln : Grid) (l : Pairs) (r j : ℕ) : Type 0 where
   name_reaches : child_number e ≡ 0 → NodeReaches g ln (value_of e) r j → AtomReaches g e ln l r j
-  some_reaches : 0 < child_number e → value_of e ≡ r → (Set l j (child_number e) → ⊥) → AtomReaches g e ln l r j
+  some_reaches : 0 < child_number e → value_of e ≡ r → (Pair l j (child_number e) → ⊥) → AtomReaches g e ln l r j
 
-pub record RootReaches (g : Classified) (o : Outline) (ln l : Grid) (k r j : ℕ) : Type 0 where
+pub record RootReaches (g : Classified) (o : Outline) (ln : Grid) (l : Pairs) (k r j : ℕ) : Type 0 where
   pub by : ℕ
   pub is_atom : by < o.extent.atoms
   pub owner : owner_at o.atoms by ≡ k
   pub reaches : AtomReaches g (atom_at o.atoms by) ln l r j
 
-pub record Reaching (g : Classified) (o : Outline) (e : ℕ) (ln l : Grid) (r j : ℕ) (v : List ℕ) : Type 0 where
+pub record Reaching (g : Classified) (o : Outline) (e : ℕ) (ln : Grid) (l : Pairs) (r j : ℕ) (v : List ℕ) : Type 0 where
   pub long : root_bytes ≤ length v
   pub sound : (k : ℕ) → Has v k → RootReaches g o ln l k r j
   pub complete : (i : ℕ) → i < e → AtomReaches g (atom_at o.atoms i) ln l r j → Has v (owner_at o.atoms i)
 
-pub data RootBelowAtom (g : Classified) (c : Subsumee) (b : Atom) (ln l : Grid) (k : ℕ) : Type 0 where
+pub data RootBelowAtom (g : Classified) (c : Subsumee) (b : Atom) (ln : Grid) (l : Pairs) (k : ℕ) : Type 0 where
   root_below_name : child_number b ≡ 0 → RootBelow g c.above.now k (value_of b) → RootBelowAtom g c b ln l k
   root_below_some : 0 < child_number b → RootReaches g (outline_of c) ln l k (value_of b) (child_number b) → RootBelowAtom g c b ln l k
 
@@ -73,11 +74,11 @@ pub record OfAtom (g : Classified) (c : Subsumee) (b : Atom) : Type 0 where
   pub from : AtomsInRange g.square.names (outline_of c)
   pub atom : InRange g.square.names b
 
-pub record NodeLost (g : Classified) (c : Subsumee) (row y : ℕ) (l v : Grid) : Type 0 where
-  pub adds : Adds row (outline_of c).extent.roots (λ k. RootBelow g c.above.now k y → ⊥) (λ k. RootBelow g c.above.now k y) l v
+pub record NodeLost (g : Classified) (c : Subsumee) (row y : ℕ) (l v : Pairs) : Type 0 where
+  pub adds : Adds most_roots row (outline_of c).extent.roots (λ k. RootBelow g c.above.now k y → ⊥) (λ k. RootBelow g c.above.now k y) l.rows v.rows
 
-pub record RestrictionLost (g : Classified) (o : Outline) (row : ℕ) (x : Restriction) (l v : Grid) : Type 0 where
-  pub adds : Adds row o.extent.roots (λ k. RootReaches g o x.lost.now l k x.role x.root → ⊥) (λ k. RootReaches g o x.lost.now l k x.role x.root) l v
+pub record RestrictionLost (g : Classified) (o : Outline) (row : ℕ) (x : Restriction) (l v : Pairs) : Type 0 where
+  pub adds : Adds most_roots row o.extent.roots (λ k. RootReaches g o x.lost.now l k x.role x.root → ⊥) (λ k. RootReaches g o x.lost.now l k x.role x.root) l.rows v.rows
 
-pub record RootsLost (g : Classified) (c : Subsumee) (b : Atom) (ln l v : Grid) : Type 0 where
-  pub adds : Adds b.owner (outline_of c).extent.roots (λ k. RootBelowAtom g c b ln l k → ⊥) (RootBelowAtom g c b ln l) l v
+pub record RootsLost (g : Classified) (c : Subsumee) (b : Atom) (ln : Grid) (l v : Pairs) : Type 0 where
+  pub adds : Adds most_roots b.owner (outline_of c).extent.roots (λ k. RootBelowAtom g c b ln l k → ⊥) (RootBelowAtom g c b ln l) l.rows v.rows

@@ -5,7 +5,7 @@
 ghost use Rattle.std.specs.Prelude.{◌≡◌, Some, ◌≤◌, ◌<◌, length};
 ghost use Rattle.el.proofs.Tests.{Tells};
 ghost use Rattle.marks.specs.Lines.{Has, Added};
-ghost use Rattle.points.specs.Grids.{most_roots, most_nodes, root_bytes, cell, Set, Adds};
+ghost use Rattle.points.specs.Grids.{most_roots, most_nodes, root_bytes, cell, Set, Pair, Adds};
 ghost use Rattle.outline.specs.declared.Conjunct.TheVariants as conjunct;
 ghost use Rattle.points.specs.Nodes.{RestrictionOf};
 
@@ -17,17 +17,20 @@ pub mod above;
 pub mod nodes;
 pub mod roots;
 
-// The places of a row of a grid: as many as there can be nodes.
+// The places of a row: as many as there can be nodes, or roots of a concept.
 const NODES: usize = 1024;
+
+const ROOTS: usize = 128;
 
 // The bytes of a line of all roots that a concept can have.
 const ROOT_BYTES: usize = 16;
 
-// The bytes of a grid of 128 rows: a bit a place.
+// The bytes of 128 rows of either: a bit a place.
 const AREA: usize = 16384;
 
-// A row of marks for each root that a concept can have: its places are the nodes, or the roots of another concept. An
-// array, since there is no heap.
+const PAIR_AREA: usize = 2048;
+
+// A row of marks for each root that a concept can have: its places are the nodes. An array, since there is no heap.
 #[derive(Clone, Copy, Debug, PartialEq, Eq)]
 pub struct Grid {
     rows: [u8; AREA],
@@ -40,25 +43,52 @@ impl Grid {
         requires { (row < most_roots) × (place < most_nodes) }
         ensures { Tells result (Set self.now row place) }
     {
-        line::has(&self.rows, NODES * row + place)
+        line::has(&self.rows, row * NODES + place)
     }
 
     fn add(&mut self, row: usize, place: usize)
         requires { (row < most_roots) × (place < most_nodes) }
-        ensures { Added (cell row place) self.old.rows self.new.rows }
+        ensures { Added (cell most_nodes row place) self.old.rows self.new.rows }
     {
-        line::add(&mut self.rows, NODES * row + place);
+        line::add(&mut self.rows, row * NODES + place);
+    }
+}
+
+// A row of marks for each root that a concept can have: its places are the roots of another concept. Not a grid of fewer places, since an array's
+// length is part of its type.
+#[derive(Clone, Copy, Debug, PartialEq, Eq)]
+pub struct Pairs {
+    rows: [u8; PAIR_AREA],
+}
+
+impl Pairs {
+    pub const BLANK: Pairs = Pairs {
+        rows: [0; PAIR_AREA],
+    };
+
+    pub fn has(&self, row: usize, root: usize) -> bool
+        requires { (row < most_roots) × (root < most_roots) }
+        ensures { Tells result (Pair self.now row root) }
+    {
+        line::has(&self.rows, row * ROOTS + root)
     }
 
-    // Adds to a row the places of the first `end` that a line does not have.
-    fn add_outside(&mut self, line: &[u8], row: usize, end: usize)
-        requires row { row < most_roots }
-        requires line { (root_bytes ≤ length line.now) × (end ≤ most_roots) }
-        ensures { Adds row end (λ place. Has line.now place → ⊥) (Has line.now) self.old self.new }
+    fn add(&mut self, row: usize, root: usize)
+        requires { (row < most_roots) × (root < most_roots) }
+        ensures { Added (cell most_roots row root) self.old.rows self.new.rows }
     {
-        for place in 0..end {
-            if !line::has(line, place) {
-                self.add(row, place);
+        line::add(&mut self.rows, row * ROOTS + root);
+    }
+
+    // Adds to a row the roots of the first so many that a line does not have.
+    fn add_outside(&mut self, line: &[u8], row: usize, roots: usize)
+        requires row { row < most_roots }
+        requires line { (root_bytes ≤ length line.now) × (roots ≤ most_roots) }
+        ensures { Adds most_roots row roots (λ root. Has line.now root → ⊥) (Has line.now) self.old.rows self.new.rows }
+    {
+        for root in 0..roots {
+            if !line::has(line, root) {
+                self.add(row, root);
             }
         }
     }

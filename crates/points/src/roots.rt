@@ -8,7 +8,7 @@ ghost use Rattle.points.specs.Grids.{most_roots, root_bytes};
 ghost use Rattle.points.specs.Nodes.{IdleFor};
 ghost use Rattle.points.specs.Roots.{AtomReaches, Reaching, FromRoot, FromRoots, OfNode, OfAtom, NodeLost, RestrictionLost, RootsLost};
 
-use crate::{Classified, Grid, ROOT_BYTES, Restriction, Subsumee};
+use crate::{Classified, Grid, Pairs, ROOT_BYTES, Restriction, Subsumee};
 use marks::line;
 use marks::line::Line;
 use outline::{Atom, Conjunct, Outline};
@@ -16,7 +16,7 @@ use outline::{Atom, Conjunct, Outline};
 impl Classified<'_> {
     // Whether an atom of C lies below an ∃ of D: a name that does, or an ∃ of the role over a root that the row of D's root has not lost. `lost` is the
     // grid of roots, and the restriction has that of nodes.
-    fn atom_reaches(&self, atom: Atom, restriction: &Restriction, lost: &Grid) -> bool
+    fn atom_reaches(&self, atom: Atom, restriction: &Restriction, lost: &Pairs) -> bool
         requires from_root { FromRoot self.now atom restriction.now.root }
         requires idle { IdleFor self.now restriction.now }
         ensures { Tells result (AtomReaches self.now atom restriction.now.lost.now lost.now restriction.now.role restriction.now.root) }
@@ -35,7 +35,7 @@ impl Classified<'_> {
         &self,
         outline: &Outline,
         restriction: &Restriction,
-        lost: &Grid,
+        lost: &Pairs,
         reaching: &mut [u8],
     )
         requires from_roots { FromRoots self.now outline.now restriction.now.root }
@@ -55,7 +55,7 @@ impl Classified<'_> {
     }
 
     // Takes the roots of C that do not lie below a node from a row.
-    fn lose_not_below(&self, subsumee: &Subsumee, node: usize, lost: &mut Grid, row: usize)
+    fn lose_not_below(&self, subsumee: &Subsumee, node: usize, lost: &mut Pairs, row: usize)
         requires { OfNode self.now subsumee.now node row }
         ensures { NodeLost self.now subsumee.now row node lost.old lost.new }
     {
@@ -71,7 +71,7 @@ impl Classified<'_> {
         &self,
         outline: &Outline,
         restriction: &Restriction,
-        lost: &mut Grid,
+        lost: &mut Pairs,
         row: usize,
     )
         requires from_roots { FromRoots self.now outline.now restriction.now.root }
@@ -85,7 +85,7 @@ impl Classified<'_> {
     }
 
     // Takes the roots of C that do not lie below an atom of D from the row of its owner.
-    pub fn lose_roots(&self, subsumee: &Subsumee, atom: Atom, nodes: &Grid, lost: &mut Grid)
+    pub fn lose_roots(&self, subsumee: &Subsumee, atom: Atom, nodes: &Grid, lost: &mut Pairs)
         requires { OfAtom self.now subsumee.now atom }
         ensures { RootsLost self.now subsumee.now atom nodes.now lost.old lost.new }
     {

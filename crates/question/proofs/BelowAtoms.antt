@@ -21,9 +21,10 @@ use Rattle.outline.specs.declared.Atom.{Atom}
 use Rattle.outline.specs.declared.Outline.{Outline}
 use Rattle.outline.specs.Atoms.{child_number, value_of, value_at, owner_at, child_at, atoms_from, atom_concept, root_of, Shape}
 use Rattle.outline.proofs.Atoms.{root_own, root_other, root_none}
+use Rattle.marks.specs.Lines.{Empty}
 use Rattle.points.specs.declared.Grid.{Grid}
 use Rattle.points.specs.declared.Classified.{Classified}
-use Rattle.points.specs.Grids.{most_roots, most_nodes, Adds, Blank}
+use Rattle.points.specs.Grids.{most_roots, most_nodes, Adds}
 use Rattle.points.specs.Above.{table_in}
 use Rattle.points.specs.Nodes.{NodeReaches, NodeBelow, below_name, below_some}
 use Rattle.points.proofs.Grids.{adds_row}
@@ -32,18 +33,18 @@ use Rattle.question.proofs.Worlds.{Found, row_of, marked_below, below_marked, fi
 use Rattle.question.proofs.AboveRoots.{some_atom}
 
 -- for any points
-pub kept_none : {al : List Axiom} {point : ℕ → Concept} {e : ℕ} (l : Grid) (o : Outline) (i : ℕ) → Blank l → Kept al point e l (atoms_from o.atoms i 0)
+pub kept_none : {c : ℕ} {al : List Axiom} {point : ℕ → Concept} {e : ℕ} (l : List ℕ) (o : Outline) (i : ℕ) → Empty l → Kept c al point e l (atoms_from o.atoms i 0)
 kept_none l o i empty = record { row = λ j h. rw (root_none o.atoms i j) record { lost = λ x m k p. empty.none _ k; kept = λ x m k. to_top } }
 
-module _ {al : List Axiom} {point : ℕ → Concept} {e : ℕ} (few : e ≤ most_nodes) where
-  module _ {l v : Grid} {o : Outline} {n : ℕ} (shape : Shape n o) (i left : ℕ) (h : i < o.extent.atoms) {Below : ℕ → Type 0}
+module _ {c : ℕ} {al : List Axiom} {point : ℕ → Concept} {e : ℕ} (few : e ≤ c) where
+  module _ {l v : List ℕ} {o : Outline} {n : ℕ} (shape : Shape n o) (i left : ℕ) (h : i < o.extent.atoms) {Below : ℕ → Type 0}
       (sound : (x : ℕ) → x < e → Below x → Derives al (point x) (atom_concept (child_at o.atoms i) (value_at o.atoms i) (root_of (atoms_from o.atoms (suc i) left) (child_at o.atoms i))))
       (complete : (x : ℕ) → x < e → Derives al (point x) (atom_concept (child_at o.atoms i) (value_at o.atoms i) (root_of (atoms_from o.atoms (suc i) left) (child_at o.atoms i))) → Below x)
-      (kept : Kept al point e l (atoms_from o.atoms (suc i) left)) (adds : Adds (owner_at o.atoms i) e (λ x. Below x → ⊥) Below l v) where
+      (kept : Kept c al point e l (atoms_from o.atoms (suc i) left)) (adds : Adds c (owner_at o.atoms i) e (λ x. Below x → ⊥) Below l v) where
     abbrev rest : List Atom
     rest = atoms_from o.atoms (suc i) left
 
-    own_row : KeptRow al point e v (owner_at o.atoms i) (both (atom_concept (child_at o.atoms i) (value_at o.atoms i) (root_of rest (child_at o.atoms i))) (root_of rest (owner_at o.atoms i)))
+    own_row : KeptRow c al point e v (owner_at o.atoms i) (both (atom_concept (child_at o.atoms i) (value_at o.atoms i) (root_of rest (child_at o.atoms i))) (root_of rest (owner_at o.atoms i)))
     own_row =
         let small : owner_at o.atoms i < most_roots = omega (arith, shape.owner i h, shape.few) in
         let old = kept.row (owner_at o.atoms i) small in
@@ -58,7 +59,7 @@ module _ {al : List Axiom} {point : ℕ → Concept} {e : ℕ} (few : e ≤ most
               meet first (old.kept x m (λ z. k (adds.old (owner_at o.atoms i) x z)));
         }
 
-    other_row : (j : ℕ) → j < most_roots → (owner_at o.atoms i ≡ j → ⊥) → KeptRow al point e v j (root_of rest j)
+    other_row : (j : ℕ) → j < most_roots → (owner_at o.atoms i ≡ j → ⊥) → KeptRow c al point e v j (root_of rest j)
     other_row j small apart =
         let old = kept.row j small in
         record {
@@ -66,10 +67,10 @@ module _ {al : List Axiom} {point : ℕ → Concept} {e : ℕ} (few : e ≤ most
           kept = λ x m k. old.kept x m (λ z. k (adds.old j x z));
         }
 
-    pub kept_more : Kept al point e v (atoms_from o.atoms i (suc left))
+    pub kept_more : Kept c al point e v (atoms_from o.atoms i (suc left))
     kept_more = record { row = λ j small. by_owner j small (ℕ_discrete (owner_at o.atoms i) j) }
       where
-        by_owner : (j : ℕ) → j < most_roots → Dec (owner_at o.atoms i ≡ j) → KeptRow al point e v j (root_of (atoms_from o.atoms i (suc left)) j)
+        by_owner : (j : ℕ) → j < most_roots → Dec (owner_at o.atoms i ≡ j) → KeptRow c al point e v j (root_of (atoms_from o.atoms i (suc left)) j)
         by_owner j small (yes z) = rw (root_own o.atoms i left j z, ← z) own_row
         by_owner j small (no z) = rw (root_other o.atoms i left j z) (other_row j small z)
 
@@ -85,7 +86,7 @@ module _ {g : Classified} (world : World g) where
   abbrev n : ℕ
   n = g.square.names
 
-  module _ {l : Grid} {j : ℕ} {d : Concept} (row : KeptRow (axioms_in g) (node_point n) (suc n) l j d) where
+  module _ {l : Grid} {j : ℕ} {d : Concept} (row : KeptRow most_nodes (axioms_in g) (node_point n) (suc n) l.rows j d) where
     pub reach_sound : (x r : ℕ) → x ≤ n → NodeReaches g l x r j → Derives (axioms_in g) (node_point n x) (some r d)
     reach_sound x r h reaches =
         let leads = reaches.leads in

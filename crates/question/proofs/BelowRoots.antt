@@ -20,9 +20,10 @@ use Rattle.outline.specs.declared.Outline.{Outline}
 use Rattle.outline.specs.Atoms.{child_number, value_of, atom_at, value_at, owner_at, child_at, atoms_from, written, atom_concept, root_of, Shape}
 use Rattle.outline.proofs.Atoms.{root_own, root_other, root_none}
 use Rattle.points.specs.declared.Grid.{Grid}
+use Rattle.points.specs.declared.Pairs.{Pairs}
 use Rattle.points.specs.declared.Classified.{Classified}
 use Rattle.points.specs.declared.Subsumee.{Subsumee}
-use Rattle.points.specs.Grids.{most_roots}
+use Rattle.points.specs.Grids.{most_roots, most_nodes}
 use Rattle.points.specs.Roots.{outline_of, AtomReaches, name_reaches, some_reaches, RootReaches, RootBelowAtom, root_below_name, root_below_some}
 use Rattle.question.specs.Evaluation.{World, axioms_in, Above, KeptRow, node_point, root_point}
 use Rattle.question.proofs.Worlds.{terminology}
@@ -121,8 +122,9 @@ abbrev whole : Outline → ℕ → Concept
 whole o i = atom_concept (child_at o.atoms i) (value_at o.atoms i) (root_point o (child_at o.atoms i))
 
 -- the rows of root j of D, which is d
-module _ {g : Classified} (world : World g) (c : Subsumee) (shape : Shape g.square.names (outline_of c)) {ln l : Grid} {j : ℕ} {d : Concept}
-    (nodes : KeptRow (axioms_in g) (node_point g.square.names) (suc g.square.names) ln j d) (roots : KeptRow (axioms_in g) (root_point (outline_of c)) (outline_of c).extent.roots l j d) where
+module _ {g : Classified} (world : World g) (c : Subsumee) (shape : Shape g.square.names (outline_of c)) {ln : Grid} {l : Pairs} {j : ℕ} {d : Concept}
+    (nodes : KeptRow most_nodes (axioms_in g) (node_point g.square.names) (suc g.square.names) ln.rows j d)
+    (roots : KeptRow most_roots (axioms_in g) (root_point (outline_of c)) (outline_of c).extent.roots l.rows j d) where
   atom_reaches_sound : {i role : ℕ} → i < (outline_of c).extent.atoms → AtomReaches g (atom_at (atoms_in c) i) ln l role j → Derives (axioms_in g) (whole (outline_of c) i) (some role d)
   atom_reaches_sound {i} {role} h (name_reaches k m) =
       let small = shape.named i h k in

@@ -23,9 +23,10 @@ use Rattle.outline.specs.declared.Atom.{Atom}
 use Rattle.outline.specs.declared.Outline.{Outline}
 use Rattle.outline.specs.Atoms.{blank, atom_at, child_at, atoms_from, Shape}
 use Rattle.points.specs.declared.Grid.{Grid}
+use Rattle.points.specs.declared.Pairs.{Pairs}
 use Rattle.points.specs.declared.Classified.{Classified}
 use Rattle.points.specs.declared.Subsumee.{Subsumee}
-use Rattle.points.specs.Grids.{most_roots}
+use Rattle.points.specs.Grids.{most_roots, most_nodes}
 use Rattle.points.specs.Above.{Ranges, InRange, Risen}
 use Rattle.points.specs.Above as above
 use Rattle.points.specs.Nodes.{Inclusive, NodesLost}
@@ -106,20 +107,20 @@ module _ {g : Classified} {o : Outline} {a : Grid} (given : ToFill g o a) where
       rw y (above_more given.world given.shape (left - 1) (o.extent.atoms - left) (omega arith) (rw z above) risen)
 
 -- the rows of lost points, where the atoms from `left` on are done
-pub record Losing (g : Classified) (c : Subsumee) (o : Outline) (left : ℕ) (ln l : Grid) : Type 0 where
-  pub nodes : Kept (axioms_in g) (node_point g.square.names) (suc g.square.names) ln (atoms_from o.atoms left (o.extent.atoms - left))
-  pub roots : Kept (axioms_in g) (root_point (outline_of c)) (outline_of c).extent.roots l (atoms_from o.atoms left (o.extent.atoms - left))
+pub record Losing (g : Classified) (c : Subsumee) (o : Outline) (left : ℕ) (ln : Grid) (l : Pairs) : Type 0 where
+  pub nodes : Kept most_nodes (axioms_in g) (node_point g.square.names) (suc g.square.names) ln.rows (atoms_from o.atoms left (o.extent.atoms - left))
+  pub roots : Kept most_roots (axioms_in g) (root_point (outline_of c)) (outline_of c).extent.roots l.rows (atoms_from o.atoms left (o.extent.atoms - left))
 
-module _ {g : Classified} {c : Subsumee} {o : Outline} {ln l : Grid} (given : ToLose g c o ln l) where
+module _ {g : Classified} {c : Subsumee} {o : Outline} {ln : Grid} {l : Pairs} (given : ToLose g c o ln l) where
   pub lose_start : Losing g c o o.extent.atoms ln l
   lose_start =
       let z : o.extent.atoms - o.extent.atoms ≡ 0 = omega arith in
       record {
-        nodes = rw z (kept_none ln o o.extent.atoms given.nodes_blank);
-        roots = rw z (kept_none l o o.extent.atoms given.roots_blank);
+        nodes = rw z (kept_none ln.rows o o.extent.atoms given.nodes_blank);
+        roots = rw z (kept_none l.rows o o.extent.atoms given.roots_blank);
       }
 
-  module _ {left : ℕ} {xn x yn y : Grid} (some_left : 0 < left) (h : left ≤ o.extent.atoms) (losing : Losing g c o left xn x)
+  module _ {left : ℕ} {xn yn : Grid} {x y : Pairs} (some_left : 0 < left) (h : left ≤ o.extent.atoms) (losing : Losing g c o left xn x)
       (roots_lost : RootsLost g c (atom_at o.atoms (left - 1)) xn x y) (nodes_lost : NodesLost g (atom_at o.atoms (left - 1)) xn yn) where
     abbrev i : ℕ
     i = left - 1
@@ -133,10 +134,10 @@ module _ {g : Classified} {c : Subsumee} {o : Outline} {ln l : Grid} (given : To
     inside : left - 1 < o.extent.atoms
     inside = omega arith
 
-    nodes_before : Kept (axioms_in g) (node_point g.square.names) (suc g.square.names) xn (atoms_from o.atoms (suc (left - 1)) (o.extent.atoms - left))
+    nodes_before : Kept most_nodes (axioms_in g) (node_point g.square.names) (suc g.square.names) xn.rows (atoms_from o.atoms (suc (left - 1)) (o.extent.atoms - left))
     nodes_before = rw next losing.nodes
 
-    roots_before : Kept (axioms_in g) (root_point (outline_of c)) (outline_of c).extent.roots x (atoms_from o.atoms (suc (left - 1)) (o.extent.atoms - left))
+    roots_before : Kept most_roots (axioms_in g) (root_point (outline_of c)) (outline_of c).extent.roots x.rows (atoms_from o.atoms (suc (left - 1)) (o.extent.atoms - left))
     roots_before = rw next losing.roots
 
     child_small : child_at o.atoms (left - 1) < most_roots

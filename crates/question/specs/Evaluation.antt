@@ -3,8 +3,8 @@
 --   axioms_in g                its axioms
 --   RowAbove g a k c           row k of a has the names above c, as far as they are not defined by a conjunction
 --   Above g a atoms            each row does, for the root of its number
---   KeptRow al point e l j d   row j of l has lost, of the points below e, just those that do not lie below d
---   Kept al point e l atoms    each row has, for the root of its number
+--   KeptRow c al point e l j d   row j of l, of c places, has lost, of the points below e, just those that do not lie below d
+--   Kept c al point e l atoms    each row has, for the root of its number
 use Rattle.std.specs.Prelude.{◌≡◌, List, ℕ, ◌<◌}
 use Rattle.el.specs.Concepts.{Concept, name, concept_of}
 use Rattle.el.specs.Axioms.{Axiom}
@@ -13,14 +13,16 @@ use Rattle.release.specs.Files.{names_of, axioms_of}
 use Rattle.release.specs.Tables.{kind_at, Release}
 use Rattle.concept.specs.Bytes.{IsTextOf}
 use Rattle.marks.specs.Squares.{Room}
+use Rattle.marks.specs.Lines.{Empty}
 use Rattle.classification.specs.Inclusions.{node_at, Inclusions}
 use Rattle.outline.specs.declared.Outline.{Outline}
 use Rattle.outline.specs.declared.Atom.{Atom}
 use Rattle.outline.specs.Atoms.{written, root_of, Shape}
 use Rattle.points.specs.declared.Grid.{Grid}
+use Rattle.points.specs.declared.Pairs.{Pairs}
 use Rattle.points.specs.declared.Classified.{Classified}
 use Rattle.points.specs.declared.Subsumee.{Subsumee}
-use Rattle.points.specs.Grids.{most_roots, most_nodes, Set, Blank}
+use Rattle.points.specs.Grids.{most_roots, most_nodes, SetIn, Set, Blank}
 use Rattle.points.specs.Above.{file_in, table_in}
 use Rattle.points.specs.Roots.{outline_of}
 
@@ -41,12 +43,12 @@ pub record RowAbove (g : Classified) (a : Grid) (k : ℕ) (c : Concept) : Type 0
 pub record Above (g : Classified) (a : Grid) (atoms : List Atom) : Type 0 where
   pub row : (k : ℕ) → k < most_roots → RowAbove g a k (root_of atoms k)
 
-pub record KeptRow (al : List Axiom) (point : ℕ → Concept) (e : ℕ) (l : Grid) (j : ℕ) (d : Concept) : Type 0 where
-  pub lost : (x : ℕ) → x < e → Set l j x → Derives al (point x) d → ⊥
-  pub kept : (x : ℕ) → x < e → (Set l j x → ⊥) → Derives al (point x) d
+pub record KeptRow (c : ℕ) (al : List Axiom) (point : ℕ → Concept) (e : ℕ) (l : List ℕ) (j : ℕ) (d : Concept) : Type 0 where
+  pub lost : (x : ℕ) → x < e → SetIn c l j x → Derives al (point x) d → ⊥
+  pub kept : (x : ℕ) → x < e → (SetIn c l j x → ⊥) → Derives al (point x) d
 
-pub record Kept (al : List Axiom) (point : ℕ → Concept) (e : ℕ) (l : Grid) (atoms : List Atom) : Type 0 where
-  pub row : (j : ℕ) → j < most_roots → KeptRow al point e l j (root_of atoms j)
+pub record Kept (c : ℕ) (al : List Axiom) (point : ℕ → Concept) (e : ℕ) (l : List ℕ) (atoms : List Atom) : Type 0 where
+  pub row : (j : ℕ) → j < most_roots → KeptRow c al point e l j (root_of atoms j)
 
 -- the two kinds of points
 abbrev pub node_point : ℕ → ℕ → Concept
@@ -64,16 +66,16 @@ pub record Filled (g : Classified) (o : Outline) (a : Grid) : Type 0 where
   pub above : Above g a (written o)
 
 -- c: C, its outline with the rows above its roots; o: the outline of D
-pub record ToLose (g : Classified) (c : Subsumee) (o : Outline) (nodes roots : Grid) : Type 0 where
+pub record ToLose (g : Classified) (c : Subsumee) (o : Outline) (nodes : Grid) (roots : Pairs) : Type 0 where
   pub world : World g
   pub from : Shape g.square.names (outline_of c)
   pub filled : Filled g (outline_of c) c.above.now
   pub shape : Shape g.square.names o
   pub nodes_blank : Blank nodes
-  pub roots_blank : Blank roots
+  pub roots_blank : Empty roots.rows
 
-pub record Lost (g : Classified) (c : Subsumee) (o : Outline) (roots : Grid) : Type 0 where
-  pub kept : Kept (axioms_in g) (root_point (outline_of c)) (outline_of c).extent.roots roots (written o)
+pub record Lost (g : Classified) (c : Subsumee) (o : Outline) (roots : Pairs) : Type 0 where
+  pub kept : Kept most_roots (axioms_in g) (root_point (outline_of c)) (outline_of c).extent.roots roots.rows (written o)
 
 pub record ToDecide (g : Classified) (width : ℕ) (c d : List ℕ) : Type 0 where
   pub world : World g

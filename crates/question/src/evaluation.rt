@@ -9,7 +9,7 @@ ghost use Rattle.question.specs.Refusals.{answer_number};
 ghost use Rattle.question.specs.Evaluation.{axioms_in, ToFill, Filled, ToLose, Lost, ToDecide};
 
 use outline::Outline;
-use points::{Classified, Grid, Subsumee};
+use points::{Classified, Grid, Pairs, Subsumee};
 use release::number::Version;
 
 // Fills the rows of the names above the roots of an outline.
@@ -28,7 +28,7 @@ fn lose_all(
     subsumee: &Subsumee,
     outline: &Outline,
     nodes: &mut Grid,
-    roots: &mut Grid,
+    roots: &mut Pairs,
 )
     requires { ToLose classified.now subsumee.now outline.now nodes.old roots.old }
     ensures { Lost classified.now subsumee.now outline.now roots.new }
@@ -39,8 +39,8 @@ fn lose_all(
     }
 }
 
-// Whether C ⊑ D, by the square of the inclusions of nodes. The arrays here are nearly all of the stack that a question takes: three grids and two
-// outlines, 50 KiB; nothing calls itself.
+// Whether C ⊑ D, by the square of the inclusions of nodes. The arrays here are nearly all of the stack that a question takes: two grids over nodes,
+// one over pairs of roots and two outlines, 36 KiB; nothing calls itself.
 pub fn decide(classified: &Classified, version: Version, below: &[u8], above: &[u8]) -> bool
     requires { ToDecide classified.now (width version) below.now above.now }
     ensures { (n m : ℕ) (c d : Concept) → IsTextOf (width version) n m c below.now → IsTextOf (width version) n m d above.now
@@ -55,7 +55,7 @@ pub fn decide(classified: &Classified, version: Version, below: &[u8], above: &[
         above: &names,
     };
     let mut nodes = Grid::BLANK;
-    let mut roots = Grid::BLANK;
+    let mut roots = Pairs::BLANK;
     lose_all(
         classified,
         &subsumee,

@@ -1,9 +1,9 @@
 -- `lose_nodes_but` meets its contract: of the nodes before, the owner's row lost those that do not lie below the atom.
-use Rattle.points.specs.Grids.{Adds}
+use Rattle.points.specs.Grids.{most_nodes, Adds}
 use Rattle.points.specs.Nodes.{NodeBelow}
 use Rattle.points.proofs.Classified.lose_nodes_but.Given as goal
 
 abbrev pub invariant-loop-node : goal.invariant-loop-node
 invariant-loop-node l =
     let below = NodeBelow l.self l.fn.atom l.initial.lost in
-    Adds l.fn.atom.owner l.node (λ x. below x → ⊥) below l.initial.lost l.lost
+    Adds most_nodes l.fn.atom.owner l.node (λ x. below x → ⊥) below l.initial.lost.rows l.lost.rows

@@ -13,7 +13,7 @@ lose_all-requires c = record {
   filled = c.fill_above.ensures;
   shape = (c.of-outline_above.ensures _ _ _ c.requires.above_text).shape;
   nodes_blank = empty_zeros 16384;
-  roots_blank = empty_zeros 16384;
+  roots_blank = empty_zeros 2048;
 }
 
 pub returns : goal.returns
