@@ -3,10 +3,12 @@
 --   AtomReaches g e ln l r j        the atom e of C lies below ∃r over root j of D: as a name, or by a root that row j of l has not lost
 --   RootReaches g o ln l k r j      an atom of root k does, by the outline o of C
 --   Reaching g o e ln l r j v       the line v has just roots of which an atom does, and all those of which one of the first e atoms does
---   RootBelowAtom g c b ln l k      root k of C lies below the atom b of D
+--   UnderName g c b k               root k of C lies below the atom b of D, where that is a name
+--   UnderSome g o b ln l k          and where it is an ∃
 --   NodeLost g c k y l v            row k lost the roots that do not lie below the node y
 --   RestrictionLost g o k x l v     row k lost the roots that do not lie below the ∃ x
---   RootsLost g c b ln l v          the row of b's owner lost the roots that do not lie below b: the grid l became v
+--   NamesLost g c b l v             the row of b's owner lost the roots that do not lie below b, where it is a name: the grid l became v
+--   RootsLost g o b ln l v          and where it is an ∃
 use Rattle.std.specs.Prelude.{◌≡◌, List, ℕ, ◌≤◌, ◌<◌, length}
 use Rattle.marks.specs.Lines.{Has}
 use Rattle.outline.specs.declared.Atom.{Atom}
@@ -39,9 +41,12 @@ pub record Reaching (g : Classified) (o : Outline) (e : ℕ) (ln : Grid) (l : Pa
   pub sound : (k : ℕ) → Has v k → RootReaches g o ln l k r j
   pub complete : (i : ℕ) → i < e → AtomReaches g (atom_at o.atoms i) ln l r j → Has v (owner_at o.atoms i)
 
-pub data RootBelowAtom (g : Classified) (c : Subsumee) (b : Atom) (ln : Grid) (l : Pairs) (k : ℕ) : Type 0 where
-  root_below_name : child_number b ≡ 0 → RootBelow g c.above.now k (value_of b) → RootBelowAtom g c b ln l k
-  root_below_some : 0 < child_number b → RootReaches g (outline_of c) ln l k (value_of b) (child_number b) → RootBelowAtom g c b ln l k
+-- below a name by the rows of the names above the roots, and below an ∃; each says nothing of the other kind of atom
+pub record UnderName (g : Classified) (c : Subsumee) (b : Atom) (k : ℕ) : Type 0 where
+  pub below : child_number b ≡ 0 → RootBelow g c.above.now k (value_of b)
+
+pub record UnderSome (g : Classified) (o : Outline) (b : Atom) (ln : Grid) (l : Pairs) (k : ℕ) : Type 0 where
+  pub reaches : 0 < child_number b → RootReaches g o ln l k (value_of b) (child_number b)
 
 -- what the functions ask
 pub record FromRoot (g : Classified) (e : Atom) (j : ℕ) : Type 0 where
@@ -68,10 +73,14 @@ pub record OfNode (g : Classified) (c : Subsumee) (y k : ℕ) : Type 0 where
   pub node : y ≤ g.square.names
   pub row : k < most_roots
 
-pub record OfAtom (g : Classified) (c : Subsumee) (b : Atom) : Type 0 where
+pub record OfName (g : Classified) (c : Subsumee) (b : Atom) : Type 0 where
   pub ranges : Ranges g
+  pub few : (outline_of c).extent.roots ≤ most_roots
+  pub atom : InRange g.square.names b
+
+pub record OfAtom (g : Classified) (o : Outline) (b : Atom) : Type 0 where
   pub inclusive : Inclusive g
-  pub from : AtomsInRange g.square.names (outline_of c)
+  pub from : AtomsInRange g.square.names o
   pub atom : InRange g.square.names b
 
 pub record NodeLost (g : Classified) (c : Subsumee) (row y : ℕ) (l v : Pairs) : Type 0 where
@@ -80,5 +89,8 @@ pub record NodeLost (g : Classified) (c : Subsumee) (row y : ℕ) (l v : Pairs) 
 pub record RestrictionLost (g : Classified) (o : Outline) (row : ℕ) (x : Restriction) (l v : Pairs) : Type 0 where
   pub adds : Adds most_roots row o.extent.roots (λ k. RootReaches g o x.lost.now l k x.role x.root → ⊥) (λ k. RootReaches g o x.lost.now l k x.role x.root) l.rows v.rows
 
-pub record RootsLost (g : Classified) (c : Subsumee) (b : Atom) (ln : Grid) (l v : Pairs) : Type 0 where
-  pub adds : Adds most_roots b.owner (outline_of c).extent.roots (λ k. RootBelowAtom g c b ln l k → ⊥) (RootBelowAtom g c b ln l) l.rows v.rows
+pub record NamesLost (g : Classified) (c : Subsumee) (b : Atom) (l v : Pairs) : Type 0 where
+  pub adds : Adds most_roots b.owner (outline_of c).extent.roots (λ k. UnderName g c b k → ⊥) (UnderName g c b) l.rows v.rows
+
+pub record RootsLost (g : Classified) (o : Outline) (b : Atom) (ln : Grid) (l v : Pairs) : Type 0 where
+  pub adds : Adds most_roots b.owner o.extent.roots (λ k. UnderSome g o b ln l k → ⊥) (UnderSome g o b ln l) l.rows v.rows

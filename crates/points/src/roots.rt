@@ -6,7 +6,7 @@ ghost use Rattle.el.proofs.Tests.{Tells};
 ghost use Rattle.marks.specs.Lines.{Empty};
 ghost use Rattle.points.specs.Grids.{most_roots, root_bytes};
 ghost use Rattle.points.specs.Nodes.{IdleFor};
-ghost use Rattle.points.specs.Roots.{AtomReaches, Reaching, FromRoot, FromRoots, OfNode, OfAtom, NodeLost, RestrictionLost, RootsLost};
+ghost use Rattle.points.specs.Roots.{AtomReaches, Reaching, FromRoot, FromRoots, OfNode, OfName, OfAtom, NodeLost, RestrictionLost, NamesLost, RootsLost};
 
 use crate::{Classified, Grid, Pairs, ROOT_BYTES, Restriction, Subsumee};
 use marks::line;
@@ -84,26 +84,33 @@ impl Classified<'_> {
         lost.add_outside(&reaching, row, outline.extent.roots);
     }
 
-    // Takes the roots of C that do not lie below an atom of D from the row of its owner.
-    pub fn lose_roots(&self, subsumee: &Subsumee, atom: Atom, nodes: &Grid, lost: &mut Pairs)
-        requires { OfAtom self.now subsumee.now atom }
-        ensures { RootsLost self.now subsumee.now atom nodes.now lost.old lost.new }
+    // Takes the roots of C that do not lie below an atom of D from the row of its owner, where the atom is a name.
+    pub fn lose_under_name(&self, subsumee: &Subsumee, atom: Atom, lost: &mut Pairs)
+        requires { OfName self.now subsumee.now atom }
+        ensures { NamesLost self.now subsumee.now atom lost.old lost.new }
     {
-        let row = atom.owner();
-        match atom.conjunct {
-            Conjunct::Name(name) => self.lose_not_below(subsumee, usize::from(name), lost, row),
-            Conjunct::Restriction { role, filler } => {
-                // as long as any line, since there is no heap
-                let mut idle = [0; Line::LENGTH];
-                self.find_idle(nodes, &mut idle, usize::from(role), usize::from(filler));
-                let restriction = Restriction {
-                    role: usize::from(role),
-                    root: usize::from(filler),
-                    lost: nodes,
-                    idle: &idle,
-                };
-                self.lose_not_reaching(subsumee.outline, &restriction, lost, row);
-            }
+        if let Conjunct::Name(name) = atom.conjunct {
+            self.lose_not_below(subsumee, usize::from(name), lost, atom.owner());
         }
+    }
+
+    // The same where it is an ∃. The grids have the rows of its child.
+    pub fn lose_under_some(&self, outline: &Outline, atom: Atom, nodes: &Grid, lost: &mut Pairs)
+        requires { OfAtom self.now outline.now atom }
+        ensures { RootsLost self.now outline.now atom nodes.now lost.old lost.new }
+    {
+        let Conjunct::Restriction { role, filler } = atom.conjunct else {
+            return;
+        };
+        // as long as any line, since there is no heap
+        let mut idle = [0; Line::LENGTH];
+        self.find_idle(nodes, &mut idle, usize::from(role), usize::from(filler));
+        let restriction = Restriction {
+            role: usize::from(role),
+            root: usize::from(filler),
+            lost: nodes,
+            idle: &idle,
+        };
+        self.lose_not_reaching(outline, &restriction, lost, atom.owner());
     }
 }

@@ -14,20 +14,18 @@ use Rattle.outline.specs.Atoms.{Same}
 use Rattle.marks.proofs.Squares.{refuted}
 use Rattle.points.specs.declared.Pairs.{Pairs}
 use Rattle.points.specs.declared.Classified.{Classified}
-use Rattle.points.specs.declared.Subsumee.{Subsumee}
 use Rattle.points.specs.Grids.{Pair}
 use Rattle.question.specs.Refusals.{answer_number}
-use Rattle.points.specs.Roots.{outline_of}
 use Rattle.question.specs.Evaluation.{axioms_in, root_point, Lost}
 
-module _ {g : Classified} {c : Subsumee} {o : Outline} {l : Pairs} (lost : Lost g c o l) (whole : 0 < (outline_of c).extent.roots) {d e : Concept}
-    (below : Same (axioms_in g) d (root_point (outline_of c) 0)) (above : Same (axioms_in g) e (root_point o 0)) where
+module _ {g : Classified} {c o : Outline} {l : Pairs} (lost : Lost g c o l) (whole : 0 < c.extent.roots) {d e : Concept}
+    (below : Same (axioms_in g) d (root_point c 0)) (above : Same (axioms_in g) e (root_point o 0)) where
   pub verdict : (b : Bool) → Tells b (Pair l 0 0) → IsAnswer (axioms_in g) d e (answer_number (not b))
   verdict true tells = record {
     small = omega arith;
-    derivable = (λ e. absurd (omega arith), λ q. absurd ((lost.kept.row 0 (omega arith)).lost 0 whole (tells.sound refl) (below.from ▹ q ▹ above.to)));
+    derivable = (λ e. absurd (omega arith), λ q. absurd (lost.kept.lost 0 whole (tells.sound refl) (below.from ▹ q ▹ above.to)));
   }
   verdict false tells = record {
     small = omega arith;
-    derivable = (λ e. below.to ▹ (lost.kept.row 0 (omega arith)).kept 0 whole (refuted tells refl) ▹ above.from, λ q. refl);
+    derivable = (λ e. below.to ▹ lost.kept.kept 0 whole (refuted tells refl) ▹ above.from, λ q. refl);
   }

@@ -4,7 +4,9 @@
 --   RowAbove g a k c           row k of a has the names above c, as far as they are not defined by a conjunction
 --   Above g a atoms            each row does, for the root of its number
 --   KeptRow c al point e l j d   row j of l, of c places, has lost, of the points below e, just those that do not lie below d
---   Kept c al point e l atoms    each row has, for the root of its number
+--   atom_in o i                  atom i of the outline o, with the whole of its filler
+--   Sifted c al point e l o Done   the rows of l have lost only points that do not lie below their roots, by o, and all that do not lie below an atom
+--                                  of which Done holds
 use Rattle.std.specs.Prelude.{◌≡◌, List, ℕ, ◌<◌}
 use Rattle.el.specs.Concepts.{Concept, name, concept_of}
 use Rattle.el.specs.Axioms.{Axiom}
@@ -17,7 +19,7 @@ use Rattle.marks.specs.Lines.{Empty}
 use Rattle.classification.specs.Inclusions.{node_at, Inclusions}
 use Rattle.outline.specs.declared.Outline.{Outline}
 use Rattle.outline.specs.declared.Atom.{Atom}
-use Rattle.outline.specs.Atoms.{written, root_of, Shape}
+use Rattle.outline.specs.Atoms.{value_at, owner_at, child_at, written, atom_concept, root_of, Shape}
 use Rattle.points.specs.declared.Grid.{Grid}
 use Rattle.points.specs.declared.Pairs.{Pairs}
 use Rattle.points.specs.declared.Classified.{Classified}
@@ -47,9 +49,6 @@ pub record KeptRow (c : ℕ) (al : List Axiom) (point : ℕ → Concept) (e : �
   pub lost : (x : ℕ) → x < e → SetIn c l j x → Derives al (point x) d → ⊥
   pub kept : (x : ℕ) → x < e → (SetIn c l j x → ⊥) → Derives al (point x) d
 
-pub record Kept (c : ℕ) (al : List Axiom) (point : ℕ → Concept) (e : ℕ) (l : List ℕ) (atoms : List Atom) : Type 0 where
-  pub row : (j : ℕ) → j < most_roots → KeptRow c al point e l j (root_of atoms j)
-
 -- the two kinds of points
 abbrev pub node_point : ℕ → ℕ → Concept
 node_point n x = concept_of (node_at n x)
@@ -65,17 +64,34 @@ pub record ToFill (g : Classified) (o : Outline) (a : Grid) : Type 0 where
 pub record Filled (g : Classified) (o : Outline) (a : Grid) : Type 0 where
   pub above : Above g a (written o)
 
+abbrev pub atom_in : Outline → ℕ → Concept
+atom_in o i = atom_concept (child_at o.atoms i) (value_at o.atoms i) (root_point o (child_at o.atoms i))
+
+pub record Sifted (c : ℕ) (al : List Axiom) (point : ℕ → Concept) (e : ℕ) (l : List ℕ) (o : Outline) (Done : ℕ → Type 0) : Type 0 where
+  pub lost : (j x : ℕ) → j < most_roots → x < e → SetIn c l j x → Derives al (point x) (root_point o j) → ⊥
+  pub kept : (i x : ℕ) → i < o.extent.atoms → Done i → x < e → (SetIn c l (owner_at o.atoms i) x → ⊥) → Derives al (point x) (atom_in o i)
+
 -- c: C, its outline with the rows above its roots; o: the outline of D
-pub record ToLose (g : Classified) (c : Subsumee) (o : Outline) (nodes : Grid) (roots : Pairs) : Type 0 where
+pub record ToSift (g : Classified) (c : Subsumee) (o : Outline) (roots : Pairs) : Type 0 where
   pub world : World g
   pub from : Shape g.square.names (outline_of c)
   pub filled : Filled g (outline_of c) c.above.now
   pub shape : Shape g.square.names o
-  pub nodes_blank : Blank nodes
-  pub roots_blank : Empty roots.rows
+  pub blank : Empty roots.rows
 
-pub record Lost (g : Classified) (c : Subsumee) (o : Outline) (roots : Pairs) : Type 0 where
-  pub kept : Kept most_roots (axioms_in g) (root_point (outline_of c)) (outline_of c).extent.roots roots.rows (written o)
+-- c and o: the outlines of C and D
+pub record NamesSifted (g : Classified) (c o : Outline) (roots : Pairs) : Type 0 where
+  pub sifted : Sifted most_roots (axioms_in g) (root_point c) c.extent.roots roots.rows o (λ i. child_at o.atoms i ≡ 0)
+
+pub record ToLose (g : Classified) (c o : Outline) (nodes : Grid) (roots : Pairs) : Type 0 where
+  pub world : World g
+  pub from : Shape g.square.names c
+  pub shape : Shape g.square.names o
+  pub blank : Blank nodes
+  pub names : NamesSifted g c o roots
+
+pub record Lost (g : Classified) (c o : Outline) (roots : Pairs) : Type 0 where
+  pub kept : KeptRow most_roots (axioms_in g) (root_point c) c.extent.roots roots.rows 0 (root_point o 0)
 
 pub record ToDecide (g : Classified) (width : ℕ) (c d : List ℕ) : Type 0 where
   pub world : World g

@@ -6,14 +6,22 @@ use Rattle.question.proofs.evaluation.decide.Goals as goal
 pub fill_above-requires : goal.fill_above-requires
 fill_above-requires c = record { world = c.requires.world; shape = (c.of-outline_below.ensures _ _ _ c.requires.below_text).shape; blank = empty_zeros 16384 }
 
-pub lose_all-requires : goal.lose_all-requires
-lose_all-requires c = record {
+pub sift_by_names-requires : goal.sift_by_names-requires
+sift_by_names-requires c = record {
   world = c.requires.world;
   from = (c.of-outline_below.ensures _ _ _ c.requires.below_text).shape;
   filled = c.fill_above.ensures;
   shape = (c.of-outline_above.ensures _ _ _ c.requires.above_text).shape;
-  nodes_blank = empty_zeros 16384;
-  roots_blank = empty_zeros 2048;
+  blank = empty_zeros 2048;
+}
+
+pub lose_all-requires : goal.lose_all-requires
+lose_all-requires c = record {
+  world = c.requires.world;
+  from = (c.of-outline_below.ensures _ _ _ c.requires.below_text).shape;
+  shape = (c.of-outline_above.ensures _ _ _ c.requires.above_text).shape;
+  blank = empty_zeros 16384;
+  names = c.sift_by_names.ensures;
 }
 
 pub returns : goal.returns
