@@ -11,7 +11,6 @@ ghost use Rattle.marks.specs.Lines.{Spans, Empty};
 
 use crate::{Classified, Grid, Restriction, Subsumer};
 use marks::line;
-use marks::line::Line;
 use outline::{Atom, Conjunct};
 
 impl Classified<'_> {
@@ -30,7 +29,7 @@ impl Classified<'_> {
 
     // Adds to the line the names that do not serve: no node lies below ∃ of the role over the root by one of them. Names are numbers here, which no
     // slice holds.
-    pub fn find_idle(&self, lost: &Grid, idle: &mut [u8], role: usize, root: usize)
+    fn find_idle(&self, lost: &Grid, idle: &mut [u8], role: usize, root: usize)
         requires ranged { Ranged self.now }
         requires spans { Spans self.now.square.names idle.old × Empty idle.old × (root < most_roots) }
         ensures { Idle self.now lost.now role root idle.new }
@@ -43,7 +42,7 @@ impl Classified<'_> {
     }
 
     // The same for an atom, where it is an ∃.
-    fn find_idle_of(&self, atom: Atom, lost: &Grid, idle: &mut [u8])
+    pub fn find_idle_of(&self, atom: Atom, lost: &Grid, idle: &mut [u8])
         requires ranged { Ranged self.now }
         requires spans { Spans self.now.square.names idle.old × Empty idle.old }
         requires child_lt_most_roots { child_number atom < most_roots }
@@ -91,7 +90,7 @@ impl Classified<'_> {
 
     // Takes the nodes that do not lie below an atom from the row of its owner, given a line of names by which none does.
     // Atom, grid and line stand apart and not as a `Subsumer`, which lends the grid to be read: it is written here.
-    fn lose_nodes_but(&self, atom: Atom, lost: &mut Grid, idle: &[u8])
+    pub fn lose_nodes(&self, atom: Atom, lost: &mut Grid, idle: &[u8])
         requires of_atom { OfAtom self.now atom }
         requires idle { IdleOf self.now lost.old atom idle.now }
         ensures { NodesLost self.now atom lost.old lost.new }
@@ -105,16 +104,5 @@ impl Classified<'_> {
                 lost.add(row, node);
             }
         }
-    }
-
-    // The same, with that line found once for all nodes.
-    pub fn lose_nodes(&self, atom: Atom, lost: &mut Grid)
-        requires { OfAtom self.now atom }
-        ensures { NodesLost self.now atom lost.old lost.new }
-    {
-        // as long as any line, since there is no heap
-        let mut idle = [0; Line::LENGTH];
-        self.find_idle_of(atom, lost, &mut idle);
-        self.lose_nodes_but(atom, lost, &idle);
     }
 }

@@ -5,10 +5,10 @@ ghost use Rattle.std.specs.Prelude.{◌≤◌, ◌<◌, length};
 ghost use Rattle.el.proofs.Tests.{Tells};
 ghost use Rattle.marks.specs.Lines.{Empty};
 ghost use Rattle.points.specs.Grids.{most_roots, root_bytes};
-ghost use Rattle.points.specs.Nodes.{IdleFor};
+ghost use Rattle.points.specs.Nodes.{IdleBy, IdleFor, NodesLost};
 ghost use Rattle.points.specs.Roots.{AtomReaches, Reaching, FromRoot, FromRoots, OfNode, OfName, OfAtom, NodeLost, RestrictionLost, NamesLost, RootsLost};
 
-use crate::{Classified, Grid, Pairs, ROOT_BYTES, Restriction, Subsumee};
+use crate::{Classified, Grid, Pairs, ROOT_BYTES, Restriction, Subsumee, Subsumer};
 use marks::line;
 use marks::line::Line;
 use outline::{Atom, Conjunct, Outline};
@@ -95,22 +95,34 @@ impl Classified<'_> {
     }
 
     // The same where it is an ∃. The grids have the rows of its child.
-    pub fn lose_under_some(&self, outline: &Outline, atom: Atom, nodes: &Grid, lost: &mut Pairs)
-        requires { OfAtom self.now outline.now atom }
-        ensures { RootsLost self.now outline.now atom nodes.now lost.old lost.new }
+    fn lose_under_some(&self, outline: &Outline, subsumer: &Subsumer, lost: &mut Pairs)
+        requires of_atom { OfAtom self.now outline.now subsumer.now.atom }
+        requires idle { IdleBy self.now subsumer.now }
+        ensures { RootsLost self.now outline.now subsumer.now.atom subsumer.now.lost.now lost.old lost.new }
     {
-        let Conjunct::Restriction { role, filler } = atom.conjunct else {
+        let Conjunct::Restriction { role, filler } = subsumer.atom.conjunct else {
             return;
         };
+        let restriction = subsumer.restriction(role, filler);
+        self.lose_not_reaching(outline, &restriction, lost, subsumer.atom.owner());
+    }
+
+    // Takes the nodes that do not lie below an atom of D from the row of its owner, and the roots of C where it is an ∃. The names by which no node
+    // does are found once for both.
+    pub fn lose_points(&self, outline: &Outline, atom: Atom, nodes: &mut Grid, lost: &mut Pairs)
+        requires { OfAtom self.now outline.now atom }
+        ensures roots { RootsLost self.now outline.now atom nodes.old lost.old lost.new }
+        ensures nodes { NodesLost self.now atom nodes.old nodes.new }
+    {
         // as long as any line, since there is no heap
         let mut idle = [0; Line::LENGTH];
-        self.find_idle(nodes, &mut idle, usize::from(role), usize::from(filler));
-        let restriction = Restriction {
-            role: usize::from(role),
-            root: usize::from(filler),
+        self.find_idle_of(atom, nodes, &mut idle);
+        let subsumer = Subsumer {
+            atom,
             lost: nodes,
             idle: &idle,
         };
-        self.lose_not_reaching(outline, &restriction, lost, atom.owner());
+        self.lose_under_some(outline, &subsumer, lost);
+        self.lose_nodes(atom, nodes, &idle);
     }
 }

@@ -35,7 +35,6 @@ use Rattle.points.specs.Grids.{most_roots, most_nodes}
 use Rattle.points.specs.Above.{Ranges, InRange, Risen}
 use Rattle.points.specs.Above as above
 use Rattle.points.specs.Nodes.{Inclusive, NodesLost}
-use Rattle.points.specs.Nodes as nodes
 use Rattle.points.specs.Roots.{outline_of, UnderName, UnderSome, NamesLost, RootsLost}
 use Rattle.points.specs.Roots as roots
 use Rattle.question.specs.Evaluation.{World, axioms_in, Above, KeptRow, node_point, root_point, atom_in, Sifted, ToFill, ToSift, NamesSifted, ToLose, Lost}
@@ -62,9 +61,6 @@ module _ {g : Classified} (world : World g) where
 
     pub fill_atom : above.OfAtom g (atom_at o.atoms i)
     fill_atom = record { ranges = ranges; room = world.room; atom = in_range }
-
-    pub node_atom : nodes.OfAtom g (atom_at o.atoms i)
-    node_atom = record { inclusive = inclusive; atom = in_range }
 
     pub name_atom : {c : Subsumee} → Shape g.square.names (outline_of c) → roots.OfName g c (atom_at o.atoms i)
     name_atom from = record { ranges = ranges; few = from.few; atom = in_range }

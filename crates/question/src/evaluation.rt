@@ -44,8 +44,7 @@ fn lose_all(
     ensures { Lost classified.now below.now outline.now roots.new }
 {
     for atom in outline.atoms().iter().rev() {
-        classified.lose_under_some(below, *atom, nodes, roots);
-        classified.lose_nodes(*atom, nodes);
+        classified.lose_points(below, *atom, nodes, roots);
     }
 }
 

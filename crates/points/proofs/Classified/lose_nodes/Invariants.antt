@@ -1,7 +1,7 @@
--- `lose_nodes_but` meets its contract: of the nodes before, the owner's row lost those that do not lie below the atom.
+-- `lose_nodes` meets its contract: of the nodes before, the owner's row lost those that do not lie below the atom.
 use Rattle.points.specs.Grids.{most_nodes, Adds}
 use Rattle.points.specs.Nodes.{NodeBelow}
-use Rattle.points.proofs.Classified.lose_nodes_but.Given as goal
+use Rattle.points.proofs.Classified.lose_nodes.Given as goal
 
 abbrev pub invariant-loop-node : goal.invariant-loop-node
 invariant-loop-node l =
