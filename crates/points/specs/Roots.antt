@@ -87,10 +87,10 @@ pub record NodeLost (g : Classified) (c : Subsumee) (row y : ℕ) (l v : Pairs) 
   pub adds : Adds most_roots row (outline_of c).extent.roots (λ k. RootBelow g c.above.now k y → ⊥) (λ k. RootBelow g c.above.now k y) l.rows v.rows
 
 pub record RestrictionLost (g : Classified) (o : Outline) (row : ℕ) (x : Restriction) (l v : Pairs) : Type 0 where
-  pub adds : Adds most_roots row o.extent.roots (λ k. RootReaches g o x.lost.now l k x.role x.root → ⊥) (λ k. RootReaches g o x.lost.now l k x.role x.root) l.rows v.rows
+  pub adds : Adds most_roots row most_roots (λ k. RootReaches g o x.lost.now l k x.role x.root → ⊥) (λ k. RootReaches g o x.lost.now l k x.role x.root) l.rows v.rows
 
 pub record NamesLost (g : Classified) (c : Subsumee) (b : Atom) (l v : Pairs) : Type 0 where
   pub adds : Adds most_roots b.owner (outline_of c).extent.roots (λ k. UnderName g c b k → ⊥) (UnderName g c b) l.rows v.rows
 
 pub record RootsLost (g : Classified) (o : Outline) (b : Atom) (ln : Grid) (l v : Pairs) : Type 0 where
-  pub adds : Adds most_roots b.owner o.extent.roots (λ k. UnderSome g o b ln l k → ⊥) (UnderSome g o b ln l) l.rows v.rows
+  pub adds : Adds most_roots b.owner most_roots (λ k. UnderSome g o b ln l k → ⊥) (UnderSome g o b ln l) l.rows v.rows

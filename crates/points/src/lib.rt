@@ -80,16 +80,16 @@ impl Pairs {
         line::add(&mut self.rows, row * ROOTS + root);
     }
 
-    // Adds to a row the roots of the first so many that a line does not have.
-    fn add_outside(&mut self, line: &[u8], row: usize, roots: usize)
+    // Adds to a row the roots that a line does not have, eight at a time. By an index, since a proof knows nothing of what a `zip` over `iter_mut` has
+    // written.
+    fn add_outside(&mut self, line: &[u8], row: usize)
         requires row { row < most_roots }
-        requires line { (root_bytes ≤ length line.now) × (roots ≤ most_roots) }
-        ensures { Adds most_roots row roots (λ root. Has line.now root → ⊥) (Has line.now) self.old.rows self.new.rows }
+        requires line { root_bytes ≤ length line.now }
+        ensures { Adds most_roots row most_roots (λ root. Has line.now root → ⊥) (Has line.now) self.old.rows self.new.rows }
     {
-        for root in 0..roots {
-            if !line::has(line, root) {
-                self.add(row, root);
-            }
+        let start = row * ROOT_BYTES;
+        for i in 0..ROOT_BYTES {
+            self.rows[start + i] |= 255 ^ line[i];
         }
     }
 }

@@ -81,7 +81,7 @@ impl Classified<'_> {
     {
         let mut reaching = [0; ROOT_BYTES];
         self.find_reaching(outline, restriction, lost, &mut reaching);
-        lost.add_outside(&reaching, row, outline.extent.roots);
+        lost.add_outside(&reaching, row);
     }
 
     // Takes the roots of C that do not lie below an atom of D from the row of its owner, where the atom is a name.

@@ -21,13 +21,13 @@ pub sifted_none : {c : ℕ} {al : List Axiom} {point : ℕ → Concept} {e : ℕ
     → Sifted c al point e l o Done
 sifted_none empty none = record { lost = λ j x h m k q. empty.none _ k; kept = λ i x h done m k. absurd (none i h done) }
 
--- atom i, where This holds
-module _ {c : ℕ} {al : List Axiom} {point : ℕ → Concept} {e : ℕ} (few : e ≤ c) {n : ℕ} {o : Outline} (shape : Shape n o) {i : ℕ} (h : i < o.extent.atoms)
+-- atom i, where This holds; the row may lose places behind the points too
+module _ {c : ℕ} {al : List Axiom} {point : ℕ → Concept} {e f : ℕ} (few : e ≤ f) (wide : f ≤ c) {n : ℕ} {o : Outline} (shape : Shape n o) {i : ℕ} (h : i < o.extent.atoms)
     {This : Type 0} {Below Old New : ℕ → Type 0} (sound : This → (x : ℕ) → x < e → Below x → Derives al (point x) (atom_in o i))
     (complete : (x : ℕ) → x < e → Derives al (point x) (atom_in o i) → Below x) (step : (j : ℕ) → New j → Old j ⊎ ((j ≡ i) × This))
-    {l v : List ℕ} (before : Sifted c al point e l o Old) (adds : Adds c (owner_at o.atoms i) e (λ x. Below x → ⊥) Below l v) where
+    {l v : List ℕ} (before : Sifted c al point e l o Old) (adds : Adds c (owner_at o.atoms i) f (λ x. Below x → ⊥) Below l v) where
   this_kept : This → (x : ℕ) → x < e → (SetIn c v (owner_at o.atoms i) x → ⊥) → Derives al (point x) (atom_in o i)
-  this_kept this x m k = elim (adds.all x m) [ inl z ↦ absurd (k z) | inr z ↦ sound this x m z ]
+  this_kept this x m k = elim (adds.all x (omega arith)) [ inl z ↦ absurd (k z) | inr z ↦ sound this x m z ]
 
   pub sifted_more : Sifted c al point e v o New
   sifted_more = record {

@@ -143,7 +143,7 @@ module _ {g : Classified} {c : Subsumee} {o : Outline} {l : Pairs} (given : ToSi
         by_place (no z) = inl (omega (arith, done.0), done.1)
 
     pub sift_turn : Sifting g (outline_of c) o (e + 1) y
-    sift_turn = record { sifted = sifted_more given.from.few given.shape h sound complete step sifting.sifted lost.adds }
+    sift_turn = record { sifted = sifted_more (omega arith) given.from.few given.shape h sound complete step sifting.sifted lost.adds }
 
   pub sift_end : {e : ℕ} {x : Pairs} → o.extent.atoms ≤ e → Sifting g (outline_of c) o e x → NamesSifted g (outline_of c) o x
   sift_end h sifting = record { sifted = record { lost = sifting.sifted.lost; kept = λ i x inside done m k. sifting.sifted.kept i x inside (omega arith, done) m k } }
@@ -211,10 +211,10 @@ module _ {g : Classified} {c o : Outline} {ln : Grid} {l : Pairs} (given : ToLos
 
     pub lose_turn : Losing g c o (left - 1) yn y
     lose_turn = record {
-      nodes = sifted_more (omega (arith, given.world.few)) given.shape inside
+      nodes = sifted_more (omega arith) (omega (arith, given.world.few)) given.shape inside
           (λ z k m b. node_below_sound given.world nodes_row (given.shape.named i inside) k (omega arith) b)
           (λ k m b. node_below_complete given.world nodes_row (given.shape.named i inside) k (omega arith) b) node_step losing.nodes nodes_lost.adds;
-      roots = sifted_more given.from.few given.shape inside root_sound root_complete root_step losing.roots roots_lost.adds;
+      roots = sifted_more given.from.few (omega arith) given.shape inside root_sound root_complete root_step losing.roots roots_lost.adds;
     }
 
   pub lose_end : {left : ℕ} {xn : Grid} {x : Pairs} → left ≤ 0 → Losing g c o left xn x → Lost g c o x
