@@ -24,8 +24,8 @@ impl Classified<'_> {
         match atom.conjunct {
             Conjunct::Name(name) => self.node_reaches(restriction, usize::from(name)),
             Conjunct::Restriction { role, filler } => {
-                let kept = !lost.has(restriction.root, usize::from(filler));
-                kept && usize::from(role) == restriction.role
+                let same_role = usize::from(role) == restriction.role;
+                same_role && !lost.has(restriction.root, usize::from(filler))
             }
         }
     }
@@ -44,12 +44,8 @@ impl Classified<'_> {
         ensures { Reaching self.now outline.now outline.now.extent.atoms restriction.now.lost.now lost.now restriction.now.role restriction.now.root reaching.new }
     {
         for atom in outline.atoms() {
-            let owner = atom.owner();
-            if line::has(reaching, owner) {
-                continue;
-            }
             if self.atom_reaches(*atom, restriction, lost) {
-                line::add(reaching, owner);
+                line::add(reaching, atom.owner());
             }
         }
     }
