@@ -1,10 +1,11 @@
 -- P1 to P10 and the examples of our own: tested all at once by computing, and so true of the definitions.
+--   lie s c d          how two concepts lie, by the answers that crate el computes
 --   passes e           the test of an example
 --   examples_hold      each example of the table holds
 use mathlib.Core.Path.{◌≡◌, refl, ap₂}
 use mathlib.Core.Bool.{Bool, true, false, ◌&&◌, false≢true}
 use mathlib.Core.List.{List, [], ◌∷◌}
-use Prim.Native.Nat.{ℕ}
+use Prim.Native.Nat.{ℕ, ◌+◌, ◌*◌}
 use lib.Dec.{eqb}
 use borrow.Author.Tests.{eqb-true}
 use Rattle.el.specs.Lists.{pick, all, Every}
@@ -25,11 +26,15 @@ same_bytes [] (y ∷ ys) = false
 same_bytes (x ∷ xs) [] = false
 same_bytes (x ∷ xs) (y ∷ ys) = eqb x y && same_bytes xs ys
 
+abbrev pub lie : List ℕ → List ℕ → List ℕ → ℕ
+lie s c d = pick (is_included (names_of s) (axioms_of s) (concept_in s c) (concept_in s d)) 1 0
+    + 2 * pick (is_included (names_of s) (axioms_of s) (concept_in s d) (concept_in s c)) 1 0
+
 abbrev pub passes : Example → Bool
 passes (compared s t g r) = eqb (fault s) 0 &&
     (eqb (fault t) 0 && (eqb (names_of s) (names_of t) &&
     (eqb (roles_of s) (roles_of t) && (eqb (signature_fault (names_of s) (roles_of s) g) 0 && same_bytes (comparison_bytes (names_of s) (chosen s g) (axioms_of s) (axioms_of t)) r))))
-passes (asked s c d v) = eqb (fault s) 0 && (text_ok s c && (text_ok s d && eqb (pick (is_included (names_of s) (axioms_of s) (concept_in s c) (concept_in s d)) 1 0) v))
+passes (asked s c d v) = eqb (fault s) 0 && (text_ok s c && (text_ok s d && eqb (lie s c d) v))
 
 same_bytes_lem : (xs ys : List ℕ) → same_bytes xs ys ≡ true → xs ≡ ys
 same_bytes_lem [] [] h = refl
@@ -61,7 +66,7 @@ passes_holds (asked s c d v) h =
       below = and_left (text_ok s c) _ a;
       above = and_left (text_ok s d) _ b;
     } in
-    let e = eqb-true (pick (is_included (names_of s) (axioms_of s) (concept_in s c) (concept_in s d)) 1 0) v (and_right (text_ok s d) _ b) in
+    let e = eqb-true (lie s c d) v (and_right (text_ok s d) _ b) in
     record { accepted = given; answer = rw e at (question_answer given) }
 
 all_pass : all passes examples ≡ true

@@ -2,11 +2,11 @@
 --   comparable           the axioms of accepted files, with an accepted signature, can be compared
 --   demand3              demand 3
 --   comparison_bytes_lem     the bytes that crate el computes are the bytes of the comparison
---   question_answer      and so with the answer of a question
+--   question_answer      and so with the answer of a question, both ways
 use mathlib.Core.Path.{◌≡◌, refl}
 use mathlib.Core.Bool.{Bool, true, false, false≢true}
 use mathlib.Core.List.{List}
-use Prim.Native.Nat.{ℕ}
+use Prim.Native.Nat.{ℕ, ◌+◌, ◌*◌}
 use native.Mathlib.Omega.{arith}
 use borrow.Author.Tests.{ltb-true}
 use lib.Dec.{ltb}
@@ -26,6 +26,7 @@ use Rattle.release.proofs.Linked.{formed, terminology}
 use Rattle.concept.specs.Bytes.{is_within}
 use Rattle.concept.proofs.Texts.{accepted_is_text}
 use Rattle.demands.specs.Inputs.{chosen, Accepted, text_ok, AcceptedQuestion, concept_in, Demand3}
+use Rattle.demands.specs.Lying.{Lies}
 
 pub comparable : {s t g : List ℕ} → Accepted s t g → Comparable (names_of s) (chosen s g) (axioms_of s) (axioms_of t)
 comparable {s} {t} {g} given = record {
@@ -54,9 +55,13 @@ told true t = record { small = omega arith; derivable = (λ e. t.sound refl, λ 
 told false t = record { small = omega arith; derivable = (λ e. absurd (omega arith), λ p. absurd (false≢true (t.complete p))) }
 
 pub question_answer : {s c d : List ℕ} → AcceptedQuestion s c d
-    → IsAnswer (axioms_of s) (concept_in s c) (concept_in s d) (pick (is_included (names_of s) (axioms_of s) (concept_in s c) (concept_in s d)) 1 0)
-question_answer {s} {c} {d} given = told _
-    (tells_included (formed s given.release) (terminology s given.release) (concept_in s c) (concept_in s d) (scoped c given.below) (scoped d given.above))
+    → Lies (axioms_of s) (concept_in s c) (concept_in s d)
+    (pick (is_included (names_of s) (axioms_of s) (concept_in s c) (concept_in s d)) 1 0 + 2 * pick (is_included (names_of s) (axioms_of s) (concept_in s d) (concept_in s c)) 1 0)
+question_answer {s} {c} {d} given = record { upward = _; downward = _; below = direction c d given.below given.above; above = direction d c given.above given.below; number = refl }
   where
     scoped : (c : List ℕ) → text_ok s c ≡ true → Scoped (names_of s) (concept_in s c)
     scoped c h = within_scoped (names_of s) (roles_of s) (concept_in s c) (accepted_is_text (width_of s) (names_of s) (roles_of s) c h).within
+
+    direction : (a b : List ℕ) → text_ok s a ≡ true → text_ok s b ≡ true
+        → IsAnswer (axioms_of s) (concept_in s a) (concept_in s b) (pick (is_included (names_of s) (axioms_of s) (concept_in s a) (concept_in s b)) 1 0)
+    direction a b h k = told _ (tells_included (formed s given.release) (terminology s given.release) (concept_in s a) (concept_in s b) (scoped a h) (scoped b k))

@@ -1,3 +1,4 @@
 -- Theorems about files.
+pub mod Lying
 pub mod Files
 pub mod Examples

@@ -3,10 +3,10 @@
 --   Holds e        the input of the example e is accepted, and its outcome is the one written
 --   examples       the table
 use Rattle.std.specs.Prelude.{List, [], ◌∷◌, ℕ}
-use Rattle.el.specs.Derivability.{IsAnswer}
 use Rattle.el.specs.Comparison.{AreBytes}
 use Rattle.release.specs.Files.{names_of, axioms_of}
 use Rattle.demands.specs.Inputs.{chosen, Accepted, AcceptedQuestion, concept_in}
+use Rattle.demands.specs.Lying.{Lies}
 
 pub data Example : Type 0 where
   compared : (first second signature result : List ℕ) → Example
@@ -18,7 +18,7 @@ pub record Compared (s t g r : List ℕ) : Type 0 where
 
 pub record Asked (s c d : List ℕ) (v : ℕ) : Type 0 where
   pub accepted : AcceptedQuestion s c d
-  pub answer : IsAnswer (axioms_of s) (concept_in s c) (concept_in s d) v
+  pub answer : Lies (axioms_of s) (concept_in s c) (concept_in s d) v
 
 abbrev pub Holds : Example → Type 0
 Holds (compared s t g r) = Compared s t g r
@@ -104,13 +104,13 @@ examples =
     ∷ compared endless_1 endless_2 (1 ∷ 0 ∷ 1 ∷ 1 ∷ []) (0 ∷ 0 ∷ [])
     ∷ compared endless_2 endless_1 (1 ∷ 0 ∷ 1 ∷ 1 ∷ []) (0 ∷ 0 ∷ [])
     ∷ compared endless_1 endless_2 (1 ∷ 1 ∷ 1 ∷ 1 ∷ []) (2 ∷ 0 ∷ [])
-    -- P10: ∃r.A ⊑ A, A ⊑ ∃r.A
+    -- P10: ∃r.A and A, A and ∃r.A
     ∷ asked anything (3 ∷ 0 ∷ 1 ∷ 0 ∷ []) (1 ∷ 0 ∷ []) 1
-    ∷ asked anything (1 ∷ 0 ∷ []) (3 ∷ 0 ∷ 1 ∷ 0 ∷ []) 0
-    -- our own: a name that means everything against one left undefined, each order; ⊤ lies below it
+    ∷ asked anything (1 ∷ 0 ∷ []) (3 ∷ 0 ∷ 1 ∷ 0 ∷ []) 2
+    -- our own: a name that means everything against one left undefined, each order; ⊤ and it lie below each other
     ∷ compared any_entry no_axiom (1 ∷ 1 ∷ []) (2 ∷ 1 ∷ [])
     ∷ compared no_axiom any_entry (1 ∷ 1 ∷ []) (0 ∷ 0 ∷ [])
-    ∷ asked any_entry (0 ∷ []) (1 ∷ 0 ∷ []) 1
+    ∷ asked any_entry (0 ∷ []) (1 ∷ 0 ∷ []) 3
     -- our own: such a name as a filler, each order
     ∷ compared named_filler top_filler (1 ∷ 0 ∷ 1 ∷ []) (0 ∷ 0 ∷ [])
     ∷ compared top_filler named_filler (1 ∷ 0 ∷ 1 ∷ []) (0 ∷ 0 ∷ [])

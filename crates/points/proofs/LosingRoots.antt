@@ -21,7 +21,7 @@ use Rattle.points.specs.declared.Pairs.{Pairs}
 use Rattle.points.specs.declared.Classified.{Classified}
 use Rattle.points.specs.declared.Restriction.{Restriction}
 use Rattle.points.specs.Grids.{most_roots, root_bytes, Adds}
-use Rattle.points.specs.Roots.{AtomReaches, RootReaches, Reaching, RestrictionLost}
+use Rattle.points.specs.Roots.{AtomReaches, RootReaches, Reaching, LostNotReaching}
 use Rattle.points.proofs.Grids.{adds_as}
 
 -- an atom of a loop over the atoms that are written
@@ -68,7 +68,7 @@ module _ {g : Classified} {o : Outline} {ln : Grid} {l : Pairs} {r j : ℕ} wher
 
 -- the line of all atoms, and the row that lost what is outside
 pub lost_outside : {g : Classified} {o : Outline} {x : Restriction} {row : ℕ} {l m : Pairs} {v : List ℕ} → Reaching g o o.extent.atoms x.lost.now l x.role x.root v
-    → Adds most_roots row most_roots (λ k. Has v k → ⊥) (Has v) l.rows m.rows → RestrictionLost g o row x l m
+    → Adds most_roots row most_roots (λ k. Has v k → ⊥) (Has v) l.rows m.rows → LostNotReaching g o row x l m
 lost_outside {g} {o} {x} {row} {l} {m} {v} reaching adds = record { adds = adds_as (λ k n h. n (back k h)) (λ k h. reaching.sound k h) adds }
   where
     back : (k : ℕ) → RootReaches g o x.lost.now l k x.role x.root → Has v k

@@ -5,8 +5,8 @@
 --   Reaching g o e ln l r j v       the line v has just roots of which an atom does, and all those of which one of the first e atoms does
 --   UnderName g c b k               root k of C lies below the atom b of D, where that is a name
 --   UnderSome g o b ln l k          and where it is an ∃
---   NodeLost g c k y l v            row k lost the roots that do not lie below the node y
---   RestrictionLost g o k x l v     row k lost the roots that do not lie below the ∃ x
+--   LostNotBelow g c k y l v        row k lost the roots that do not lie below the node y
+--   LostNotReaching g o k x l v     row k lost the roots that do not lie below the ∃ x
 --   NamesLost g c b l v             the row of b's owner lost the roots that do not lie below b, where it is a name: the grid l became v
 --   RootsLost g o b ln l v          and where it is an ∃
 use Rattle.std.specs.Prelude.{◌≡◌, List, ℕ, ◌≤◌, ◌<◌, length}
@@ -57,7 +57,6 @@ pub record FromRoot (g : Classified) (e : Atom) (j : ℕ) : Type 0 where
 -- the atoms of C
 pub record AtomsInRange (n : ℕ) (o : Outline) : Type 0 where
   pub inside : o.extent.atoms ≤ length o.atoms
-  pub few : o.extent.roots ≤ most_roots
   pub owner : (i : ℕ) → i < o.extent.atoms → owner_at o.atoms i < most_roots
   pub each : (i : ℕ) → i < o.extent.atoms → ValueInRange n (atom_at o.atoms i)
 
@@ -83,10 +82,10 @@ pub record OfAtom (g : Classified) (o : Outline) (b : Atom) : Type 0 where
   pub from : AtomsInRange g.square.names o
   pub atom : InRange g.square.names b
 
-pub record NodeLost (g : Classified) (c : Subsumee) (row y : ℕ) (l v : Pairs) : Type 0 where
+pub record LostNotBelow (g : Classified) (c : Subsumee) (row y : ℕ) (l v : Pairs) : Type 0 where
   pub adds : Adds most_roots row (outline_of c).extent.roots (λ k. RootBelow g c.above.now k y → ⊥) (λ k. RootBelow g c.above.now k y) l.rows v.rows
 
-pub record RestrictionLost (g : Classified) (o : Outline) (row : ℕ) (x : Restriction) (l v : Pairs) : Type 0 where
+pub record LostNotReaching (g : Classified) (o : Outline) (row : ℕ) (x : Restriction) (l v : Pairs) : Type 0 where
   pub adds : Adds most_roots row most_roots (λ k. RootReaches g o x.lost.now l k x.role x.root → ⊥) (λ k. RootReaches g o x.lost.now l k x.role x.root) l.rows v.rows
 
 pub record NamesLost (g : Classified) (c : Subsumee) (b : Atom) (l v : Pairs) : Type 0 where

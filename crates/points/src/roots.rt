@@ -6,7 +6,7 @@ ghost use Rattle.el.proofs.Tests.{Tells};
 ghost use Rattle.marks.specs.Lines.{Empty};
 ghost use Rattle.points.specs.Grids.{most_roots, root_bytes};
 ghost use Rattle.points.specs.Nodes.{IdleBy, IdleFor, NodesLost};
-ghost use Rattle.points.specs.Roots.{AtomReaches, Reaching, FromRoot, FromRoots, OfNode, OfName, OfAtom, NodeLost, RestrictionLost, NamesLost, RootsLost};
+ghost use Rattle.points.specs.Roots.{AtomReaches, Reaching, FromRoot, FromRoots, OfNode, OfName, OfAtom, LostNotBelow, LostNotReaching, NamesLost, RootsLost};
 
 use crate::{Classified, Grid, Pairs, ROOT_BYTES, Restriction, Subsumee, Subsumer};
 use marks::line;
@@ -53,7 +53,7 @@ impl Classified<'_> {
     // Takes the roots of C that do not lie below a node from a row.
     fn lose_not_below(&self, subsumee: &Subsumee, node: usize, lost: &mut Pairs, row: usize)
         requires { OfNode self.now subsumee.now node row }
-        ensures { NodeLost self.now subsumee.now row node lost.old lost.new }
+        ensures { LostNotBelow self.now subsumee.now row node lost.old lost.new }
     {
         for root in 0..subsumee.outline.extent.roots {
             if !self.is_above(subsumee.above, root, node) {
@@ -73,7 +73,7 @@ impl Classified<'_> {
         requires from_roots { FromRoots self.now outline.now restriction.now.root }
         requires idle { IdleFor self.now restriction.now }
         requires row { row < most_roots }
-        ensures { RestrictionLost self.now outline.now row restriction.now lost.old lost.new }
+        ensures { LostNotReaching self.now outline.now row restriction.now lost.old lost.new }
     {
         let mut reaching = [0; ROOT_BYTES];
         self.find_reaching(outline, restriction, lost, &mut reaching);

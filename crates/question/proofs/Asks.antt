@@ -1,5 +1,5 @@
 -- What a question's tests show of its answer: one law for each answer.
---   to_classify, to_decide, answered      the steps of answering, by the memory that each leaves
+--   to_classify, to_place, answered       the steps of answering, by the memory that each leaves
 --   refuses_..                            the refusals, in their order
 --   answers                               an answer
 use mathlib.Core.Path.{◌≡◌, refl, sym, ap, ◌∙◌}
@@ -11,9 +11,7 @@ use borrow.Author.Tests.{lt-ltb, le-ltb, ne_eqb}
 use lib.ListN.{length}
 use Rattle.std.specs.Prelude.{Ok, Err}
 use Rattle.std.specs.Borrow.{Bor}
-use Rattle.el.specs.Concepts.{Concept}
-use Rattle.el.specs.Derivability.{IsAnswer}
-use Rattle.release.specs.Files.{fault, first_of, header_length, width_of, names_of, roles_of, axioms_of}
+use Rattle.release.specs.Files.{fault, first_of, header_length, width_of, names_of, roles_of}
 use Rattle.release.specs.Readings.{checked, counts_in}
 use Rattle.release.specs.Refusals.{Numbers, file_number, file_refusal}
 use Rattle.release.specs.Tables.{HasHeader, ReleaseRead}
@@ -35,8 +33,10 @@ use Rattle.classification.specs.Inclusions.{Unclassified, Classified}
 use Rattle.demands.specs.Inputs.{text_ok, concept_in}
 use Rattle.question.specs.declared.refusals.AskRefusal.{AskRefusal}
 use Rattle.question.specs.declared.refusals.AskRefusal.TheVariants as refusals
-use Rattle.question.specs.Refusals.{ask_refusal, answer_number}
-use Rattle.question.specs.Evaluation.{ToDecide}
+use Rattle.question.specs.declared.position.Position.{Position}
+use Rattle.question.specs.declared.position.Position.TheVariants.{Incomparable}
+use Rattle.question.specs.Refusals.{ask_refusal}
+use Rattle.question.specs.Evaluation.{ToPlace, Placed}
 use Rattle.question.specs.Asking.{refusal_number, refusal_side, AskedAs}
 use Rattle.question.specs.Answering.{ToAnswer, Answered}
 
@@ -82,8 +82,8 @@ module _ {x : Terminology} {c d w : List ℕ} (given : ToAnswer x c d w) where
       to_classify = record { release = given.release; names = names; area = area_in zeroed.long; unmarked = zeroed_unmarked zeroed (omega (arith, is, span_size n)) }
 
       module _ {u : Bor (List ℕ)} (classified : Classified x.file.now (record { base = 0; names = n }) v u.now) where
-        pub to_decide : ToDecide (record { terminology = x; work = u; square = record { base = 0; names = n } }) width c d
-        to_decide = record {
+        pub to_place : ToPlace (record { terminology = x; work = u; square = record { base = 0; names = n } }) width c d
+        to_place = record {
           world = record {
             release = given.release;
             names = names;
@@ -98,14 +98,13 @@ module _ {x : Terminology} {c d w : List ℕ} (given : ToAnswer x c d w) where
           above_text = text given.above;
         }
 
-      module _ {u : List ℕ} (classified : Classified x.file.now (record { base = 0; names = n }) v u) where
-        pub answered : {length : ℕ} {y : List ℕ} {r : Bool} → length ≡ 4 * size n → Zeroed length u y
-            → ((k m : ℕ) (a b : Concept) → IsTextOf width k m a c → IsTextOf width k m b d → IsAnswer (axioms_of x.file.now) a b (answer_number r))
+        pub answered : {length : ℕ} {y : List ℕ} {r : Position} → length ≡ 4 * size n → Zeroed length u.now y
+            → Placed (record { terminology = x; work = u; square = record { base = 0; names = n } }) width c d r
             → Answered x.file.now c d w y r
-        answered {length} all cleared held =
+        answered {length} all cleared placed =
             let z : length ≡ 4 * size (names_of x.file.now) = omega (arith, ap size names) in
             record {
-              held = held n (roles_of x.file.now) (concept_in x.file.now c) (concept_in x.file.now d) (text given.below) (text given.above);
+              held = placed.lies n (roles_of x.file.now) (concept_in x.file.now c) (concept_in x.file.now d) (text given.below) (text given.above);
               cleared = rw (← z) record {
                 long = cleared.long ∙ (classified.frame.long ∙ zeroed.long);
                 zero = cleared.zero;
@@ -121,7 +120,7 @@ first_positive (suc f) k h = refl
 module _ (s c d w : List ℕ) where
   refused_as : (e : AskRefusal) → 0 < (ask_refusal e).number → refusal_number s c d w ≡ (ask_refusal e).number → refusal_side s c d w ≡ (ask_refusal e).side → AskedAs s c d w w (Err e)
   refused_as e some number side = record {
-    value = false;
+    value = Incomparable;
     answer = rw side (refuses (ask_refusal e).side (ask_refusal e).number _ _ some number);
     unchanged = λ h. refl;
     held = λ h. absurd (omega arith);
@@ -188,7 +187,7 @@ module _ {s : List ℕ} {t : List table.Row} {counts : Counts} (read : ReleaseRe
                 let long : 4 * size (names_of s) ≤ length w = omega (arith, ap size names_are) in
                 rw (ok, tested c below z, tested d above e, le-ltb _ _ long)
 
-            pub answers : {v : List ℕ} {b : Bool} → Answered s c d w v b → AskedAs s c d w v (Ok b)
+            pub answers : {v : List ℕ} {b : Position} → Answered s c d w v b → AskedAs s c d w v (Ok b)
             answers {b = b} found = record {
               value = b;
               answer = accepts _ _ b none_refused;

@@ -8,3 +8,4 @@ pub mod BelowRoots
 pub mod Turns
 pub mod Verdicts
 pub mod Asks
+pub mod Exchanging

@@ -70,7 +70,6 @@ module _ {g : Classified} (world : World g) where
       inclusive = inclusive;
       from = record {
         inside = from.room;
-        few = from.few;
         owner = λ j m. omega (arith, from.owner j m, from.few);
         each = λ j m. record { child = omega (arith, from.child j m, from.few); named = from.named j m; rooted = from.rooted j m };
       };

@@ -1,31 +1,42 @@
--- What a question's arrays show of the answer.
---   verdict     the answer, by whether row 0 of D has lost root 0 of C
-use mathlib.Core.Path.{refl}
+-- What the rows show of the answer.
+--   verdict     one direction, by whether row 0 of D has lost root 0 of C
+--   lying       both, of any concepts that the outlines are of
+use mathlib.Core.Path.{◌≡◌, refl}
 use mathlib.Core.Bool.{Bool, true, false}
+use mathlib.Core.List.{List}
 use Rattle.std.specs.Prelude.{not}
-use Prim.Native.Nat.{◌<◌}
+use Prim.Native.Nat.{ℕ, ◌+◌, ◌*◌, ◌<◌}
 use native.Mathlib.Omega.{arith}
 use Rattle.el.specs.Concepts.{Concept}
-use Rattle.el.specs.Derivability.{IsAnswer}
-use Rattle.el.proofs.Tests.{Tells}
+use Rattle.el.specs.Axioms.{Axiom}
+use Rattle.el.specs.Derivability.{Derives, IsAnswer}
+use Rattle.el.proofs.Tests.{Tells, tells_as, tells_not}
 use Rattle.el.proofs.Derivations.{◌▹◌}
+use Rattle.demands.specs.Lying.{Lies}
+use Rattle.marks.proofs.Squares.{refuted}
 use Rattle.outline.specs.declared.Outline.{Outline}
 use Rattle.outline.specs.Atoms.{Same}
-use Rattle.marks.proofs.Squares.{refuted}
 use Rattle.points.specs.declared.Pairs.{Pairs}
 use Rattle.points.specs.declared.Classified.{Classified}
 use Rattle.points.specs.Grids.{Pair}
-use Rattle.question.specs.Refusals.{answer_number}
+use Rattle.question.specs.Positions.{answer_number}
 use Rattle.question.specs.Evaluation.{axioms_in, root_point, Lost}
 
-module _ {g : Classified} {c o : Outline} {l : Pairs} (lost : Lost g c o l) (whole : 0 < c.extent.roots) {d e : Concept}
-    (below : Same (axioms_in g) d (root_point c 0)) (above : Same (axioms_in g) e (root_point o 0)) where
-  pub verdict : (b : Bool) → Tells b (Pair l 0 0) → IsAnswer (axioms_in g) d e (answer_number (not b))
-  verdict true tells = record {
-    small = omega arith;
-    derivable = (λ e. absurd (omega arith), λ q. absurd (lost.kept.lost 0 whole (tells.sound refl) (below.from ▹ q ▹ above.to)));
-  }
-  verdict false tells = record {
-    small = omega arith;
-    derivable = (λ e. below.to ▹ lost.kept.kept 0 whole (refuted tells refl) ▹ above.from, λ q. refl);
-  }
+pub verdict : {g : Classified} {c o : Outline} {l : Pairs} → Lost g c o l → 0 < c.extent.roots → {b : Bool} → Tells b (Pair l 0 0)
+    → Tells (not b) (Derives (axioms_in g) (root_point c 0) (root_point o 0))
+verdict lost whole tells = tells_as (λ kept. lost.kept.kept 0 whole kept) (λ p k. lost.kept.lost 0 whole k p) (tells_not tells)
+
+module _ {al : List Axiom} {c d a b : Concept} (first : Same al c a) (second : Same al d b) where
+  direction : (t : Bool) → Tells t (Derives al a b) → IsAnswer al c d (answer_number t)
+  direction true tells = record { small = omega arith; derivable = (λ e. first.to ▹ tells.sound refl ▹ second.from, λ p. refl) }
+  direction false tells = record { small = omega arith; derivable = (λ e. absurd (omega arith), λ p. absurd (refuted tells refl (first.from ▹ p ▹ second.to))) }
+
+pub lying : {al : List Axiom} {c d a b : Concept} → Same al c a → Same al d b → {u v : Bool} → Tells u (Derives al a b) → Tells v (Derives al b a)
+    → {n : ℕ} → n ≡ answer_number u + 2 * answer_number v → Lies al c d n
+lying first second {u} {v} up down number = record {
+  upward = answer_number u;
+  downward = answer_number v;
+  below = direction first second u up;
+  above = direction second first v down;
+  number = number;
+}

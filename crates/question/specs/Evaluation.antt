@@ -1,12 +1,13 @@
 -- What the rows of marks mean that a question is answered by. The release and the square of the inclusions between its nodes are g.
---   World g                    the release is accepted, its table is its own, and the square has its inclusions
---   axioms_in g                its axioms
---   RowAbove g a k c           row k of a has the names above c, as far as they are not defined by a conjunction
---   Above g a atoms            each row does, for the root of its number
---   KeptRow c al point e l j d   row j of l, of c places, has lost, of the points below e, just those that do not lie below d
---   atom_in o i                  atom i of the outline o, with the whole of its filler
+--   World g                        the release is accepted, its table is its own, and the square has its inclusions
+--   axioms_in g                    its axioms
+--   RowAbove g a k c               row k of a has the names above c, as far as they are not defined by a conjunction
+--   Above g a atoms                each row does, for the root of its number
+--   KeptRow c al point e l j d     row j of l, of c places, has lost, of the points below e, just those that do not lie below d
+--   atom_in o i                    atom i of the outline o, with the whole of its filler
 --   Sifted c al point e l o Done   the rows of l have lost only points that do not lie below their roots, by o, and all that do not lie below an atom
 --                                  of which Done holds
+--   ToFill, Filled, ..             what the functions ask, and what they promise
 use Rattle.std.specs.Prelude.{◌≡◌, List, ℕ, ◌<◌}
 use Rattle.el.specs.Concepts.{Concept, name, concept_of}
 use Rattle.el.specs.Axioms.{Axiom}
@@ -14,6 +15,7 @@ use Rattle.el.specs.Derivability.{Derives}
 use Rattle.release.specs.Files.{names_of, axioms_of}
 use Rattle.release.specs.Tables.{kind_at, Release}
 use Rattle.concept.specs.Bytes.{IsTextOf}
+use Rattle.demands.specs.Lying.{Lies}
 use Rattle.marks.specs.Squares.{Room}
 use Rattle.marks.specs.Lines.{Empty}
 use Rattle.classification.specs.Inclusions.{node_at, Inclusions}
@@ -27,6 +29,8 @@ use Rattle.points.specs.declared.Subsumee.{Subsumee}
 use Rattle.points.specs.Grids.{most_roots, most_nodes, SetIn, Set, Blank}
 use Rattle.points.specs.Above.{file_in, table_in}
 use Rattle.points.specs.Roots.{outline_of}
+use Rattle.question.specs.declared.position.Position.{Position}
+use Rattle.question.specs.Positions.{position_number}
 
 pub record World (g : Classified) : Type 0 where
   pub release : Release (file_in g) (table_in g)
@@ -93,10 +97,21 @@ pub record ToLose (g : Classified) (c o : Outline) (nodes : Grid) (roots : Pairs
 pub record Lost (g : Classified) (c o : Outline) (roots : Pairs) : Type 0 where
   pub kept : KeptRow most_roots (axioms_in g) (root_point c) c.extent.roots roots.rows 0 (root_point o 0)
 
-pub record ToDecide (g : Classified) (width : ℕ) (c d : List ℕ) : Type 0 where
+-- c and o: the outlines of C and D
+pub record ToDecide (g : Classified) (c o : Outline) : Type 0 where
+  pub world : World g
+  pub from : Shape g.square.names c
+  pub shape : Shape g.square.names o
+
+-- c and d: the texts of C and D
+pub record ToPlace (g : Classified) (width : ℕ) (c d : List ℕ) : Type 0 where
   pub world : World g
   pub roles : ℕ
   pub below : Concept
   pub above : Concept
   pub below_text : IsTextOf width g.square.names roles below c
   pub above_text : IsTextOf width g.square.names roles above d
+
+-- any concepts that the texts may be of
+pub record Placed (g : Classified) (width : ℕ) (c d : List ℕ) (r : Position) : Type 0 where
+  pub lies : (n m : ℕ) (a b : Concept) → IsTextOf width n m a c → IsTextOf width n m b d → Lies (axioms_in g) a b (position_number r)

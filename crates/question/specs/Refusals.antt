@@ -1,7 +1,5 @@
--- The refusals and the answers of a question, as callers of other languages are told them.
+-- The refusals of a question, as callers of other languages are told them.
 --   ask_refusal r       the number of a refusal and its side: 1 for the release and for C, 2 for D, 0 for the memory
---   answer_number b     1 where the inclusion is derivable, else 0
-use Rattle.std.specs.Prelude.{Bool, true, false, ℕ}
 use Rattle.release.specs.Refusals.{Numbers, file_refusal}
 use Rattle.question.specs.declared.refusals.AskRefusal.{AskRefusal}
 use Rattle.question.specs.declared.refusals.AskRefusal.TheVariants.{Release, WrongBelow, WrongAbove, ShortWork}
@@ -11,7 +9,3 @@ ask_refusal (Release refusal) = file_refusal refusal
 ask_refusal WrongBelow = record { number = 19; side = 1 }
 ask_refusal WrongAbove = record { number = 19; side = 2 }
 ask_refusal ShortWork = record { number = 32; side = 0 }
-
-abbrev pub answer_number : Bool → ℕ
-answer_number true = 1
-answer_number false = 0

@@ -10,7 +10,7 @@ use Rattle.question.proofs.evaluation.lose_all.Goals as goal
 
 pub loop-atom-init : goal.loop-atom-init
 loop-atom-init c =
-    let z : c.args.outline.now.extent.atoms - 0 ≡ c.args.outline.now.extent.atoms = omega arith in rw z (lose_start c.requires)
+    let z : c.args.above.now.extent.atoms - 0 ≡ c.args.above.now.extent.atoms = omega arith in rw z (lose_start c.requires)
 
 pub lose_points-requires : goal.lose_points-requires
 lose_points-requires c =
@@ -20,7 +20,7 @@ lose_points-requires c =
 pub loop-atom-preserved : goal.loop-atom-preserved
 loop-atom-preserved c =
     let i = next_atom _ c.requires.shape.room _ _ _ _ c.loop-atom.yielded_by (cc) _ _ c.in-Some.is c.next.ensures.steps in
-    let n = c.args.outline.now.extent.atoms in
+    let n = c.args.above.now.extent.atoms in
     let e : n - length (c.loop-atom.yielded ++ c.in-Some.atom ∷ []) ≡ n - length c.loop-atom.yielded - 1 = omega (arith, length_push c.loop-atom.yielded c.in-Some.atom) in
     rw e (lose_turn c.requires (omega (arith, i.0)) (omega arith) c.loop-atom.invariant (rw i.1 at c.lose_points.ensures.roots) (rw i.1 at c.lose_points.ensures.nodes))
 

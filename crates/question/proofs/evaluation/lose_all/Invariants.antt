@@ -5,4 +5,4 @@ use Rattle.question.proofs.Turns.{Losing}
 use Rattle.question.proofs.evaluation.lose_all.Given as goal
 
 abbrev pub invariant-loop-atom : goal.invariant-loop-atom
-invariant-loop-atom l = Losing l.classified l.below l.outline (l.outline.extent.atoms - length l.yielded) l.nodes l.roots
+invariant-loop-atom l = Losing l.classified l.below l.above (l.above.extent.atoms - length l.yielded) l.nodes l.roots

@@ -8,10 +8,10 @@ loop-atom-init c = sift_start c.requires
 
 pub lose_under_name-requires : goal.lose_under_name-requires
 lose_under_name-requires c =
-    let atom = same_atom c.args.outline.now c.requires.shape.room c.atoms-atom-items.ensures c.loop-atom-test.true in
+    let atom = same_atom c.args.above.now c.requires.shape.room c.atoms-atom-items.ensures c.loop-atom-test.true in
     rw atom.1 (name_atom c.requires.world c.requires.shape atom.0 c.requires.from)
 
 pub loop-atom-preserved : goal.loop-atom-preserved
 loop-atom-preserved c =
-    let atom = same_atom c.args.outline.now c.requires.shape.room c.atoms-atom-items.ensures c.loop-atom-test.true in
+    let atom = same_atom c.args.above.now c.requires.shape.room c.atoms-atom-items.ensures c.loop-atom-test.true in
     sift_turn c.requires atom.0 c.loop-atom.invariant (rw atom.1 at c.lose_under_name.ensures)

@@ -3,4 +3,4 @@ use Rattle.question.proofs.Turns.{Sifting}
 use Rattle.question.proofs.evaluation.sift_by_names.Given as goal
 
 abbrev pub invariant-loop-atom : goal.invariant-loop-atom
-invariant-loop-atom l = Sifting l.classified l.subsumee.outline.now l.outline l.atom-index l.roots
+invariant-loop-atom l = Sifting l.classified l.subsumee.outline.now l.above l.atom-index l.roots

@@ -1,11 +1,11 @@
--- `ask_inclusion` meets its contract: each answer is one law of Asks.
+-- `ask_position` meets its contract: each answer is one law of Asks.
 use mathlib.Core.Path.{refl}
 use native.Mathlib.Omega.{arith}
 use Rattle.release.proofs.Refusing.{passed}
 use Rattle.release.proofs.Rows.{blank_table}
 use Rattle.question.specs.declared.refusals.AskRefusal.TheVariants.{Release}
 use Rattle.question.proofs.Asks.{refuses_release, has_version, names_few, refuses_below, refuses_above, refuses_memory, to_answer, answers}
-use Rattle.question.proofs.ask_inclusion.Goals as goal
+use Rattle.question.proofs.ask_position.Goals as goal
 
 pub read_release-requires : goal.read_release-requires
 read_release-requires c = blank_table
