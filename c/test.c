@@ -128,7 +128,7 @@ static void try_question(void)
     uint32_t answer = UNTOUCHED;
     refill();
     check(berrytick_ask(PASS(p10), PASS(some_a), PASS(a), &answer, work, sizeof work) == 0 && answer == 1, "P10");
-    check(berrytick_ask(PASS(p10), PASS(a), PASS(some_a), &answer, work, sizeof work) == 0 && answer == 0, "P10, exchanged");
+    check(berrytick_ask(PASS(p10), PASS(a), PASS(some_a), &answer, work, sizeof work) == 0 && answer == 2, "P10, exchanged");
     check(work_is_left(needed(1)), "P10: work memory");
     answer = UNTOUCHED;
     refill();

@@ -14,8 +14,8 @@
  * entry it may hold anything.
  *
  * Nothing is kept between calls, and none allocates memory. Any number of threads may call at the same time, each with memory of its own to
- * write to. A call uses less than 72 KiB of stack, whatever it is lent: measured, with all of the calling program's own, 71,216 bytes for a
- * question, 67,552 for a session's start, 48,832 for a step, at most 32,592 for a comparison, a sheet, a report or a concept, 18,424 for a shown
+ * write to. A call uses less than 68 KiB of stack, whatever it is lent: measured, with all of the calling program's own, 67,552 bytes for a
+ * session's start, 48,832 for a step, at most 32,592 for a comparison, a sheet, a report or a concept, 29,032 for a question, 18,424 for a shown
  * axiom, 15,480 for what reads a session and 10,296 for a check or a rewriting.
  */
 #ifndef BERRYTICK_H
@@ -50,7 +50,8 @@ uint32_t berrytick_check(const uint8_t *file, size_t file_length, uint32_t count
  * Refused: 4, side 0, where there are more names than 1,023. */
 uint32_t berrytick_work_length(size_t names, uint32_t *length);
 
-/* Asks whether the concept `below` lies below the concept `above` by a release: 1 for yes, 0 for no.
+/* Asks how two concepts lie by a release: 0 where neither lies below the other, 1 where only `below` lies below `above`, 2 where only `above`
+ * lies below `below`, 3 where both do. The low bit is the yes of before, when `below` below `above` alone was asked: that 1 is now 1 or 3.
  * Refused: 1 to 15, side 1; 19, side 1 for `below` and 2 for `above`; 32. */
 uint32_t berrytick_ask(const uint8_t *file, size_t file_length,
                        const uint8_t *below, size_t below_length,

@@ -89,7 +89,8 @@ pub fn work_length(names: usize) -> Result<usize, Refusal> {
     Ok(length as usize)
 }
 
-/// Asks whether the concept `below` lies below the concept `above` by a release: 1 for yes, 0 for no.
+/// Asks how two concepts lie by a release: 0 where neither lies below the other, 1 where only `below` lies below `above`, 2 where only
+/// `above` lies below `below`, 3 where both do. The low bit is the yes of before, when the first of these was all that was asked.
 pub fn ask(file: &[u8], below: &[u8], above: &[u8], work: &mut [u8]) -> Result<u32, Refusal> {
     let mut answer = 0;
     Refusal::of(unsafe {

@@ -137,6 +137,6 @@ fn p10() {
     let (some_a, a) = ([3, 0, 1, 0], [1, 0]);
     let mut work = [FILLED; 16];
     assert_eq!(berrytick::ask(&file, &some_a, &a, &mut work), Ok(1));
-    assert_eq!(berrytick::ask(&file, &a, &some_a, &mut work), Ok(0));
+    assert_eq!(berrytick::ask(&file, &a, &some_a, &mut work), Ok(2));
     assert_eq!(work, [0; 16]);
 }

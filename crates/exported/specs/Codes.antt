@@ -23,7 +23,9 @@ use Rattle.branches.specs.Refusals.{sheet_refusal}
 use Rattle.branches.specs.declared.refusals.SheetRefusal.{SheetRefusal}
 use Rattle.branches.specs.declared.row.Row.{Row}
 use Rattle.question.specs.Asking.{AskedAs}
-use Rattle.question.specs.Refusals.{ask_refusal, answer_number}
+use Rattle.question.specs.Refusals.{ask_refusal}
+use Rattle.question.specs.Positions.{answer_number, position_number}
+use Rattle.question.specs.declared.position.Position.{Position}
 use Rattle.question.specs.declared.refusals.AskRefusal.{AskRefusal}
 use Rattle.rewriting.specs.Rewriting.{refusal, Rewrites}
 use Rattle.report.specs.Written.{report_text}
@@ -72,10 +74,14 @@ yes_or_no (Ok value) = Ok (answer_number value)
 yes_or_no (Err k) = Err k
 
 -- a question
+abbrev pub ask_outcome : Result Position Numbers → Result ℕ Numbers
+ask_outcome (Ok position) = Ok (position_number position)
+ask_outcome (Err k) = Err k
+
 pub record AskReturns (s c d : List ℕ) (before after : ℕ) (w w2 : List ℕ) (r : ℕ) : Type 0 where
-  pub answer : Result Bool AskRefusal
+  pub answer : Result Position AskRefusal
   pub says : AskedAs s c d w w2 answer
-  pub returns : Returns (yes_or_no (told ask_refusal answer)) before after r
+  pub returns : Returns (ask_outcome (told ask_refusal answer)) before after r
 
 -- an axiom shown: the side that holds it, where it starts and how long it is
 abbrev pub place_numbers : Place → List ℕ

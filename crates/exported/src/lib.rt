@@ -12,7 +12,7 @@ use crate::refusals::NumberRefusal;
 use branches::compare_branches;
 use branches::row::Row;
 use meanings::compare_releases;
-use question::ask_inclusion;
+use question::ask_position;
 use release::number::Version;
 use release::show::axiom_place;
 use release::{ConceptName, Refusal, Release, check_release};
@@ -26,7 +26,7 @@ pub mod sessions;
 // The length of the longest report there can be: 1,023 names, each with a line.
 const REPORT: usize = 6202;
 
-// The code of a refusal. Two calls and both functions that give an answer below end in the same two arms, one that writes the answer and one that
+// The code of a refusal. Three calls and both functions that give an answer below end in the same two arms, one that writes the answer and one that
 // is this: a function over a closure that writes would be no plainer, since its contract would have to say what each closure writes and leaves.
 fn refusal_code<R: Refusal>(refusal: R) -> u32
     ensures { result ≡ refusal_code (R.numbers refusal) }
@@ -84,7 +84,8 @@ pub fn berrytick_check(file: &[u8], counts: &mut [u32; 3]) -> u32
     }
 }
 
-// Asks whether a concept lies below another: 1 for yes and 0 for no.
+// Asks how two concepts lie: 0 where neither lies below the other, 1 where only the first lies below the second, 2 where only the second lies below
+// the first, 3 where both do. The low bit is the answer whether the first lies below the second.
 pub fn berrytick_ask(
     file: &[u8],
     below: &[u8],
@@ -95,7 +96,13 @@ pub fn berrytick_ask(
     ensures { AskReturns file.now below.now above.now
         answer.old answer.new work.old work.new result }
 {
-    give_answer(ask_inclusion(file, below, above, work), answer)
+    match ask_position(file, below, above, work) {
+        Ok(position) => {
+            *answer = u32::from(position.number());
+            0
+        }
+        Err(refusal) => refusal_code(refusal),
+    }
 }
 
 // Shows the axiom of a name of the release on a side: the side that holds it, where it starts there and how long it is. Never refuses: where

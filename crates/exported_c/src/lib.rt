@@ -21,7 +21,7 @@ pub extern "C" fn berrytick_check(file: &[u8], counts: &mut [u32; 3]) -> u32
     exported::berrytick_check(file, counts)
 }
 
-// Asks whether a concept lies below another: 1 for yes and 0 for no.
+// Asks how two concepts lie: 0 for neither below the other, 1 for the first below the second only, 2 for the second below the first only, 3 for both.
 #[unsafe(no_mangle)]
 pub extern "C" fn berrytick_ask(
     file: &[u8],
