@@ -469,23 +469,24 @@ def deep(version):
     defined, stated = circle(4, version), circle(3, version)
     counts = {1: bytes([1, 1, 1]), 2: bytes([1, 0, 1, 1, 0])}[version]
     anything = b"ELT" + bytes([version, 0]) + counts + bytes(version) + bytes([4, 0]) + bytes([255] * version)
+    # 0 where neither lies below the other, 1 where the first does, 2 where the second does, 3 where both do
     asked = [
         # 0 is ∃ of 1, which is ∃ of 2 .., so ∃ 126 times of 126, and ∃ 127 times of something
-        (defined, nested(126, name(126)), name(0), 1), (defined, name(0), nested(126, name(126)), 1),
+        (defined, nested(126, name(126)), name(0), 3), (defined, name(0), nested(126, name(126)), 3),
         (defined, nested(126, name(125)), name(0), 0), (defined, name(0), nested(126, name(125)), 0),
-        (defined, name(0), nested(127, top), 1), (defined, nested(127, top), name(0), 0),
-        (stated, name(0), nested(126, name(126)), 1), (stated, nested(126, name(126)), name(0), 0),
-        (stated, name(0), nested(127, top), 1), (stated, nested(127, top), name(0), 0),
+        (defined, name(0), nested(127, top), 1), (defined, nested(127, top), name(0), 2),
+        (stated, name(0), nested(126, name(126)), 1), (stated, nested(126, name(126)), name(0), 2),
+        (stated, name(0), nested(127, top), 1), (stated, nested(127, top), name(0), 2),
         # both deep
-        (defined, nested(126, name(126)), nested(126, name(126)), 1), (stated, nested(126, name(5)), nested(126, name(5)), 1),
+        (defined, nested(126, name(126)), nested(126, name(126)), 3), (stated, nested(126, name(5)), nested(126, name(5)), 3),
         (defined, nested(126, name(126)), nested(126, name(0)), 0), (stated, nested(126, name(5)), nested(127, top), 1),
-        (defined, nested(127, top), nested(127, top), 1), (defined, nested(127, top), nested(126, name(0)), 0),
+        (defined, nested(127, top), nested(127, top), 3), (defined, nested(127, top), nested(126, name(0)), 2),
         # 127 conjunctions, and as many of names as there is room for
-        (defined, tops, tops, 1), (defined, name(0), tops, 1), (defined, tops, name(0), 0), (defined, tops, nested(127, top), 0),
-        (stated, joined, name(last), 1), (stated, joined, name(last + 1), 0), (stated, name(0), joined, 0),
-        (defined, joined, joined, 1), (stated, joined, nested(127, top), 1), (defined, joined, nested(126, name(126)), 1),
+        (defined, tops, tops, 3), (defined, name(0), tops, 1), (defined, tops, name(0), 2), (defined, tops, nested(127, top), 2),
+        (stated, joined, name(last), 1), (stated, joined, name(last + 1), 0), (stated, name(0), joined, 2),
+        (defined, joined, joined, 3), (stated, joined, nested(127, top), 1), (defined, joined, nested(126, name(126)), 1),
         # P10
-        (anything, nested(1, name(0)), name(0), 1), (anything, name(0), nested(1, name(0)), 0)]
+        (anything, nested(1, name(0)), name(0), 1), (anything, name(0), nested(1, name(0)), 2)]
     return [answered(file, below, above, 65536, value) for file, below, above, value in asked]
 
 
@@ -508,9 +509,9 @@ def wide():
         enough = needed(defined)
         # the last name is ∃ of 0, by a definition or by a rule
         cases += [
-            answered(defined, bytes([3, 0]) + zero, last, enough, 1), answered(defined, last, bytes([3, 0]) + zero, enough, 1),
-            answered(stated, bytes([3, 0]) + zero, last, enough, 0), answered(stated, last, bytes([3, 0]) + zero, enough, 1),
-            answered(defined, last, zero, enough, 0), answered(defined, last, last, enough, 1),
+            answered(defined, bytes([3, 0]) + zero, last, enough, 3), answered(defined, last, bytes([3, 0]) + zero, enough, 3),
+            answered(stated, bytes([3, 0]) + zero, last, enough, 2), answered(stated, last, bytes([3, 0]) + zero, enough, 1),
+            answered(defined, last, zero, enough, 0), answered(defined, last, last, enough, 3),
             refused(defined, zero, last, enough - 1, 32, 0), refused(defined, zero, last, 65536, 32, 0),
             refused(defined, beyond, last, enough, 19, 1), refused(defined, last, beyond, enough, 19, 2),
             # ⊤ is no name, half a name is none, and a name of one byte is half of one

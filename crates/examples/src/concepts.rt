@@ -6,7 +6,7 @@ use crate::memory;
 use crate::memory::{MARK, ROOM};
 use crate::texts::Text;
 use crate::verdict::{Verdict, What, refusal_in, same, same_outcome};
-use question::ask_inclusion;
+use question::ask_position;
 use release::ConceptName;
 use witness::checking::check_concept;
 use witness::showing::show_concept;
@@ -131,9 +131,9 @@ fn asked(file: &[u8], name: usize, side: usize, concept: &[u32], expected: bool)
         (concept, name)
     };
     let mut work = [MARK; ROOM];
-    let answer = ask_inclusion(file, below.bytes(), above.bytes(), &mut work);
-    if let Some(included) = same_outcome(answer, None)? {
-        same(What::Value, included, expected)?;
+    let answer = ask_position(file, below.bytes(), above.bytes(), &mut work);
+    if let Some(position) = same_outcome(answer, None)? {
+        same(What::Value, position.is_below(), expected)?;
     }
     Ok(())
 }

@@ -4,7 +4,7 @@ use crate::cases::{Case, number_in};
 use crate::memory;
 use crate::memory::ROOM;
 use crate::verdict::{Verdict, What, refusal_in, same, same_outcome};
-use question::ask_inclusion;
+use question::ask_position;
 
 pub(crate) fn judge(case: &[u8]) -> Verdict {
     let case = Case::of(case, 8)?;
@@ -15,9 +15,9 @@ pub(crate) fn judge(case: &[u8]) -> Verdict {
 
 fn asked(case: Case, work: &mut [u8]) -> Verdict {
     let Case([file, below, above, _, number, side, value, zeros, ..]) = case;
-    let answer = ask_inclusion(file, below, above, work);
-    if let Some(included) = same_outcome(answer, refusal_in(number, side))? {
-        same(What::Value, included, number_in(value))?;
+    let answer = ask_position(file, below, above, work);
+    if let Some(position) = same_outcome(answer, refusal_in(number, side))? {
+        same(What::Value, position.number(), number_in(value))?;
     }
     memory::zero_start(work, number_in(zeros))
 }
