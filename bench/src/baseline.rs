@@ -230,8 +230,8 @@ fn write_result<const W: usize>(first: &Side<W>, second: &Side<W>, chosen: &Chos
     }
 }
 
-/// Whether the concept `below` lies below the concept `above`; leaves the work memory zero.
-pub fn ask(file: &[u8], below: &[u8], above: &[u8], work: &mut [u8]) -> Result<bool, Refusal> {
+/// How two concepts lie: 1 where `below` lies below `above`, and 2 more where `above` lies below `below`; leaves the work memory zero.
+pub fn ask(file: &[u8], below: &[u8], above: &[u8], work: &mut [u8]) -> Result<u8, Refusal> {
     if is_small(names_of(file)) {
         ask_in::<SMALL>(file, below, above, work)
     } else {
@@ -239,14 +239,16 @@ pub fn ask(file: &[u8], below: &[u8], above: &[u8], work: &mut [u8]) -> Result<b
     }
 }
 
-fn ask_in<const W: usize>(file: &[u8], below: &[u8], above: &[u8], work: &mut [u8]) -> Result<bool, Refusal> {
+fn ask_in<const W: usize>(file: &[u8], below: &[u8], above: &[u8], work: &mut [u8]) -> Result<u8, Refusal> {
     let release = read::<W>(file, 1)?;
     let below = question::read(below, &release).ok_or(refusal(19, 1))?;
     let above = question::read(above, &release).ok_or(refusal(19, 2))?;
     let work = enough(work, release.names)?;
-    let answer = question::holds(&Side::of(release), &below, &above);
+    let side = Side::of(release);
+    let upward = question::holds(&side, &below, &above);
+    let downward = question::holds(&side, &above, &below);
     work.fill(0);
-    Ok(answer)
+    Ok(upward as u8 + 2 * downward as u8)
 }
 
 /// Writes the release as version 1 to `out`, and gives the length.

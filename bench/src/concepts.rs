@@ -13,7 +13,6 @@ use crate::vectors;
 use std::collections::BTreeMap;
 use std::hint::black_box;
 use std::path::Path;
-use std::time::{Duration, Instant};
 
 const LEFT: usize = 1;
 const RIGHT: usize = 2;
@@ -195,29 +194,45 @@ fn depth(rows: &[ConceptRow]) -> usize {
     depths.last().copied().unwrap_or(0)
 }
 
-/// Times in microseconds.
-fn microseconds(time: Duration) -> f64 {
-    time.as_secs_f64() * 1e6
+#[repr(C)]
+struct ProcessorTime {
+    seconds: i64,
+    nanoseconds: i64,
 }
 
-/// The shortest of a few runs: at most five, and no more once they took long.
+extern "C" {
+    /// Of the C library.
+    fn clock_gettime(clock: i32, time: *mut ProcessorTime) -> i32;
+}
+
+/// The processor time of this thread in microseconds: what else the machine does is not in it.
+fn processor_time() -> f64 {
+    const OF_THREAD: i32 = 3;
+    let mut time = ProcessorTime { seconds: 0, nanoseconds: 0 };
+    assert_eq!(unsafe { clock_gettime(OF_THREAD, &mut time) }, 0);
+    time.seconds as f64 * 1e6 + time.nanoseconds as f64 / 1e3
+}
+
+/// The shortest of a few runs: at most nine, and no more than three once they took long.
 fn shortest(mut run: impl FnMut()) -> f64 {
-    const LONG_ENOUGH: Duration = Duration::from_millis(20);
-    let mut best = Duration::MAX;
-    let begun = Instant::now();
-    for _ in 0..5 {
-        let start = Instant::now();
+    const LONG_ENOUGH: f64 = 20_000.0;
+    let mut best = f64::INFINITY;
+    let begun = processor_time();
+    for done in 1..=9 {
+        let start = processor_time();
         run();
-        best = best.min(start.elapsed());
-        if begun.elapsed() > LONG_ENOUGH {
+        let end = processor_time();
+        best = best.min(end - start);
+        if done >= 3 && end - begun > LONG_ENOUGH {
             break;
         }
     }
-    microseconds(best)
+    best
 }
 
 /// A concept shown, and what it took beside the comparison.
 struct Shown {
+    name: usize,
     side: usize,
     rows: usize,
     depth: usize,
@@ -277,7 +292,7 @@ fn measure(input: &Input) -> Option<OfInput> {
                 return None;
             }
             let check = shortest(|| _ = black_box(ours::check_concept(asked(name), &concept, &mut work)));
-            of_input.shown.push(Shown { side, rows: count, depth: depth(&concept), show, check });
+            of_input.shown.push(Shown { name, side, rows: count, depth: depth(&concept), show, check });
         }
     }
     Some(of_input)
@@ -295,7 +310,7 @@ fn largest(numbers: impl IntoIterator<Item = f64>) -> f64 {
 /// A table of the inputs; whether each concept passes.
 pub fn table(inputs: &[Input]) -> bool {
     println!(
-        "{:36} {:>10} {:>9} {:>10} {:>10} {:>10} {:>7} {:>10} {:>7}",
+        "{:36} {:>10} {:>9} {:>10} {:>10} {:>10} {:>7} {:>10} {:>7}  slowest",
         "concepts shown", "compare µs", "concepts", "most rows", "most deep", "show µs", "ratio", "check µs", "ratio"
     );
     let mut all: Vec<OfInput> = Vec::new();
@@ -307,9 +322,12 @@ pub fn table(inputs: &[Input]) -> bool {
             continue;
         };
         let most = |pick: fn(&Shown) -> f64| largest(found.shown.iter().map(pick));
+        let slowest = found.shown.iter().max_by(|one, other| one.show.total_cmp(&other.show));
+        let slowest =
+            slowest.map_or(String::new(), |shown| format!("{} {}", shown.name, ["left", "right"][shown.side - 1]));
         let (show, check) = (most(|shown| shown.show).max(found.not_reported), most(|shown| shown.check));
         println!(
-            "{:36} {:>10.1} {:>9} {:>10} {:>10} {show:>10.1} {:>7.1} {check:>10.1} {:>7.1}",
+            "{:36} {:>10.1} {:>9} {:>10} {:>10} {show:>10.1} {:>7.1} {check:>10.1} {:>7.1}  {slowest}",
             input.name,
             found.compare,
             found.shown.len(),
@@ -366,8 +384,8 @@ pub fn against_small(folder: &Path) -> bool {
     few * 10 >= lines.len() * 9
 }
 
-/// The concept of the input's first reported name shown, or checked, `count` times: for counting instructions. Whether there is one.
-pub fn repeat(input: &Input, check: bool, count: usize) -> bool {
+/// The concept of a name, or of the first that is reported, shown, or checked, `count` times: for counting instructions. Whether there is one.
+pub fn repeat(input: &Input, named: Option<usize>, check: bool, count: usize) -> bool {
     let Call::Compare { first, second, signature } = &input.call else {
         return false;
     };
@@ -376,7 +394,8 @@ pub fn repeat(input: &Input, check: bool, count: usize) -> bool {
     if ours::compare(first, second, signature, &mut buffers.result, &mut buffers.work).is_err() {
         return false;
     }
-    let Some(name) = buffers.result[..names].iter().position(|&byte| byte != 0) else {
+    let first_reported = buffers.result[..names].iter().position(|&byte| byte != 0);
+    let Some(name) = named.or(first_reported).filter(|&name| name < names && buffers.result[name] != 0) else {
         return false;
     };
     let side = if buffers.result[name] == 2 { RIGHT } else { LEFT };

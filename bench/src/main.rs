@@ -11,9 +11,11 @@
 //!                                     library concepts shown and rows checked, and without --wide sessions
 //!     bench repeat BY INPUT COUNT FOLDER
 //!                                     one input, COUNT times, by `ours` or `baseline`: for counting instructions
-//!     bench repeat sheet|show|check|step|held INPUT COUNT FOLDER
-//!                                     a sheet of it, COUNT times; a concept of it shown, or checked; an axiom of a session of it withdrawn and
-//!                                     added again, or the two comparisons of what it then holds
+//!     bench repeat sheet|step|held INPUT COUNT FOLDER
+//!                                     a sheet of it, COUNT times; an axiom of a session of it withdrawn and added again, or the two comparisons of
+//!                                     what it then holds
+//!     bench repeat show|check INPUT COUNT FOLDER [NAME]
+//!                                     a concept of a name, or of the first that is reported, shown or checked
 //!
 //! With --wide the inputs have files of version 2: those of FOLDER/1023, questions with 1,023 names, random ones. Without
 //! it none has, so that a library that refuses version 2 can be measured.
@@ -63,7 +65,8 @@ fn main() -> ExitCode {
         ["small", folder] => concepts::against_small(Path::new(folder)),
         #[cfg(feature = "ours")]
         ["session", folder] => sessions::table(&inputs::from_folder(Path::new(folder))),
-        ["repeat", by, input, count, folder] => repeat(by, input, count, Path::new(folder)),
+        ["repeat", by, input, count, folder] => repeat(by, input, count, Path::new(folder), None),
+        ["repeat", by, input, count, folder, name] => repeat(by, input, count, Path::new(folder), name.parse().ok()),
         _ => usage(),
     };
     if right {
@@ -76,7 +79,7 @@ fn main() -> ExitCode {
 fn usage() -> bool {
     eprintln!("bench vectors FOLDER | compare FOLDER [--wide] | sheet FOLDER [--wide] | question [all] [--wide] | agree COUNT [--wide]");
     eprintln!("bench concept FOLDER [--wide] | small FOLDER | session FOLDER");
-    eprintln!("bench repeat ours|baseline|sheet|show|check|step|held INPUT COUNT FOLDER");
+    eprintln!("bench repeat ours|baseline|sheet|step|held INPUT COUNT FOLDER | repeat show|check INPUT COUNT FOLDER [NAME]");
     false
 }
 
@@ -131,7 +134,7 @@ fn question(all: bool, wide: bool) -> bool {
     let shown = if all { rows.iter().collect() } else { slowest };
     shown.into_iter().for_each(measure::print_row);
     measure::print_summary(&rows);
-    println!("{} of them hold", rows.iter().filter(|row| row.answer == Ok(1)).count());
+    println!("answers 0 to 3: {:?}", [0, 1, 2, 3].map(|answer| rows.iter().filter(|row| row.answer == Ok(answer)).count()));
     agree
 }
 
@@ -140,7 +143,9 @@ fn concepts_of(row: &Measured) -> &str {
     row.name.split_once('/').map_or("", |(_, concepts)| concepts)
 }
 
-fn repeat(by: &str, name: &str, count: &str, folder: &Path) -> bool {
+/// The call of an input; `of` is the name whose concept is shown or checked.
+#[cfg_attr(not(feature = "ours"), allow(unused_variables))]
+fn repeat(by: &str, name: &str, count: &str, folder: &Path, of: Option<usize>) -> bool {
     let (Ok(count), Some(input)) = (count.parse::<usize>(), find(name, folder)) else {
         return usage();
     };
@@ -149,7 +154,7 @@ fn repeat(by: &str, name: &str, count: &str, folder: &Path) -> bool {
         "baseline" => Implementation::Baseline,
         "sheet" => return sheet::repeat(&input, count),
         #[cfg(feature = "ours")]
-        "show" | "check" => return concepts::repeat(&input, by == "check", count),
+        "show" | "check" => return concepts::repeat(&input, of, by == "check", count),
         #[cfg(feature = "ours")]
         "step" | "held" => return sessions::repeat(&input, by == "step", count),
         _ => return usage(),

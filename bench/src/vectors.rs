@@ -72,7 +72,7 @@ fn question_agrees(line: &str) -> bool {
     let answer = baseline::ask(&file, &bytes(line, "c"), &bytes(line, "d"), &mut work);
     let names = baseline::names_of(&file);
     refusal_of(&answer) == refusal(line)
-        && answer.unwrap_or(false) as usize == number(line, "value")
+        && answer.unwrap_or(0) as usize == number(line, "value")
         && work_is_right(&work, answer.is_ok(), names)
 }
 
