@@ -1,5 +1,5 @@
 -- What lies below a node by one terminology and not below a node by another, over a signature.
---   Below al c y                                 c lies below the column y; below nothing, no concept does
+--   Below t c y                                  c lies below the column y; below nothing, no concept does
 --   LostBelow sig t u x y                        some signature concept lies below x by t and not below y by u
 --   partner_is, partner_below, below_partner     for a plain y, ∃r.c lies below y exactly if c lies below partner u r y
 --   Backward sig t u in_t in_u f x y             a rule gives LostBelow from the marks f; in_t and in_u are the inclusions of t and u
@@ -12,110 +12,119 @@ use mathlib.Core.List.{List, [], ◌∷◌}
 use Prim.Native.Nat.{ℕ}
 use Rattle.el.specs.Lists.{In, first, later, pick, Every}
 use Rattle.el.specs.Concepts.{Concept, top, name, both, some, Node, everything, named, concept_of}
-use Rattle.el.specs.Axioms.{Axiom, parts_of, role_of, filler_of}
+use Rattle.el.specs.Axioms.{Axiom, parts_of, role_of, filler_of, Terminology}
 use Rattle.el.specs.Derivability.{Derives, to_top, one, other}
 use Rattle.el.specs.Signatures.{Signature, is_over}
-use Rattle.el.specs.Answers.{Test, below, Column, nothing, node, same_column, is_fill, is_plain_column, name_under, partner, backward}
-use Rattle.el.specs.Terminologies.{Joins, Terminology, IsNode, name_node, Formed, NamesBelow, Comparable}
+use Rattle.el.specs.Answers.{Test, below, Column, nothing, node, same_column, roles_under, is_fill, is_plain_column, name_under, partner_in, partner, backward}
+use Rattle.el.specs.Terminologies.{Joins, Normalised, IsNode, name_node, Formed, NamesBelow, Comparable}
 use Rattle.el.proofs.Lists.{each, Some, either}
 use Rattle.el.proofs.Tests.{Tells, tells_as, tells_true, tells_false, tells_and, tells_or, tells_any, tells_all, never, always, and_left, and_right, and_both, which, which_not, not_both}
+use Rattle.el.proofs.Roles.{in_under}
 use Rattle.el.proofs.Derivations.{◌▹◌, Fills}
 use Rattle.el.proofs.Nodes.{IsColumn, no_column, node_column, in_below, tells_node, tells_column, node_axis, column_axis}
 use Rattle.el.proofs.Saturation.{Closed, Keeps, Marks, saturated}
-use Rattle.el.proofs.Classification.{tells_joins, tells_fills, Table, part_node}
+use Rattle.el.proofs.Classification.{tells_joins, tells_fills, InclusionTable, part_node}
 use Rattle.el.proofs.PlainNodes.{Plain, tells_plain, is_everything, is_joined, is_plain_lem, kind, to_part_of, from_parts_of, from_filler_of, FilledBy, part_plain}
 use Rattle.el.proofs.PlainNodes.{top_below_plain, both_below_plain, some_below_plain}
 
-abbrev pub Below : List Axiom → Concept → Column → Type 0
-Below al c nothing = ⊥
-Below al c (node y) = Derives al c (concept_of y)
+abbrev pub Below : Terminology → Concept → Column → Type 0
+Below t c nothing = ⊥
+Below t c (node y) = Derives t c (concept_of y)
 
-pub record LostBelow (sig : Signature) (t u : List Axiom) (x : Node) (y : Column) : Type 0 where
+pub record LostBelow (sig : Signature) (t u : Terminology) (x : Node) (y : Column) : Type 0 where
   pub it : Concept
   pub over : is_over sig it ≡ true
   pub by_first : Derives t it (concept_of x)
   pub not_second : Below u it y → ⊥
 
-pub data PlainColumn (al : List Axiom) : Column → Type 0 where
-  plain_nothing : PlainColumn al nothing
-  plain_node : {y : Node} → Plain al y → PlainColumn al (node y)
+pub data PlainColumn (t : Terminology) : Column → Type 0 where
+  plain_nothing : PlainColumn t nothing
+  plain_node : {y : Node} → Plain t y → PlainColumn t (node y)
 
 -- y a conjunction by u: lost below a part of it. Else, x ⊤: ⊤ itself; x a conjunction by t: lost for each part; else by a
 -- name, or by ∃r over what is lost below y's partner
-pub data Backward (sig : Signature) (t u : List Axiom) (in_t in_u : Test Node Node) (f : Test Node Column) (x : Node) (y : Column) : Type 0 where
-  of_part : {b : Axiom} {z : ℕ} → In u b → node (named b.left) ≡ y → Joins b → In (parts_of b) z → f x (node (named z)) ≡ true → Backward sig t u in_t in_u f x y
+pub data Backward (sig : Signature) (t u : Terminology) (in_t in_u : Test Node Node) (f : Test Node Column) (x : Node) (y : Column) : Type 0 where
+  of_part : {b : Axiom} {z : ℕ} → In u.axioms b → node (named b.left) ≡ y → Joins b → In (parts_of b) z → f x (node (named z)) ≡ true → Backward sig t u in_t in_u f x y
   of_everything : PlainColumn u y → x ≡ everything → Backward sig t u in_t in_u f x y
-  of_parts : {a : Axiom} → PlainColumn u y → In t a → named a.left ≡ x → Joins a → Every (parts_of a) (λ z. f (named z) y ≡ true) → Backward sig t u in_t in_u f x y
+  of_parts : {a : Axiom} → PlainColumn u y → In t.axioms a → named a.left ≡ x → Joins a → Every (parts_of a) (λ z. f (named z) y ≡ true) → Backward sig t u in_t in_u f x y
   of_name : {b : ℕ} → PlainColumn u y → Plain t x → sig.has_name b ≡ true → in_t (named b) x ≡ true → name_under in_u b y ≡ false → Backward sig t u in_t in_u f x y
-  of_role : {a : Axiom} {r : ℕ} → PlainColumn u y → Plain t x → In t a → named a.left ≡ x → Fills r a → sig.has_role r ≡ true → f (filler_of a) (partner u r y) ≡ true
+  of_role : {a : Axiom} {r : ℕ} → PlainColumn u y → Plain t x → In t.axioms a → named a.left ≡ x → Fills t r a → sig.has_role r ≡ true → f (filler_of a) (partner u r y) ≡ true
       → Backward sig t u in_t in_u f x y
 
-abbrev pub BackwardMarks : {n : ℕ} (sig : Signature) {t u : List Axiom} → Table n t → Table n u → Type 0
+abbrev pub BackwardMarks : {n : ℕ} (sig : Signature) {t u : Terminology} → InclusionTable n t → InclusionTable n u → Type 0
 BackwardMarks {n} sig {t} {u} first_table second_table = Marks (IsNode n) (IsColumn n) (LostBelow sig t u) (Backward sig t u first_table.says second_table.says)
 
--- the partner of a column: the filler of an axiom that fills it, else nothing
-pub data Partner (al : List Axiom) (r : ℕ) (y p : Column) : Type 0 where
-  filler : {b : Axiom} → In al b → node (named b.left) ≡ y → Fills r b → p ≡ node (filler_of b) → Partner al r y p
-  none : ((b : Axiom) → In al b → node (named b.left) ≡ y → Fills r b → ⊥) → p ≡ nothing → Partner al r y p
+-- the partner of a column: the filler of an axiom among al that fills it, else nothing
+pub data PartnerAmong (t : Terminology) (al : List Axiom) (r : ℕ) (y p : Column) : Type 0 where
+  filler : {b : Axiom} → In al b → node (named b.left) ≡ y → Fills t r b → p ≡ node (filler_of b) → PartnerAmong t al r y p
+  none : ((b : Axiom) → In al b → node (named b.left) ≡ y → Fills t r b → ⊥) → p ≡ nothing → PartnerAmong t al r y p
 
-pub partner_is : (al : List Axiom) (r : ℕ) (y : Column) → Partner al r y (partner al r y)
-partner_is [] r y = none (λ b h e f. elim h [ ]) refl
-partner_is (b ∷ bs) r y = by_test (same_column (node (named b.left)) y && is_fill r b) (tells_and (tells_column (node (named b.left)) y) (λ _. tells_fills r b)) (partner_is bs r y)
+partner_among : (t : Terminology) (al : List Axiom) (r : ℕ) (y : Column) → PartnerAmong t al r y (partner_in t al r y)
+partner_among t [] r y = none (λ b h e f. elim h [ ]) refl
+partner_among t (b ∷ bs) r y = by_test (same_column (node (named b.left)) y && is_fill t r b) (tells_and (tells_column (node (named b.left)) y) (λ _. tells_fills t r b)) (partner_among t bs r y)
   where
-    by_test : (v : Bool) → Tells v ((node (named b.left) ≡ y) × Fills r b) → Partner bs r y (partner bs r y) → Partner (b ∷ bs) r y (pick v (node (filler_of b)) (partner bs r y))
-    by_test true t q = let w = t.sound refl in filler first w.0 w.1 refl
-    by_test false t (filler h e f q) = filler (later h) e f q
-    by_test false t (none k q) = none (each (λ c. node (named c.left) ≡ y → Fills r c → ⊥) (λ e f. false≢true (t.complete (e, f))) k) q
+    by_test : (v : Bool) → Tells v ((node (named b.left) ≡ y) × Fills t r b) → PartnerAmong t bs r y (partner_in t bs r y)
+        → PartnerAmong t (b ∷ bs) r y (pick v (node (filler_of b)) (partner_in t bs r y))
+    by_test true s q = let w = s.sound refl in filler first w.0 w.1 refl
+    by_test false s (filler h e f q) = filler (later h) e f q
+    by_test false s (none k q) = none (each (λ c. node (named c.left) ≡ y → Fills t r c → ⊥) (λ e f. false≢true (s.complete (e, f))) k) q
 
-module _ (al : List Axiom) (r : ℕ) (c : Concept) where
-  pub partner_below : (y : Column) → Below al c (partner al r y) → Below al (some r c) y
-  partner_below y p = elim (partner_is al r y) [
+abbrev pub Partner : Terminology → ℕ → Column → Column → Type 0
+Partner t r y p = PartnerAmong t t.axioms r y p
+
+pub partner_is : (t : Terminology) (r : ℕ) (y : Column) → Partner t r y (partner t r y)
+partner_is t r y = partner_among t t.axioms r y
+
+module _ (t : Terminology) (r : ℕ) (c : Concept) where
+  pub partner_below : (y : Column) → Below t c (partner t r y) → Below t (some r c) y
+  partner_below y p = elim (partner_is t r y) [
     | filler h e f q ↦ rw (← e) (from_filler_of h refl f (rw q at p))
     | none k q ↦ absurd (rw q at p)
   ]
 
-  pub below_partner : Terminology al → (y : Column) → PlainColumn al y → Below al (some r c) y → Below al c (partner al r y)
+  pub below_partner : Normalised t → (y : Column) → PlainColumn t y → Below t (some r c) y → Below t c (partner t r y)
   below_partner terms nothing plain_nothing p = absurd p
-  below_partner terms (node z) (plain_node k) p = by_partner ((some_below_plain terms k).0 p) (partner_is al r (node z))
+  below_partner terms (node z) (plain_node k) p = by_partner ((some_below_plain terms k).0 p) (partner_is t r (node z))
     where
-      by_partner : Some al (FilledBy al r c z) → Partner al r (node z) (partner al r (node z)) → Below al c (partner al r (node z))
+      by_partner : Some t.axioms (FilledBy t r c z) → Partner t r (node z) (partner t r (node z)) → Below t c (partner t r (node z))
       by_partner s (none k q) = absurd (k s.it s.member (ap node s.holds.0) s.holds.1.0)
       by_partner s (filler {b = b} h e f q) =
           let same_axiom : s.it ≡ b = terms.one_axiom s.member h (cc) in
           rw (q, ← same_axiom) s.holds.1.1
 
 -- the tests of specs/Answers tell of the rule
-tells_plain_column : (al : List Axiom) (y : Column) → Tells (is_plain_column al y) (PlainColumn al y)
-tells_plain_column al nothing = always plain_nothing
-tells_plain_column al (node y) = tells_as (λ k. plain_node k) node_plain (tells_plain al y)
+tells_plain_column : (t : Terminology) (y : Column) → Tells (is_plain_column t y) (PlainColumn t y)
+tells_plain_column t nothing = always plain_nothing
+tells_plain_column t (node y) = tells_as (λ k. plain_node k) node_plain (tells_plain t y)
   where
-    node_plain : PlainColumn al (node y) → Plain al y
+    node_plain : PlainColumn t (node y) → Plain t y
     node_plain (plain_node k) = k
 
-pub tells_backward : {n : ℕ} (sig : Signature) → NamesBelow n sig → (t u : List Axiom) (in_t in_u : Test Node Node) (f : Test Node Column) (x : Node) (y : Column)
+pub tells_backward : {n : ℕ} (sig : Signature) → NamesBelow n sig → (t u : Terminology) (in_t in_u : Test Node Node) (f : Test Node Column) (x : Node) (y : Column)
     → Tells (backward n sig t u in_t in_u f x y) (Backward sig t u in_t in_u f x y)
 tells_backward {n} sig names_in t u in_t in_u f x y = tells_as there back (tells_or
-    (tells_any _ u (λ b h. tells_and (tells_column (node (named b.left)) y) (λ _. tells_and (tells_joins b) (λ _. tells_any _ (parts_of b) (λ z i. tells_true (f x (node (named z))))))))
+    (tells_any _ u.axioms (λ b h. tells_and (tells_column (node (named b.left)) y) (λ _. tells_and (tells_joins b) (λ _. tells_any _ (parts_of b) (λ z i. tells_true (f x (node (named z))))))))
     (tells_and (tells_plain_column u y) (λ _. tells_or (tells_node x everything) (tells_or
-    (tells_any _ t (λ a h. tells_and (tells_node (named a.left) x) (λ _. tells_and (tells_joins a) (λ _. tells_all _ (parts_of a) (λ z i. tells_true (f (named z) y))))))
+    (tells_any _ t.axioms (λ a h. tells_and (tells_node (named a.left) x) (λ _. tells_and (tells_joins a) (λ _. tells_all _ (parts_of a) (λ z i. tells_true (f (named z) y))))))
     (tells_and (tells_plain t x) (λ _. tells_or
     (tells_any _ (below n) (λ b h. tells_and (tells_true (sig.has_name b)) (λ _. tells_and (tells_true (in_t (named b) x)) (λ _. tells_false (name_under in_u b y)))))
-    (tells_any _ t (λ a h. tells_and (tells_node (named a.left) x)
-    (λ _. tells_and (tells_fills (role_of a) a) (λ _. tells_and (tells_true (sig.has_role (role_of a))) (λ _. tells_true (f (filler_of a) (partner u (role_of a) y)))))))))))))
+    (tells_any _ t.axioms (λ a h. tells_and (tells_node (named a.left) x)
+    (λ _. tells_any _ (roles_under t.roles (role_of a))
+    (λ r i. tells_and (tells_fills t r a) (λ _. tells_and (tells_true (sig.has_role r)) (λ _. tells_true (f (filler_of a) (partner u r y))))))))))))))
   where
     PlainCases : Type 0
     PlainCases = Some (below n) (λ b. (sig.has_name b ≡ true) × ((in_t (named b) x ≡ true) × (name_under in_u b y ≡ false)))
-        ⊎ Some t (λ a. (named a.left ≡ x) × (Fills (role_of a) a × ((sig.has_role (role_of a) ≡ true) × (f (filler_of a) (partner u (role_of a) y) ≡ true))))
+        ⊎ Some t.axioms (λ a. (named a.left ≡ x) × Some (roles_under t.roles (role_of a)) (λ r. Fills t r a × ((sig.has_role r ≡ true) × (f (filler_of a) (partner u r y) ≡ true))))
 
     Cases : Type 0
-    Cases = Some u (λ b. (node (named b.left) ≡ y) × (Joins b × Some (parts_of b) (λ z. f x (node (named z)) ≡ true)))
+    Cases = Some u.axioms (λ b. (node (named b.left) ≡ y) × (Joins b × Some (parts_of b) (λ z. f x (node (named z)) ≡ true)))
         ⊎ (PlainColumn u y × ((x ≡ everything)
-        ⊎ (Some t (λ a. (named a.left ≡ x) × (Joins a × Every (parts_of a) (λ z. f (named z) y ≡ true)))
+        ⊎ (Some t.axioms (λ a. (named a.left ≡ x) × (Joins a × Every (parts_of a) (λ z. f (named z) y ≡ true)))
         ⊎ (Plain t x × PlainCases))))
 
     there_plain : PlainColumn u y → Plain t x → PlainCases → Backward sig t u in_t in_u f x y
     there_plain q k (inl s) = of_name q k s.holds.0 s.holds.1.0 s.holds.1.1
-    there_plain q k (inr s) = of_role q k s.member s.holds.0 s.holds.1.0 s.holds.1.1.0 s.holds.1.1.1
+    there_plain q k (inr s) = let r = s.holds.1 in of_role q k s.member s.holds.0 r.holds.0 r.holds.1.0 r.holds.1.1
 
     there : Cases → Backward sig t u in_t in_u f x y
     there (inl s) = of_part s.member s.holds.0 s.holds.1.0 s.holds.1.1.member s.holds.1.1.holds
@@ -129,21 +138,22 @@ tells_backward {n} sig names_in t u in_t in_u f x y = tells_as there back (tells
     back (of_everything q e) = inr (q, inl e)
     back (of_parts {a = a} q h e j k) = inr (q, inr (inl (record { it = a; member = h; holds = (e, (j, k)) })))
     back (of_name {b = b} q p o h k) = inr (q, inr (inr (p, inl (record { it = b; member = in_below n (names_in b o); holds = (o, (h, k)) }))))
-    back (of_role {a = a} q p h e fills o k) = inr (q, inr (inr (p, inr (record { it = a; member = h; holds = (e, (rw (← fills.role) fills, (rw (← fills.role) o, rw (← fills.role) k))) }))))
+    back (of_role {a = a} {r = r} q p h e fills o k) = inr
+        (q, inr (inr (p, inr (record { it = a; member = h; holds = (e, record { it = r; member = in_under fills.role; holds = (fills, (o, k)) }) }))))
 
-partner_column : {n : ℕ} {al : List Axiom} → Formed n al → (r : ℕ) (y : Column) → IsColumn n (partner al r y)
-partner_column {al = al} formed r y = elim (partner_is al r y) [ filler g e f q ↦ rw q (node_column (formed.filler_in g)) | none k q ↦ rw q no_column ]
+partner_column : {n : ℕ} {t : Terminology} → Formed n t → (r : ℕ) (y : Column) → IsColumn n (partner t r y)
+partner_column {t = t} formed r y = elim (partner_is t r y) [ filler g e f q ↦ rw q (node_column (formed.filler_in g)) | none k q ↦ rw q no_column ]
 
-module _ {n : ℕ} {sig : Signature} {t u : List Axiom} (given : Comparable n sig t u) (first_table : Table n t) (second_table : Table n u) where
+module _ {n : ℕ} {sig : Signature} {t u : Terminology} (given : Comparable n sig t u) (first_table : InclusionTable n t) (second_table : InclusionTable n u) where
   abbrev in_t : Test Node Node
   in_t = first_table.says
 
   abbrev in_u : Test Node Node
   in_u = second_table.says
 
-  tells_under : {b : ℕ} → sig.has_name b ≡ true → (y : Column) → IsColumn n y → Tells (name_under in_u b y) (Below u (name b) y)
-  tells_under over nothing no_column = never (λ p. p)
-  tells_under {b} over (node y) (node_column y_in) = record
+  tells_name_under : {b : ℕ} → sig.has_name b ≡ true → (y : Column) → IsColumn n y → Tells (name_under in_u b y) (Below u (name b) y)
+  tells_name_under over nothing no_column = never (λ p. p)
+  tells_name_under {b} over (node y) (node_column y_in) = record
       { sound = λ h. second_table.sound (name_node (given.names_in b over)) y_in h; complete = λ p. second_table.complete (name_node (given.names_in b over)) y_in p }
 
   -- ⊤ is lost below a plain column, and so is a conjunction of what is lost
@@ -183,7 +193,7 @@ module _ {n : ℕ} {sig : Signature} {t u : List Axiom} (given : Comparable n si
     it = name b;
     over = over;
     by_first = first_table.sound (name_node (given.names_in b over)) x_in below_x;
-    not_second = λ p. not_both ((tells_under over y y_in).complete p) not_below_y;
+    not_second = λ p. not_both ((tells_name_under over y y_in).complete p) not_below_y;
   }
   backward_sound f good x y x_in y_in (of_role {a = a} {r = r} y_plain x_plain a_in a_is_x fills over marked) =
       let c = good (filler_of a) (partner u r y) (given.first_formed.filler_in a_in) (partner_column given.second_formed r y) marked in
@@ -237,7 +247,7 @@ module _ {n : ℕ} {sig : Signature} {t u : List Axiom} (given : Comparable n si
     kept_plain : (c : Concept) → is_over sig c ≡ true → (x : Node) (y : Column) → Plain t x → PlainColumn u y → Kept c x y
     kept_plain top over x y x_plain y_plain x_in y_in free p = absurd (top_below_plain given.first_terms x_plain p)
     kept_plain (name b) over x y x_plain y_plain x_in y_in free p = elim (which (name_under in_u b y)) [
-      | inl h ↦ (tells_under over y y_in).sound h
+      | inl h ↦ (tells_name_under over y y_in).sound h
       | inr h ↦ absurd (not_both (closed x y x_in y_in (of_name y_plain x_plain over (first_table.complete (name_node (given.names_in b over)) x_in p) h)) free)
     ]
     kept_plain (both c d) over x y x_plain y_plain x_in y_in free p = elim ((both_below_plain given.first_terms x_plain).0 p) [

@@ -3,13 +3,13 @@
 --   IsColumn n y       a name in the column y is below n
 -- Not here: IsNode, and terminologies over the names below n (specs/Terminologies).
 use mathlib.Core.Path.{◌≡◌, refl, ap}
-use mathlib.Core.List.{List, ◌∷◌}
+use mathlib.Core.List.{◌∷◌}
 use Prim.Native.Nat.{ℕ, zero, suc, ◌<◌}
 use native.Mathlib.Omega.{arith}
 use native.Mathlib.Decide.{ℕ_discrete}
 use Rattle.el.specs.Lists.{In, first, later}
 use Rattle.el.specs.Concepts.{Node, everything, named}
-use Rattle.el.specs.Axioms.{Axiom}
+use Rattle.el.specs.Axioms.{Terminology}
 use Rattle.el.specs.Signatures.{Signature}
 use Rattle.el.specs.Answers.{below, nodes, same_node, Column, nothing, node, columns, same_column}
 use Rattle.el.specs.Terminologies.{IsNode, top_node, name_node, Comparable}
@@ -21,7 +21,7 @@ pub data IsColumn (n : ℕ) : Column → Type 0 where
   no_column : IsColumn n nothing
   node_column : {y : Node} → IsNode n y → IsColumn n (node y)
 
-pub turned : {n : ℕ} {sig : Signature} {t u : List Axiom} → Comparable n sig t u → Comparable n sig u t
+pub turned : {n : ℕ} {sig : Signature} {t u : Terminology} → Comparable n sig t u → Comparable n sig u t
 turned given = record { names_in = given.names_in; first_formed = given.second_formed; second_formed = given.first_formed; first_terms = given.second_terms; second_terms = given.first_terms }
 
 -- the lists of them

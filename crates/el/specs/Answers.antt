@@ -1,12 +1,14 @@
 -- The answers, computed: the bytes of a comparison, and whether an inclusion is derivable. Pairs are marked by a rule,
 -- round by round, until a round adds none. That these are the answers of Comparison and Derivability is proved in proofs/.
---   inclusions n al                the marked pairs of nodes x, y with x ⊑ y
+--   is_under ps r s                 the role r lies under s by the pairs ps
+--   inclusions n t                 the marked pairs of nodes x, y with x ⊑ y
 --   comparison_bytes n sig t u      the bytes of a comparison
---   is_included n al c d            c ⊑ d is derivable from al
+--   pair_bytes m sig t u            its bytes of role pairs
+--   is_included n t c d             c ⊑ d is derivable from t
 use Rattle.std.specs.Prelude.{Bool, true, false, ◌&&◌, ◌||◌, not, List, [], ◌∷◌, ◌++◌, map, ℕ, zero, suc, eqb, length}
 use Rattle.el.specs.Lists.{pick, any, all}
 use Rattle.el.specs.Concepts.{Concept, top, name, both, some, Node, everything, named}
-use Rattle.el.specs.Axioms.{Axiom, is_conjunction, parts_of, role_of, filler_of}
+use Rattle.el.specs.Axioms.{Axiom, is_conjunction, parts_of, role_of, filler_of, RolePair, Terminology}
 use Rattle.el.specs.Signatures.{Signature}
 
 -- nodes: the names below n, and ⊤
@@ -68,80 +70,91 @@ module _ {X Y : Type 0} (same_x : Test X X) (same_y : Test Y Y) where
   abbrev pub marks : List X → List Y → Rule X Y → List (X × Y)
   marks xs ys rule = saturate (length (pairs xs ys)) rule (pairs xs ys) []
 
--- the role r serves where s is asked for
-abbrev pub serves : ℕ → ℕ → Bool
-serves r s = eqb r s
+-- the role r lies under s: by the other pairs, or by the first pair once, before and after it by the other pairs
+abbrev pub is_under : List RolePair → ℕ → ℕ → Bool
+is_under [] r s = eqb r s
+is_under (p ∷ ps) r s = is_under ps r s || (is_under ps r p.lower && is_under ps p.upper s)
 
--- x ⊑ ∃r.B by the axiom A ⊑ ∃s.B, m the inclusions of nodes
-abbrev pub is_link : Test Node Node → Node → ℕ → Axiom → Bool
-is_link m x r a = m x (named a.left) && (not (is_conjunction a) && serves (role_of a) r)
+-- the roles that can lie above r by the pairs, and under it
+abbrev pub roles_above : List RolePair → ℕ → List ℕ
+roles_above ps r = r ∷ map (λ (p : RolePair). p.upper) ps
+
+abbrev pub roles_under : List RolePair → ℕ → List ℕ
+roles_under ps r = r ∷ map (λ (p : RolePair). p.lower) ps
+
+-- x ⊑ ∃r.B by the axiom A ⊑ ∃s.B of t, m the inclusions of nodes
+abbrev pub is_link : Terminology → Test Node Node → Node → ℕ → Axiom → Bool
+is_link t m x r a = m x (named a.left) && (not (is_conjunction a) && is_under t.roles (role_of a) r)
 
 -- A ≡ B1 ⊓ .. ⊓ Bk
 abbrev pub is_join : Axiom → Bool
 is_join a = a.defined && is_conjunction a
 
--- A ≡ ∃s.B, and ∃r serves for it
-abbrev pub is_fill : ℕ → Axiom → Bool
-is_fill r a = a.defined && (not (is_conjunction a) && serves r (role_of a))
+-- A ≡ ∃s.B, and r lies under s
+abbrev pub is_fill : Terminology → ℕ → Axiom → Bool
+is_fill t r a = a.defined && (not (is_conjunction a) && is_under t.roles r (role_of a))
 
 -- the axiom a is y's
 abbrev pub is_of : Node → Axiom → Bool
 is_of y a = same_node (named a.left) y
 
 -- x ⊑ y: the same; ⊤; a part of what is above x; a conjunction, all its parts above x; y ≡ ∃r.B with x ⊑ ∃r.C and C ⊑ B
-abbrev pub includes : List Axiom → Rule Node Node
-includes al m x y =
+abbrev pub includes : Terminology → Rule Node Node
+includes t m x y =
     same_node x y
     || (same_node y everything
-    || (any (λ a. m x (named a.left) && any (λ z. same_node (named z) y) (parts_of a)) al
-    || (any (λ a. is_of y a && (is_join a && all (λ z. m x (named z)) (parts_of a))) al
-    || any (λ a. is_of y a && any (λ b. is_fill (role_of b) a && (is_link m x (role_of b) b && m (filler_of b) (filler_of a))) al) al)))
+    || (any (λ a. m x (named a.left) && any (λ z. same_node (named z) y) (parts_of a)) t.axioms
+    || (any (λ a. is_of y a && (is_join a && all (λ z. m x (named z)) (parts_of a))) t.axioms
+    || any (λ a. is_of y a && any (λ b. is_fill t (role_of b) a && (is_link t m x (role_of b) b && m (filler_of b) (filler_of a))) t.axioms) t.axioms)))
 
-abbrev pub inclusions : ℕ → List Axiom → List (Node × Node)
-inclusions n al = marks same_node same_node (nodes n) (nodes n) (includes al)
+abbrev pub inclusions : ℕ → Terminology → List (Node × Node)
+inclusions n t = marks same_node same_node (nodes n) (nodes n) (includes t)
 
 -- some signature concept is above x by t and not above y by u: a name; or ∃r over one that is above the filler of a link
 -- of x and above no filler of a link of y. in_t and in_u are the inclusions by t and by u
-abbrev pub forward : ℕ → Signature → List Axiom → List Axiom → Test Node Node → Test Node Node → Rule Node Node
+abbrev pub forward : ℕ → Signature → Terminology → Terminology → Test Node Node → Test Node Node → Rule Node Node
 forward n sig t u in_t in_u f x y =
     any (λ b. sig.has_name b && (in_t x (named b) && not (in_u y (named b)))) (below n)
-    || any (λ a. is_link in_t x (role_of a) a && (sig.has_role (role_of a) && all (λ b. not (is_link in_u y (role_of a) b) || f (filler_of a) (filler_of b)) u)) t
+    || any (λ a. any (λ r. is_link t in_t x r a && (sig.has_role r && all (λ b. not (is_link u in_u y r b) || f (filler_of a) (filler_of b)) u.axioms)) (roles_above t.roles (role_of a))) t.axioms
 
 -- neither ⊤ nor a conjunction by its definition
-abbrev pub is_plain : List Axiom → Node → Bool
-is_plain al everything = false
-is_plain al (named x) = not (any (λ a. is_of (named x) a && is_join a) al)
+abbrev pub is_plain : Terminology → Node → Bool
+is_plain t everything = false
+is_plain t (named x) = not (any (λ a. is_of (named x) a && is_join a) t.axioms)
 
-abbrev pub is_plain_column : List Axiom → Column → Bool
-is_plain_column al nothing = true
-is_plain_column al (node y) = is_plain al y
+abbrev pub is_plain_column : Terminology → Column → Bool
+is_plain_column t nothing = true
+is_plain_column t (node y) = is_plain t y
 
 -- the name b is below the column
 abbrev pub name_under : Test Node Node → ℕ → Column → Bool
 name_under m b nothing = false
 name_under m b (node y) = m (named b) y
 
--- what C has to lie below for ∃r.C to lie below a plain y: the filler of y ≡ ∃s.B; else nothing
-abbrev pub partner : List Axiom → ℕ → Column → Column
-partner [] r y = nothing
-partner (b ∷ bs) r y = pick (same_column (node (named b.left)) y && is_fill r b) (node (filler_of b)) (partner bs r y)
+-- what C has to lie below for ∃r.C to lie below a plain y: the filler of y ≡ ∃s.B with r under s; else nothing
+abbrev pub partner_in : Terminology → List Axiom → ℕ → Column → Column
+partner_in t [] r y = nothing
+partner_in t (b ∷ bs) r y = pick (same_column (node (named b.left)) y && is_fill t r b) (node (filler_of b)) (partner_in t bs r y)
+
+abbrev pub partner : Terminology → ℕ → Column → Column
+partner t r y = partner_in t t.axioms r y
 
 -- some signature concept is below x by t and not below y by u. If y is a conjunction: one that is not below some part. If y
 -- is plain: ⊤ below ⊤; for a conjunction x, one for each part; for a plain x, a name, or ∃r over one that is below the
 -- filler of x and not below y's partner
-abbrev pub backward : ℕ → Signature → List Axiom → List Axiom → Test Node Node → Test Node Node → Rule Node Column
+abbrev pub backward : ℕ → Signature → Terminology → Terminology → Test Node Node → Test Node Node → Rule Node Column
 backward n sig t u in_t in_u f x y =
-    any (λ b. same_column (node (named b.left)) y && (is_join b && any (λ z. f x (node (named z))) (parts_of b))) u
+    any (λ b. same_column (node (named b.left)) y && (is_join b && any (λ z. f x (node (named z))) (parts_of b))) u.axioms
     || (is_plain_column u y && (same_node x everything
-    || (any (λ a. is_of x a && (is_join a && all (λ z. f (named z) y) (parts_of a))) t
+    || (any (λ a. is_of x a && (is_join a && all (λ z. f (named z) y) (parts_of a))) t.axioms
     || (is_plain t x && (any (λ b. sig.has_name b && (in_t (named b) x && not (name_under in_u b y))) (below n)
-    || any (λ a. is_of x a && (is_fill (role_of a) a && (sig.has_role (role_of a) && f (filler_of a) (partner u (role_of a) y)))) t)))))
+    || any (λ a. is_of x a && any (λ r. is_fill t r a && (sig.has_role r && f (filler_of a) (partner u r y))) (roles_under t.roles (role_of a))) t.axioms)))))
 
 -- the marks of a comparison, in_t and in_u the marked inclusions
-abbrev pub forward_marks : ℕ → Signature → List Axiom → List Axiom → List (Node × Node) → List (Node × Node) → List (Node × Node)
+abbrev pub forward_marks : ℕ → Signature → Terminology → Terminology → List (Node × Node) → List (Node × Node) → List (Node × Node)
 forward_marks n sig t u in_t in_u = marks same_node same_node (nodes n) (nodes n) (forward n sig t u (marked same_node same_node in_t) (marked same_node same_node in_u))
 
-abbrev pub backward_marks : ℕ → Signature → List Axiom → List Axiom → List (Node × Node) → List (Node × Node) → List (Node × Column)
+abbrev pub backward_marks : ℕ → Signature → Terminology → Terminology → List (Node × Node) → List (Node × Node) → List (Node × Column)
 backward_marks n sig t u in_t in_u = marks same_node same_column (nodes n) (columns n) (backward n sig t u (marked same_node same_node in_t) (marked same_node same_node in_u))
 
 -- a byte: 1 for a left witness, 2 for a right one, 3 for both
@@ -159,39 +172,54 @@ listed f (suc n) = f 0 ∷ listed (λ a. f (suc a)) n
 abbrev pub bytes_of : ℕ → Signature → List (Node × Node) → List (Node × Column) → List ℕ
 bytes_of n sig l r = listed (λ a. pick (sig.has_name a) (byte_of (marked same_node same_node l (named a) (named a)) (marked same_node same_column r (named a) (node (named a)))) 0) n
 
-abbrev pub comparison_bytes : ℕ → Signature → List Axiom → List Axiom → List ℕ
+abbrev pub comparison_bytes : ℕ → Signature → Terminology → Terminology → List ℕ
 comparison_bytes n sig t u = bytes_of n sig (forward_marks n sig t u (inclusions n t) (inclusions n u)) (backward_marks n sig t u (inclusions n t) (inclusions n u))
 
+-- f 0 0, .., f 0 (m - 1), and so on, k rows
+abbrev pub tabled : (ℕ → ℕ → ℕ) → ℕ → ℕ → List ℕ
+tabled f m zero = []
+tabled f m (suc k) = listed (f 0) m ++ tabled (λ r. f (suc r)) m k
+
+-- the role pairs: both chosen, one under the other by t and not by u
+abbrev pub is_lost_pair : Signature → Terminology → Terminology → ℕ → ℕ → Bool
+is_lost_pair sig t u r s = sig.has_role r && (sig.has_role s && (is_under t.roles r s && not (is_under u.roles r s)))
+
+abbrev pub pair_byte : Signature → Terminology → Terminology → ℕ → ℕ → ℕ
+pair_byte sig t u r s = pick (is_lost_pair sig t u r s) 1 0
+
+abbrev pub pair_bytes : ℕ → Signature → Terminology → Terminology → List ℕ
+pair_bytes m sig t u = tabled (pair_byte sig t u) m m
+
 -- questions, m the inclusions of nodes: a node below a concept
-abbrev pub node_below : List Axiom → Test Node Node → Node → Concept → Bool
-node_below al m x top = true
-node_below al m x (name b) = m x (named b)
-node_below al m x (both c d) = node_below al m x c && node_below al m x d
-node_below al m x (some r d) = any (λ b. is_link m x r b && node_below al m (filler_of b) d) al
+abbrev pub node_below : Terminology → Test Node Node → Node → Concept → Bool
+node_below t m x top = true
+node_below t m x (name b) = m x (named b)
+node_below t m x (both c d) = node_below t m x c && node_below t m x d
+node_below t m x (some r d) = any (λ b. is_link t m x r b && node_below t m (filler_of b) d) t.axioms
 
 -- a concept below a node, where p tells it of the plain nodes
-abbrev pub by_plain : List Axiom → (Node → Bool) → Node → Bool
-by_plain al p y = same_node y everything || (any (λ a. is_of y a && (is_join a && all (λ z. p (named z)) (parts_of a))) al || (is_plain al y && p y))
+abbrev pub by_plain : Terminology → (Node → Bool) → Node → Bool
+by_plain t p y = same_node y everything || (any (λ a. is_of y a && (is_join a && all (λ z. p (named z)) (parts_of a))) t.axioms || (is_plain t y && p y))
 
-abbrev pub below_plain : List Axiom → Test Node Node → Concept → Node → Bool
-below_plain al m top y = false
-below_plain al m (name b) y = m (named b) y
-below_plain al m (both c d) y = below_plain al m c y || below_plain al m d y
-below_plain al m (some r c) y = any (λ a. is_of y a && (is_fill r a && by_plain al (below_plain al m c) (filler_of a))) al
+abbrev pub below_plain : Terminology → Test Node Node → Concept → Node → Bool
+below_plain t m top y = false
+below_plain t m (name b) y = m (named b) y
+below_plain t m (both c d) y = below_plain t m c y || below_plain t m d y
+below_plain t m (some r c) y = any (λ a. is_of y a && (is_fill t r a && by_plain t (below_plain t m c) (filler_of a))) t.axioms
 
 -- a concept below ∃r.d, where p tells what is below d
-abbrev pub below_some : List Axiom → Test Node Node → ℕ → Concept → (Concept → Bool) → Concept → Bool
-below_some al m r d p top = false
-below_some al m r d p (name b) = node_below al m (named b) (some r d)
-below_some al m r d p (both c e) = below_some al m r d p c || below_some al m r d p e
-below_some al m r d p (some q c) = serves q r && p c
+abbrev pub below_some : Terminology → Test Node Node → ℕ → Concept → (Concept → Bool) → Concept → Bool
+below_some t m r d p top = false
+below_some t m r d p (name b) = node_below t m (named b) (some r d)
+below_some t m r d p (both c e) = below_some t m r d p c || below_some t m r d p e
+below_some t m r d p (some q c) = is_under t.roles q r && p c
 
 -- c below d, for any two
-abbrev pub below_by : List Axiom → Test Node Node → Concept → Concept → Bool
-below_by al m top c = true
-below_by al m (name b) c = by_plain al (below_plain al m c) (named b)
-below_by al m (both d e) c = below_by al m d c && below_by al m e c
-below_by al m (some r d) c = below_some al m r d (below_by al m d) c
+abbrev pub below_by : Terminology → Test Node Node → Concept → Concept → Bool
+below_by t m top c = true
+below_by t m (name b) c = by_plain t (below_plain t m c) (named b)
+below_by t m (both d e) c = below_by t m d c && below_by t m e c
+below_by t m (some r d) c = below_some t m r d (below_by t m d) c
 
-abbrev pub is_included : ℕ → List Axiom → Concept → Concept → Bool
-is_included n al c d = below_by al (marked same_node same_node (inclusions n al)) d c
+abbrev pub is_included : ℕ → Terminology → Concept → Concept → Bool
+is_included n t c d = below_by t (marked same_node same_node (inclusions n t)) d c

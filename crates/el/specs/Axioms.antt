@@ -1,6 +1,8 @@
--- The axioms of a normalised terminology: for a name A, A ⊑ right or A ≡ right.
+-- A normalised terminology: axioms, for a name A, A ⊑ right or A ≡ right; and pairs of roles, one under the other.
 --   Right        B1 ⊓ .. ⊓ Bk, of any number of names, or ∃r.B with a filler B that is ⊤ or a name
 --   right_of a    the right side of a as a concept
+--   RolePair     a role and a role that it lies under
+--   Terminology  the axioms and the role pairs
 use Rattle.std.specs.Prelude.{Bool, true, false, List, [], ℕ}
 use Rattle.el.specs.Concepts.{Concept, some, Node, everything, concept_of, all_of}
 
@@ -33,3 +35,11 @@ role_of a = elim a.right [ conjunction xs ↦ 0 | restriction r b ↦ r ]
 
 abbrev pub filler_of : Axiom → Node
 filler_of a = elim a.right [ conjunction xs ↦ everything | restriction r b ↦ b ]
+
+pub record RolePair : Type 0 where
+  pub lower : ℕ
+  pub upper : ℕ
+
+pub record Terminology : Type 0 where
+  pub axioms : List Axiom
+  pub roles : List RolePair
