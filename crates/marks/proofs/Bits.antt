@@ -1,5 +1,5 @@
 -- Laws of the bits of a byte, and of a byte set to have more of them.
---   bit_or_lem, bit_small                  a bit of a | b; a bit is 0 or 1
+--   bit_or_lem, bit_and_lem, bit_small     a bit of a | b and of a & b; a bit is 0 or 1
 --   bit_same, bit_other                1 << k has the bit k and no other
 --   within_byte                        where (a | b) ^ b is 0, b has the bits of a;  both_zero: a | b is 0 where both are
 --   or_at w i m                         w with the bits of m in its byte i, too: or_stays, or_has, or_only: its bits
@@ -7,11 +7,11 @@
 use mathlib.Core.Path.{◌≡◌, refl, sym, ap, ◌∙◌}
 use mathlib.Core.List.{List, [], ◌∷◌}
 use mathlib.Core.Logic.{◌⊎◌, inl, inr}
-use Prim.Native.Nat.{ℕ, zero, suc, ◌+◌, ◌-◌, ◌*◌, ◌/◌, ◌%◌, ◌^◌, ◌≤◌, ◌<◌, max}
+use Prim.Native.Nat.{ℕ, zero, suc, ◌+◌, ◌-◌, ◌*◌, ◌/◌, ◌%◌, ◌^◌, ◌≤◌, ◌<◌, max, min}
 use native.Mathlib.Nat.{mod-lt, div-eq_of_lt, zero-lt-suc, one-mul, not-suc-le-zero, le_of_suc-le-suc}
 use native.Mathlib.Omega.{arith}
 use native.Mathlib.Decide.{ℕ_discrete, dec_lt}
-use lib.Bits.{bit_or, bit_xor, differ, or_shr, or_step, xor_shr, xor_step, or_add_and, xor_add_and, and_le_l, and_le_r}
+use lib.Bits.{bit_or, bit_and, bit_xor, differ, or_shr, or_step, and_shr, and_step, xor_shr, xor_step, or_add_and, xor_add_and, and_le_l, and_le_r}
 use lib.Pow.{pow_pos, pow-lt, pow-add, shl-shr, shl_exact, shr-shr}
 use lib.ListN.{length, get_or, set}
 use lib.Seq.{get_or-set_same, get_or-set_other}
@@ -32,30 +32,37 @@ pub bit_or_lem : (a b k : ℕ) → bit (bit_or a b) k ≡ max (bit a k) (bit b k
 unfolding bit
 bit_or_lem a b k = rw (or_shr a b k) (last_of _ _ _ _ (bit_small a k) (bit_small b k) (or_step (a / 2 ^ k) (b / 2 ^ k)))
 
--- the bits of 1 << k
-mask_is : (k : ℕ) → k < 8 → 1 * 2 ^ k % 256 ≡ 1 * 2 ^ k
-mask_is k h = shl_exact {a = 1} 1 k 8 (omega arith) (omega arith)
+both_last : (b c p q : ℕ) → p < 2 → q < 2 → b ≡ c * 2 + min p q → b % 2 ≡ min p q
+both_last b c p q h l e = omega arith
 
-pub bit_same : (k : ℕ) → k < 8 → bit (1 * 2 ^ k % 256) k ≡ 1
+pub bit_and_lem : (a b k : ℕ) → bit (bit_and a b) k ≡ min (bit a k) (bit b k)
 unfolding bit
-bit_same k h = ap (λ (z : ℕ). z / 2 ^ k % 2) (mask_is k h) ∙ ap (λ (z : ℕ). z % 2) (shl-shr 1 k)
+bit_and_lem a b k = rw (and_shr a b k) (both_last _ _ _ _ (bit_small a k) (bit_small b k) (and_step (a / 2 ^ k) (b / 2 ^ k)))
+
+-- the bits of 1 << k, in a number of d bits
+mask_is : (d k : ℕ) → k < d → 1 * 2 ^ k % 2 ^ d ≡ 1 * 2 ^ k
+mask_is d k h = shl_exact {a = 1} 1 k d (omega arith) (omega arith)
+
+pub bit_same : (d k : ℕ) → k < d → bit (1 * 2 ^ k % 2 ^ d) k ≡ 1
+unfolding bit
+bit_same d k h = ap (λ (z : ℕ). z / 2 ^ k % 2) (mask_is d k h) ∙ ap (λ (z : ℕ). z % 2) (shl-shr 1 k)
 
 even_power : (d : ℕ) → 2 ^ suc d % 2 ≡ 0
 even_power d = omega arith
 
-pub bit_other : (k j : ℕ) → k < 8 → (j ≡ k → ⊥) → bit (1 * 2 ^ k % 256) j ≡ 0
+pub bit_other : (d k j : ℕ) → k < d → (j ≡ k → ⊥) → bit (1 * 2 ^ k % 2 ^ d) j ≡ 0
 unfolding bit
-bit_other k j h e = by_order (dec_lt j k)
+bit_other d k j h e = by_order (dec_lt j k)
   where
-    masked : {p : ℕ} → 1 * 2 ^ k / 2 ^ j ≡ p → p % 2 ≡ 0 → 1 * 2 ^ k % 256 / 2 ^ j % 2 ≡ 0
-    masked f g = ap (λ (z : ℕ). z / 2 ^ j % 2) (mask_is k h) ∙ ap (λ (z : ℕ). z % 2) f ∙ g
+    masked : {p : ℕ} → 1 * 2 ^ k / 2 ^ j ≡ p → p % 2 ≡ 0 → 1 * 2 ^ k % 2 ^ d / 2 ^ j % 2 ≡ 0
+    masked f g = ap (λ (z : ℕ). z / 2 ^ j % 2) (mask_is d k h) ∙ ap (λ (z : ℕ). z % 2) f ∙ g
 
-    by_order : Dec (j < k) → 1 * 2 ^ k % 256 / 2 ^ j % 2 ≡ 0
+    by_order : Dec (j < k) → 1 * 2 ^ k % 2 ^ d / 2 ^ j % 2 ≡ 0
     by_order (yes l) =
-        let d = k - suc j in
-        let s : suc d + j ≡ k = omega arith in
-        let p : 1 * 2 ^ k ≡ 2 ^ suc d * 2 ^ j = one-mul (2 ^ k) ∙ ap (λ (z : ℕ). 2 ^ z) (sym s) ∙ pow-add 2 (suc d) j in
-        masked (ap (λ (z : ℕ). z / 2 ^ j) p ∙ shl-shr (2 ^ suc d) j) (even_power d)
+        let i = k - suc j in
+        let s : suc i + j ≡ k = omega arith in
+        let p : 1 * 2 ^ k ≡ 2 ^ suc i * 2 ^ j = one-mul (2 ^ k) ∙ ap (λ (z : ℕ). 2 ^ z) (sym s) ∙ pow-add 2 (suc i) j in
+        masked (ap (λ (z : ℕ). z / 2 ^ j) p ∙ shl-shr (2 ^ suc i) j) (even_power i)
     by_order (no l) =
         let s : k < j = omega arith in
         masked (ap (λ (z : ℕ). z / 2 ^ j) (one-mul (2 ^ k)) ∙ div-eq_of_lt (pow-lt s)) refl

@@ -41,13 +41,13 @@ module _ (k : List ℕ) (y : ℕ) where
   or_added l = record {
     long = length-set k (y / 8) _;
     stays = λ z h. record { is = or_stays k (y / 8) _ (z / 8) (z % 8) l h.is };
-    there = record { is = or_has k (y / 8) _ (y % 8) l (bit_same (y % 8) (column_bit y)) };
+    there = record { is = or_has k (y / 8) _ (y % 8) l (bit_same 8 (y % 8) (column_bit y)) };
     only = λ z h. elim (or_only k (y / 8) _ (z / 8) (z % 8) l h.is) [ inl e ↦ inl (record { is = e }) | inr e ↦ inr (same z e.0 e.1 (ℕ_discrete (z % 8) (y % 8))) ];
   }
     where
       same : (z : ℕ) → z / 8 ≡ y / 8 → bit (1 * 2 ^ (y % 8) % 256) (z % 8) ≡ 1 → Dec (z % 8 ≡ y % 8) → z ≡ y
       same z e b (yes f) = omega arith
-      same z e b (no f) = absurd (omega (arith, bit_other (y % 8) (z % 8) (column_bit y) f))
+      same z e b (no f) = absurd (omega (arith, bit_other 8 (y % 8) (z % 8) (column_bit y) f))
 
 -- a row joined to a line: the first i bytes
 pub record JoinedTo (q : Square) (w : List ℕ) (x : ℕ) (k l : List ℕ) (i : ℕ) : Type 0 where

@@ -339,9 +339,9 @@ module _ {q : Square} {x y i : ℕ} (w : List ℕ) (p : Place q x y i) where
   put_fresh room yb h = record {
     extends = or_extends w i (mask y) (rw p.is (place_from_lem q x y)) p.below inside;
     hints = or_hints w i (mask y) (rw p.is (place_from_lem q x y)) p.below inside;
-    there = record { is = rw (← p.is) (or_has w i (mask y) (y % 8) inside (bit_same (y % 8) (column_bit y))) };
+    there = record { is = rw (← p.is) (or_has w i (mask y) (y % 8) inside (bit_same 8 (y % 8) (column_bit y))) };
     only = λ a b k l m. elim (or_only w i (mask y) _ _ inside m.is) [ inl z ↦ inl (record { is = z }) | inr z ↦ inr (by_bit a b l (z.0 ∙ p.is) z.1 (ℕ_discrete (b % 8) (y % 8))) ];
-    less = λ e. or_less w i (mask y) (y % 8) inside (column_bit y) (unset_bit h) (bit_same (y % 8) (column_bit y));
+    less = λ e. or_less w i (mask y) (y % 8) inside (column_bit y) (unset_bit h) (bit_same 8 (y % 8) (column_bit y));
     fresh = λ e m. unset_bit h (marked_byte m);
     same = λ e. not_true e;
   }
@@ -351,7 +351,7 @@ module _ {q : Square} {x y i : ℕ} (w : List ℕ) (p : Place q x y i) where
 
       by_bit : (a b : ℕ) → b ≤ q.names → place q a b ≡ place q x y → bit (mask y) (b % 8) ≡ 1 → Dec (b % 8 ≡ y % 8) → (a ≡ x) × (b ≡ y)
       by_bit a b l e m (yes z) = place_same q a b x y l yb e z
-      by_bit a b l e m (no z) = absurd (omega (arith, bit_other (y % 8) (b % 8) (column_bit y) z))
+      by_bit a b l e m (no z) = absurd (omega (arith, bit_other 8 (y % 8) (b % 8) (column_bit y) z))
 
 -- behind the rows of a square they change none of its marks
 module _ {q p : Square} {w v : List ℕ} (behind : Behind q p) (hints : Hints p w v) where

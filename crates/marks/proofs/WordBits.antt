@@ -1,6 +1,6 @@
 -- Laws of words.
 --   reads_none, reads_more             a word read byte after byte, the highest first
---   first_bit                          what counting the zeros at the low end of a number gives
+--   lowest, first_bit                  what counting the zeros at the low end of a number gives
 --   rest_of_word, rest_of_byte         the bits of a row from a column on;  end_after: they end after it
 use mathlib.Core.Path.{◌≡◌, refl, sym, ap, ◌∙◌}
 use mathlib.Core.List.{List}
@@ -88,10 +88,10 @@ bit_zero : (b : ℕ) → bit b 0 ≡ b % 2
 unfolding bit
 bit_zero b = omega arith
 
-record Lowest (d b r : ℕ) : Type 0 where
-  few : r < d
-  is : bit b r ≡ 1
-  none : (k : ℕ) → k < r → bit b k ≡ 0
+pub record Lowest (d b r : ℕ) : Type 0 where
+  pub few : r < d
+  pub is : bit b r ≡ 1
+  pub none : (k : ℕ) → k < r → bit b k ≡ 0
 
 lowest_even : {d b r : ℕ} → b % 2 ≡ 0 → Lowest d (b / 2) r → Lowest (suc d) b (suc r)
 lowest_even {d} {b} {r} e w = record { few = omega (arith, w.few); is = bit_half b r ∙ w.is; none = below }
@@ -100,7 +100,7 @@ lowest_even {d} {b} {r} e w = record { few = omega (arith, w.few); is = bit_half
     below zero m = bit_zero b ∙ e
     below (suc k) m = bit_half b k ∙ w.none k (le_of_suc-le-suc m)
 
-lowest : (d b : ℕ) → 0 < b → b < 2 ^ d → Lowest d b (count_trailing_zeros d b)
+pub lowest : (d b : ℕ) → 0 < b → b < 2 ^ d → Lowest d b (count_trailing_zeros d b)
 unfolding count_trailing_zeros
 lowest zero b h l = absurd (omega arith)
 lowest (suc d) b h l = by_bit (b % 2) refl (λ e. lowest d (b / 2) (omega arith) (omega (arith, pow-suc 2 d)))
