@@ -15,19 +15,20 @@ use Rattle.release.specs.Tables.{kind_at, role_at, filler_at, tail_at, count_at,
 use Rattle.release.specs.Entries.{node_number, entry_of}
 use Rattle.release.proofs.Sound.{Sound, axiom_sound, Tail, joined, restricted, Joined, tail_kind}
 use Rattle.release.specs.Kinds.{kind_number, kind_of_byte}
-use Rattle.release.specs.declared.table.Row as table
+use Rattle.release.specs.declared.table.Table.{Table}
 use Rattle.release.proofs.Faults.{restricts_not_joins}
 use Rattle.release.proofs.KindNumbers.{number_of_byte, joins_of_byte}
+use Rattle.release.proofs.Versions.{header_far, first_is}
 use Rattle.release.proofs.Scan.{filler_node_lem}
 
 -- a row by the file's bytes
-pub record Holds (n : ℕ) (s : List ℕ) (t : List table.Row) (q : ℕ) : Type 0 where
+pub record Holds (n : ℕ) (s : List ℕ) (t : Table) (q : ℕ) : Type 0 where
   pub kind : kind_at t (number (width_of s) s q) ≡ kind_number (kind_of_byte (get_or s (q + width_of s) 0))
   pub tail : tail_at t (number (width_of s) s q) ≡ q + width_of s + 1
   pub role : joins (get_or s (q + width_of s) 0) ≡ false → role_at t (number (width_of s) s q) ≡ get_or s (q + width_of s + 1) 0
   pub filler : joins (get_or s (q + width_of s) 0) ≡ false → filler_at t (number (width_of s) s q) ≡ node_number n (filler_node (width_of s) (number (width_of s) s (q + width_of s + 1 + 1)))
 
-row_holds : (n : ℕ) (s : List ℕ) (t : List table.Row) (q : ℕ) → Row t (entry_at n s q) → Holds n s t q
+row_holds : (n : ℕ) (s : List ℕ) (t : Table) (q : ℕ) → Row t (entry_at n s q) → Holds n s t q
 unfolding entry_at entry_of
 row_holds n s t q h = by_kind (joins (kind_number (kind_of_byte (get_or s (q + width_of s) 0)))) refl
   where
@@ -55,7 +56,7 @@ stands_sound n m (suc c) least s p q h (there i) = let z = both_none _ _ h in le
     z.1 i in (r.0, omega (arith, r.1, (axiom_sound (width_of s) n m least s p z.0).rises))
 
 -- the conjuncts of the axiom at q, in the table and in the file
-module _ {n c : ℕ} {s : List ℕ} {t : List table.Row} (d : Decoded n c s t) where
+module _ {n c : ℕ} {s : List ℕ} {t : Table} (d : Decoded n c s t) where
   pub holds : {q : ℕ} → Stands c s (first_place s) q → Holds n s t q
   holds {q} i = row_holds n s t q (d.row q i)
 
@@ -68,7 +69,7 @@ module _ {n c : ℕ} {s : List ℕ} {t : List table.Row} (d : Decoded n c s t) w
   part_is {q} i j = rw (holds i).tail
 
 -- the ranges
-module _ (m : ℕ) {n c : ℕ} {s : List ℕ} {t : List table.Row} (d : Decoded n c s t) (none : axioms_fault (width_of s) n m c 0 s (first_place s) ≡ 0) where
+module _ (m : ℕ) {n c : ℕ} {s : List ℕ} {t : Table} (d : Decoded n c s t) (none : axioms_fault (width_of s) n m c 0 s (first_place s) ≡ 0) where
   pub sound : {q : ℕ} → Stands c s (first_place s) q → Sound (width_of s) n m 0 s q
   sound {q} i = (stands_sound n m c 0 s (first_place s) q none i).0
 
@@ -100,7 +101,7 @@ module _ (m : ℕ) {n c : ℕ} {s : List ℕ} {t : List table.Row} (d : Decoded 
 
   pub shaped : first_place s ≤ length s → Shaped n s t
   shaped long = record {
-    version = omega arith;
+    version = omega (arith, first_is s, header_far s);
     rows = d.rows;
     filler = λ x l e. elim (d.origin x l) [ blank z ↦ absurd (false≢true (rw z at e)) | of_axiom i z ↦ rw z at (shaped_filler i (rw (← z) at e)) ];
     inside = λ x l e. elim (d.origin x l) [ blank z ↦ absurd (false≢true (rw z at e)) | of_axiom i z ↦ rw z at (shaped_inside i (rw (← z) at e)) ];

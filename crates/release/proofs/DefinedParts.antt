@@ -11,13 +11,13 @@ use Rattle.std.proofs.lemmas.List.FromFn.{length-range_with_len, get_or-range_wi
 use Rattle.el.proofs.Tests.{Tells, always, never}
 use Rattle.release.specs.Files.{joins, width_of}
 use Rattle.release.specs.Tables.{kind_at, count_at, HasRow, HasCount, HasPart, Shaped, Conjunctive, PartDefined, SomePartDefined}
-use Rattle.release.specs.declared.table.Row as table
+use Rattle.release.specs.declared.table.Table.{Table}
 use Rattle.release.proofs.Numbers.{step_within}
 
-pub has_row : (n : ℕ) (s : List ℕ) (t : List table.Row) (x : ℕ) → Shaped n s t → x < n → HasRow t x
+pub has_row : (n : ℕ) (s : List ℕ) (t : Table) (x : ℕ) → Shaped n s t → x < n → HasRow x
 has_row n s t x h l = record { row = omega (arith, h.rows) }
 
-module _ (n : ℕ) (s : List ℕ) (t : List table.Row) (x : ℕ) (h : Conjunctive n s t x) where
+module _ (n : ℕ) (s : List ℕ) (t : Table) (x : ℕ) (h : Conjunctive n s t x) where
   pub has_count : HasCount s t x
   has_count = record { row = (has_row n s t x h.shaped h.is_name).row; inside = omega (arith, h.shaped.inside x h.is_name h.is_conjunctive) }
 
@@ -29,11 +29,11 @@ module _ (n : ℕ) (s : List ℕ) (t : List table.Row) (x : ℕ) (h : Conjunctiv
   }
 
 -- the name x has such a conjunct
-abbrev pub HasPartDefined : List ℕ → List table.Row → ℕ → Type 0
+abbrev pub HasPartDefined : List ℕ → Table → ℕ → Type 0
 HasPartDefined s t x = joins (kind_at t x) ≡ true × PartDefined s t x
 
 -- the names asked one after the other by `any`
-module _ {n : ℕ} {s : List ℕ} {t : List table.Row} where
+module _ {n : ℕ} {s : List ℕ} {t : Table} where
   pub some_told : (r : Bool) → MatchBool r ((k : ℕ) × (k < length (range_with_len 0 n)) × HoldsAt (HasPartDefined s t) (range_with_len 0 n) k)
       (AllWithin (λ x. HasPartDefined s t x → ⊥) (range_with_len 0 n) 0 (length (range_with_len 0 n))) → Tells r (SomePartDefined n s t)
   some_told true h =

@@ -9,9 +9,10 @@ use Prim.Native.Nat.{ℕ, zero, suc, ◌+◌, ◌-◌, ◌≤◌, ◌<◌}
 use native.Mathlib.Numerals.{add-one}
 use native.Mathlib.Omega.{arith}
 use borrow.Author.Tests.{lt-ltb, le-ltb, le-leb, lt-leb, eq-eqb, ne_eqb}
-use lib.Dec.{ltb}
+use lib.Dec.{ltb, leb}
 use lib.ListN.{length, get_or}
-use Rattle.release.specs.Files.{number, parts_fault, conjunction_fault, restriction_fault, most_conjuncts, top_number, is_filler, joins, restricts}
+use Rattle.el.specs.Lists.{pick}
+use Rattle.release.specs.Files.{number, ends, role_fault, parts_fault, conjunction_fault, restriction_fault, most_conjuncts, top_number, is_filler, joins, restricts}
 
 -- a run of names
 pub parts_none : (w n k least : ℕ) (s : List ℕ) (p : ℕ) → k ≤ 0 → parts_fault w n k least s p ≡ 0
@@ -58,33 +59,53 @@ module _ (w n : ℕ) (s : List ℕ) (p : ℕ) where
     unfolding conjunction_fault
     conjunction_parts h = simp (conjunction_fault, ← e, le-ltb _ _ within, le-ltb _ _ h)
 
--- and a restriction's
+-- a role: what it meets itself comes before all that is met behind it
+module _ (m : ℕ) (s : List ℕ) (p : ℕ) where
+  pub role_7 : length s ≤ p → role_fault m s p 0 ≡ 7
+  role_7 h = let l : length s < p + 1 = omega arith in rw (lt-ltb _ _ l)
+
+  pub role_11 : p < length s → m ≤ get_or s p 0 → role_fault m s p 0 ≡ 11
+  role_11 h f = let l : p + 1 ≤ length s = omega arith in rw (le-ltb _ _ l, le-leb _ _ f)
+
+  pub role_none : p < length s → get_or s p 0 < m → role_fault m s p 0 ≡ 0
+  role_none h f = let l : p + 1 ≤ length s = omega arith in rw (le-ltb _ _ l, lt-leb _ _ f)
+
+  pub role_first : (rest : ℕ) → 0 < role_fault m s p 0 → role_fault m s p rest ≡ role_fault m s p 0
+  role_first rest some = by_tests (ends 1 s p) (leb m (get_or s p 0)) some
+    where
+      by_tests : (a b : Bool) → 0 < pick a 7 (pick b 11 0) → ◌≡◌ {A = ℕ} (pick a 7 (pick b 11 rest)) (pick a 7 (pick b 11 0))
+      by_tests true b some = refl
+      by_tests false true some = refl
+      by_tests false false some = absurd (omega arith)
+
+  pub role_passed : (rest : ℕ) → role_fault m s p 0 ≡ 0 → role_fault m s p rest ≡ rest
+  role_passed rest none = by_tests (ends 1 s p) (leb m (get_or s p 0)) none
+    where
+      by_tests : (a b : Bool) → ◌≡◌ {A = ℕ} (pick a 7 (pick b 11 0)) 0 → ◌≡◌ {A = ℕ} (pick a 7 (pick b 11 rest)) rest
+      by_tests true b none = absurd (omega arith)
+      by_tests false true none = absurd (omega arith)
+      by_tests false false none = refl
+
+-- and a restriction's tail
 module _ (w n m : ℕ) (s : List ℕ) (p : ℕ) where
-  pub restriction_7 : length s ≤ p → restriction_fault w n m s p ≡ 7
+  pub restriction_role : 0 < role_fault m s p 0 → restriction_fault w n m s p ≡ role_fault m s p 0
   unfolding restriction_fault
-  restriction_7 h = let l : length s < p + 1 = omega arith in simp (restriction_fault, lt-ltb _ _ l)
+  restriction_role some = role_first m s p _ some
 
-  module _ (in_file : p < length s) (x : ℕ) (e : x ≡ get_or s p 0) where
-    role_within : p + 1 ≤ length s
-    role_within = omega arith
-
-    pub restriction_11 : m ≤ x → restriction_fault w n m s p ≡ 11
+  module _ (none : role_fault m s p 0 ≡ 0) where
+    behind_role : restriction_fault w n m s p ≡ pick (ends w s (p + 1)) 7 (pick (is_filler w n (number w s (p + 1))) 0 9)
     unfolding restriction_fault
-    restriction_11 h = simp (restriction_fault, ← e, le-ltb _ _ role_within, le-leb _ _ h)
+    behind_role = role_passed m s p _ none
 
-    module _ (small : x < m) where
-      pub restriction_short : length s < p + 1 + w → restriction_fault w n m s p ≡ 7
-      unfolding restriction_fault
-      restriction_short h = simp (restriction_fault, ← e, le-ltb _ _ role_within, lt-leb _ _ small, lt-ltb _ _ h)
+    pub restriction_short : length s < p + 1 + w → restriction_fault w n m s p ≡ 7
+    restriction_short h = behind_role ∙ rw (lt-ltb _ _ h)
 
-      module _ (within : p + 1 + w ≤ length s) (f : ℕ) (i : f ≡ number w s (p + 1)) where
-        pub restriction_9 : is_filler w n f ≡ false → restriction_fault w n m s p ≡ 9
-        unfolding restriction_fault
-        restriction_9 h = simp (restriction_fault, ← e, ← i, le-ltb _ _ role_within, lt-leb _ _ small, le-ltb _ _ within, h)
+    module _ (within : p + 1 + w ≤ length s) (f : ℕ) (i : f ≡ number w s (p + 1)) where
+      pub restriction_9 : is_filler w n f ≡ false → restriction_fault w n m s p ≡ 9
+      restriction_9 h = behind_role ∙ simp (← i, le-ltb _ _ within, h)
 
-        pub restriction_none : is_filler w n f ≡ true → restriction_fault w n m s p ≡ 0
-        unfolding restriction_fault
-        restriction_none h = simp (restriction_fault, ← e, ← i, le-ltb _ _ role_within, lt-leb _ _ small, le-ltb _ _ within, h)
+      pub restriction_none : is_filler w n f ≡ true → restriction_fault w n m s p ≡ 0
+      restriction_none h = behind_role ∙ simp (← i, le-ltb _ _ within, h)
 
 pub is_filler_lem : (w n b : ℕ) → (b < n) ⊎ (b ≡ top_number w) → is_filler w n b ≡ true
 is_filler_lem w n b (inl h) = rw (lt-ltb _ _ h)

@@ -1,6 +1,9 @@
 -- Laws of the release file's definitions.
 pub mod Refusing
+pub mod RoleSets
+pub mod RoleTables
 pub mod Numbers
+pub mod Versions
 pub mod Headers
 pub mod Faults
 pub mod KindNumbers
@@ -12,6 +15,7 @@ pub mod DefinedParts
 pub mod PartWalks
 pub mod PartTests
 pub mod Decoding
+pub mod RolePairs
 pub mod NormalForm
 pub mod Checks
 pub mod Linked

@@ -11,7 +11,7 @@ use Rattle.el.proofs.Lists.{Some}
 use Rattle.el.proofs.Tests.{Tells, tells_true, tells_eq, tells_and, tells_any}
 use Rattle.release.specs.Files.{number, width_of, first_place, joins, defines, axioms_fault, axiom_at, axioms_from, conjunct_defined}
 use Rattle.release.specs.Tables.{kind_at, count_at, part_at, Stands, blank, of_axiom, Decoded, PartDefined, SomePartDefined}
-use Rattle.release.specs.declared.table.Row as table
+use Rattle.release.specs.declared.table.Table.{Table}
 use Rattle.release.proofs.Faults.{high_not_joins}
 use Rattle.release.proofs.Decoding.{kind_is, count_is, part_is, sound, shaped, stands_in, in_stands, axiom_joins, axiom_parts, axiom_no_parts}
 use Rattle.release.proofs.Numbers.{in_numbers, numbers_at}
@@ -43,7 +43,7 @@ unfolding conjunct_defined
 tells_listed al = tells_any _ al (λ a _. tells_any _ (parts_of a)
     (λ x _. tells_any _ al (λ b _. tells_and (tells_eq b.left x) (λ _. tells_and (tells_true b.defined) (λ _. tells_true (is_conjunction b))))))
 
-module _ (m : ℕ) {n c : ℕ} {s : List ℕ} {t : List table.Row} (d : Decoded n c s t) (none : axioms_fault (width_of s) n m c 0 s (first_place s) ≡ 0) (long : first_place s ≤ length s) where
+module _ (m : ℕ) {n c : ℕ} {s : List ℕ} {t : Table} (d : Decoded n c s t) (none : axioms_fault (width_of s) n m c 0 s (first_place s) ≡ 0) (long : first_place s ≤ length s) where
   -- from the table to the axioms
   part_in : {q : ℕ} → Stands c s (first_place s) q → joins (kind_at t (number (width_of s) s q)) ≡ true → (j : ℕ) → j < count_at s t (number (width_of s) s q)
       → In (parts_of (axiom_at (width_of s) s q)) (part_at s t (number (width_of s) s q) j)

@@ -47,7 +47,7 @@ one_byte : (s : List ℕ) (p : ℕ) → number 1 s p ≡ get_or s p 0
 unfolding number
 one_byte s p = omega arith
 
-two_bytes : (s : List ℕ) (p : ℕ) → number 2 s p ≡ get_or s p 0 + 256 * get_or s (p + 1) 0
+pub two_bytes : (s : List ℕ) (p : ℕ) → number 2 s p ≡ get_or s p 0 + 256 * get_or s (p + 1) 0
 unfolding number
 two_bytes s p = omega arith
 

@@ -14,7 +14,7 @@ use Rattle.el.proofs.Tests.{Tells, always, never}
 use Rattle.release.specs.Tables.{count_at, part_at}
 use Rattle.release.specs.Parts.{PartsOf, PartGiven, SomePart, EachPart}
 use Rattle.release.specs.declared.parts.Parts.{Parts}
-use Rattle.release.specs.declared.table.Row as table
+use Rattle.release.specs.declared.table.Table.{Table}
 use Rattle.release.proofs.PartWalks.{part_is, part_among, walk_on, all_given}
 
 -- where calls leave the closure as it is, it is the same after each run
@@ -22,7 +22,7 @@ stays : {F : Type 0} (R : F → ℕ → F → Type 0) {f : F} → ((y : ℕ) (q 
 stays R still [] q c = sym c
 stays {F} R {f} still (y ∷ ys) q c = stays R still ys q (subst (λ e. FoldsTo R e ys q) (still y c.0 c.1) c.2)
 
-module _ (s : List ℕ) (t : List table.Row) (x : ℕ) where
+module _ (s : List ℕ) (t : Table) (x : ℕ) where
   -- k conjuncts from i on; all of them
   abbrev parts_from : ℕ → ℕ → List ℕ
   parts_from zero i = []
@@ -57,7 +57,7 @@ module _ (s : List ℕ) (t : List table.Row) (x : ℕ) where
   each_told P true h = always (record { at = λ i l. of_list P i l (h i 0 (omega arith) (omega (arith, l, how_many (count_at s t x) 0))) })
   each_told P false h = let l : h.0 < count_at s t x = omega (arith, h.1, how_many (count_at s t x) 0) in never (λ z. h.2 0 (to_list P h.0 l (z.at h.0 l)))
 
-module _ {s : List ℕ} {t : List table.Row} {x : ℕ} where
+module _ {s : List ℕ} {t : Table} {x : ℕ} where
   given_from : (k i : ℕ) {p : Parts} → PartsOf s t x i p → i + k ≡ count_at s t x → AlwaysYields PartGiven (λ y. y) p (parts_from s t x k i)
   given_from zero i h e = λ y q g. absurd (omega (arith, part_among h g))
   given_from (suc k) i h e = ((λ q g. absurd (omega (arith, all_given h g))), λ y q g. (part_is h g, given_from k (i + 1) (walk_on h g) (omega arith)))

@@ -8,13 +8,13 @@ use Rattle.std.specs.Prelude.{Some, None}
 use Rattle.release.specs.Tables.{count_at, part_at, Conjunctive}
 use Rattle.release.specs.Parts.{HasParts, PartsOf, SoFar, CanGive, PartGiven, part_of}
 use Rattle.release.specs.declared.parts.Parts.{Parts}
-use Rattle.release.specs.declared.table.Row as table
+use Rattle.release.specs.declared.table.Table.{Table}
 use Rattle.release.proofs.DefinedParts.{has_row}
 
-pub has_parts : {n : ℕ} {s : List ℕ} {t : List table.Row} {x : ℕ} → Conjunctive n s t x → HasParts s t x
+pub has_parts : {n : ℕ} {s : List ℕ} {t : Table} {x : ℕ} → Conjunctive n s t x → HasParts s t x
 has_parts {n} {s} {t} {x} h = record { version = h.shaped.version; row = (has_row n s t x h.shaped h.is_name).row; inside = h.shaped.inside x h.is_name h.is_conjunctive }
 
-module _ {s : List ℕ} {t : List table.Row} {x : ℕ} where
+module _ {s : List ℕ} {t : Table} {x : ℕ} where
   -- the walk itself, with its index i
   pub can_give : {i : ℕ} {p : Parts} → PartsOf s t x i p → CanGive p
   can_give h = record { inside = rw (h.first, h.version, h.count, h.file) h.inside }

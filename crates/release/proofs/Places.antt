@@ -14,7 +14,7 @@ use Rattle.el.specs.Lists.{pick}
 use Rattle.el.proofs.Tests.{which}
 use Rattle.release.specs.declared.refusals.FileRefusal.{FileRefusal}
 use Rattle.release.specs.declared.show.Place.{Place}
-use Rattle.release.specs.declared.table.Row as table
+use Rattle.release.specs.declared.table.Table.{Table}
 use Rattle.release.specs.Files.{number, width_of, first_place, names_of, roles_of, count_of, joins, axiom_length, axiom_fault, axioms_fault, restricts, fault, accepted}
 use Rattle.release.specs.Tables.{kind_at, tail_at, Stands, here, there, blank, of_axiom, HasRow, Release, ReleaseRead}
 use Rattle.release.specs.Readings.{counts_in, checked}
@@ -71,18 +71,18 @@ no_kind_0 : (k : ℕ) → k ≡ 0 → (joins k ≡ true) ⊎ (restricts k ≡ tr
 no_kind_0 k e (inl h) = false≢true (rw e at h)
 no_kind_0 k e (inr h) = false≢true (rw e at h)
 
-row_kind : {s : List ℕ} {t : List table.Row} (r : Release s t) {q : ℕ} → Stands (count_of s) s (first_place s) q → kind_at t (number (width_of s) s q) ≡ get_or s (q + width_of s) 0
+row_kind : {s : List ℕ} {t : Table} (r : Release s t) {q : ℕ} → Stands (count_of s) s (first_place s) q → kind_at t (number (width_of s) s q) ≡ get_or s (q + width_of s) 0
 row_kind {s} r i = kind_is (roles_of s) r.decoded (no_axiom_fault s r.accepted) i
 
-pub version_within : {s : List ℕ} {t : List table.Row} → Release s t → 3 < length s
+pub version_within : {s : List ℕ} {t : Table} → Release s t → 3 < length s
 version_within r = (ranges r).version
 
-module _ {s : List ℕ} {t : List table.Row} (r : Release s t) (side x : ℕ) where
+module _ {s : List ℕ} {t : Table} (r : Release s t) (side x : ℕ) where
   pub place_outside : names_of s ≤ x → nowhere ≡ place_in side s x
   place_outside l = sym (place_none s side (count_of s) (first_place s) x (λ q i e. omega (arith, (sound_at s r.accepted i).left)))
 
   module _ (small : x < names_of s) where
-    pub place_row : HasRow t x
+    pub place_row : HasRow x
     place_row = record { row = omega (arith, r.decoded.rows) }
 
     pub place_blank : kind_at t x ≡ 0 → nowhere ≡ place_in side s x
@@ -127,7 +127,7 @@ module _ {s : List ℕ} {t : List table.Row} (r : Release s t) (side x : ℕ) wh
 pub refused_by_lem : (f : ℕ) (s : List ℕ) (k : Numbers) → answer 1 f (counts_in s) ≡ Err k → eqb f 0 ≡ false
 refused_by_lem f s k h = ne_eqb f 0 (λ e. omega (arith, e, (is_refused 1 f (counts_in s) k (sym h)).1))
 
-pub not_accepted : {s : List ℕ} {t : List table.Row} {r : FileRefusal} → ReleaseRead s t (Err r) → accepted s ≡ false
+pub not_accepted : {s : List ℕ} {t : Table} {r : FileRefusal} → ReleaseRead s t (Err r) → accepted s ≡ false
 unfolding checked
 not_accepted {s} {r = r} read = refused_by_lem (fault s) s (file_refusal r) (sym read.answer)
 

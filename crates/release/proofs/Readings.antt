@@ -7,16 +7,17 @@ use native.Mathlib.Omega.{arith}
 use borrow.Author.Tests.{lt-ltb, le-ltb, le-leb, lt-leb}
 use lib.ListN.{length, get_or}
 use Rattle.std.specs.Prelude.{Result, Ok, Err}
+use Rattle.release.specs.declared.RoleName.{RoleName}
 use Rattle.release.specs.declared.axiom.Cursor.{Cursor}
 use Rattle.release.specs.declared.axiom.Entry.{Entry}
 use Rattle.release.specs.declared.kinds.Kind.{Kind}
-use Rattle.release.specs.Files.{number, conjunction_fault, restriction_fault, tail_fault, tail_length, axiom_fault, axiom_length, joins, restricts, filler_node}
-use Rattle.release.specs.Entries.{node_number, entry_of, reading, tail_reading, reading_at}
+use Rattle.release.specs.Files.{number, role_fault, conjunction_fault, restriction_fault, tail_fault, tail_length, axiom_fault, axiom_length, joins, restricts, filler_node}
+use Rattle.release.specs.Entries.{role_reading, node_number, entry_of, reading, tail_reading, reading_at}
 use Rattle.release.specs.Kinds.{kind_number, kind_of_byte}
 use Rattle.release.specs.Refusals.{Numbers, answer}
-use Rattle.release.proofs.Faults.{restricts_not_joins}
+use Rattle.release.proofs.Faults.{restriction_role, restricts_not_joins}
 use Rattle.release.proofs.KindNumbers.{kind_of_number}
-use Rattle.release.proofs.Refusing.{refuses}
+use Rattle.release.proofs.Refusing.{refuses, is_accepted, passes_on}
 
 -- an axiom with the next place, and a refusal of the file
 abbrev pub axiom_read : Entry → Cursor → Result (Entry × Cursor) Numbers
@@ -24,6 +25,17 @@ axiom_read entry next = Ok (entry, next)
 
 abbrev pub refused : ℕ → Result (Entry × Cursor) Numbers
 refused k = Err (record { number = k; side = 1 })
+
+-- a role: what reading it says
+module _ (m : ℕ) (s : List ℕ) (p : ℕ) where
+  pub role_read : {r : RoleName} → Ok r ≡ role_reading m s p → (role_fault m s p 0 ≡ 0) × (r ≡ record { 0 = get_or s p 0 })
+  unfolding role_reading
+  role_read {r} h = is_accepted 1 (role_fault m s p 0) (record { 0 = get_or s p 0 }) r h
+
+  -- a refusal of it, passed on
+  pub role_refused : {A : Type 0} {k : Numbers} → Err k ≡ role_reading m s p → (f : ℕ) (a : A) → (0 < role_fault m s p 0 → f ≡ role_fault m s p 0) → Err k ≡ answer 1 f a
+  unfolding role_reading
+  role_refused {k = k} h f a e = passes_on 1 (role_fault m s p 0) f (record { 0 = get_or s p 0 }) a k h e
 
 module _ (w n m left : ℕ) (kind : Kind) (s : List ℕ) (p : ℕ) where
   -- conjunctions
@@ -47,6 +59,9 @@ module _ (w n m left : ℕ) (kind : Kind) (s : List ℕ) (p : ℕ) where
 
     pub restriction_refused : (k : ℕ) → 0 < k → restriction_fault w n m s p ≡ k → refused k ≡ tail_reading w n m left kind s p
     restriction_refused k some e = refuses 1 k _ _ some e ∙ restriction_read (get_or s p 0) (number w s (p + 1)) _ refl refl refl
+
+    pub restriction_of_role : {k : Numbers} → Err k ≡ role_reading m s p → Err k ≡ tail_reading w n m left kind s p
+    restriction_of_role h = role_refused m s p h (restriction_fault w n m s p) _ (restriction_role w n m s p) ∙ restriction_read (get_or s p 0) (number w s (p + 1)) _ refl refl refl
 
 -- a whole axiom
 module _ (w n m least : ℕ) (s : List ℕ) (p : ℕ) where

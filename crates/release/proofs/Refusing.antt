@@ -1,11 +1,13 @@
 -- Laws of what is told of an answer: for a refusal, for a value, and for a refusal that is passed on.
 --   refuses, accepts           what is told where the first refusal's number is known, or where there is none
+--   first_some                 a refusal comes before those that are met later
 --   is_refused, is_accepted    the first refusal's number, by what is told
 --   passes_on                  a refusal of a part, told of the whole; passed: the same of the refusal that `?` returns
 use mathlib.Core.Path.{◌≡◌, refl}
 use Prim.Native.Nat.{ℕ, zero, suc, ◌<◌}
 use native.Mathlib.Omega.{arith}
 use Rattle.std.specs.Prelude.{Result, Ok, Err, IsErrAnd}
+use Rattle.release.specs.Files.{first_of}
 use Rattle.release.specs.Refusals.{Numbers, answer}
 
 pub refuses : {A : Type 0} (side k f : ℕ) (a : A) → 0 < k → f ≡ k → Err (record { number = k; side = side }) ≡ answer side f a
@@ -14,6 +16,10 @@ refuses side (suc k) f a some e = rw e
 
 pub accepts : {A : Type 0} (side f : ℕ) (a : A) → f ≡ 0 → Ok a ≡ answer side f a
 accepts side f a e = rw e
+
+pub first_some : (j k : ℕ) → 0 < j → first_of j k ≡ j
+first_some zero k some = absurd (omega arith)
+first_some (suc j) k some = refl
 
 pub is_refused : {A : Type 0} (side f : ℕ) (a : A) (n : Numbers) → Err n ≡ answer side f a → (n ≡ record { number = f; side = side }) × (0 < f)
 is_refused side zero a n h = absurd (cc)

@@ -1,5 +1,5 @@
 -- The axioms read one after the other into the table by name.
---   Going n m c s t left at least     of c axioms, `left` are still to be read, from place `at` on, with left names from `least` on
+--   Going n m c s old t left at least     the table old is t now: of c axioms, `left` are still to be read, from place `at` on, with left names from `least` on
 use mathlib.Core.Path.{◌≡◌, refl, sym, ap, subst, ◌∙◌}
 use mathlib.Core.Bool.{Bool, true, false, ◌||◌}
 use mathlib.Core.Logic.{◌⊎◌, inl, inr}
@@ -17,7 +17,7 @@ use Rattle.release.specs.declared.axiom.Cursor.{Cursor}
 use Rattle.release.specs.declared.kinds.Kind.{Kind}
 use Rattle.release.specs.declared.refusals.FileRefusal.{FileRefusal}
 use Rattle.release.specs.declared.refusals.FileRefusal.TheVariants.{BytesLeftOver}
-use Rattle.release.specs.declared.table.Row as table
+use Rattle.release.specs.declared.table.Table.{Table}
 use Rattle.release.specs.Files.{number, width_of, first_place, most_names, most_roles, joins, is_filler, filler_node, top_number, axiom_fault, axiom_length, axioms_fault, first_of}
 use Rattle.release.specs.Tables.{Stands, here, there, Row, Put, Fits, entry_at, Origin, blank, of_axiom, Ready, AxiomsRead}
 use Rattle.release.specs.Entries.{node_number, entry_of, reading, reading_at}
@@ -28,6 +28,7 @@ use Rattle.release.proofs.KindNumbers.{joins_of_byte}
 use Rattle.release.proofs.Readings.{axiom_read}
 use Rattle.release.proofs.Sound.{Sound, axiom_sound, Tail, joined, restricted, tail_within}
 use Rattle.release.proofs.Numbers.{is_width}
+use Rattle.release.proofs.Versions.{header_near, first_is}
 use Rattle.release.proofs.Rows.{row_kept}
 
 -- what an answer says of what was read
@@ -90,50 +91,62 @@ filler_node_lem w n b h = go (eqb b (top_number w)) refl
     go true e = rw e (omega arith)
     go false e = let l : b < n = ltb-true b n (or_false _ (rw e at h)) in rw e (omega arith)
 
-entry_fits : (n m least : ℕ) (s : List ℕ) (t : List table.Row) (q : ℕ) → n ≤ most_names → m ≤ most_roles → n ≤ length t → q ≤ 36838 → Sound (width_of s) n m least s q → Fits (entry_at n s q) t
+entry_fits : (n m least : ℕ) (s : List ℕ) (q : ℕ) → n ≤ most_names → m ≤ most_roles → q ≤ 37349 → Sound (width_of s) n m least s q → Fits (entry_at n s q)
 unfolding entry_at entry_of
-entry_fits n m least s t q hn hm ht hq v = let l : width_of s ≤ 2 = (is_width s).few in go l v.tail
+entry_fits n m least s q hn hm hq v = let l : width_of s ≤ 2 = (is_width s).few in go l v.tail
   where
-    go : width_of s ≤ 2 → Tail (width_of s) n m (get_or s (q + width_of s) 0) s (q + width_of s + 1) → Fits (entry_at n s q) t
-    go l (joined e j) = rw (joins_of_byte (get_or s (q + width_of s) 0) ∙ e, entry_of) (record { row = omega (arith, v.left); role = omega arith; filler = omega arith; tail = omega arith })
+    go : width_of s ≤ 2 → Tail (width_of s) n m (get_or s (q + width_of s) 0) s (q + width_of s + 1) → Fits (entry_at n s q)
+    go l (joined e j) = rw (joins_of_byte (get_or s (q + width_of s) 0) ∙ e, entry_of) (record { row = omega (arith, v.left); filler = omega arith; tail = omega arith })
     go l (restricted e f r) = let k : node_number n (filler_node (width_of s) (number (width_of s) s (q + width_of s + 1 + 1))) ≤ n = filler_node_lem (width_of s) n _ r.filler in
-        rw (joins_of_byte (get_or s (q + width_of s) 0) ∙ e, entry_of) (record { row = omega (arith, v.left); role = omega (arith, r.role); filler = omega arith; tail = omega arith })
+        rw (joins_of_byte (get_or s (q + width_of s) 0) ∙ e, entry_of) (record { row = omega (arith, v.left); filler = omega arith; tail = omega arith })
 
-pub record Going (n m count : ℕ) (s : List ℕ) (t : List table.Row) (left at least : ℕ) : Type 0 where
+pub record Going (n m count : ℕ) (s : List ℕ) (old t : Table) (left at least : ℕ) : Type 0 where
   pub fault : axioms_fault (width_of s) n m count 0 s (first_place s) ≡ axioms_fault (width_of s) n m left least s at
   pub within : at ≤ length s
-  -- a (first_place s) has at most 10 bytes, an axiom at most 36
-  pub near : at + 36 * left ≤ 10 + 36 * count
+  -- a header has at most 11 bytes, 255 pairs have 510, an axiom has at most 36
+  pub near : at + 36 * left ≤ 521 + 36 * count
   pub rest : (q : ℕ) → Stands left s at q → Stands count s (first_place s) q
   pub row : (q : ℕ) → Stands count s (first_place s) q → Stands left s at q ⊎ (Row t (entry_at n s q) × (number (width_of s) s q < least))
   pub origin : (x : ℕ) → x < n → Origin count s t x
+  pub rows : n ≤ most_names
+  pub roles : t.roles ≡ old.roles
 
-module _ (n m count : ℕ) (s : List ℕ) (t : List table.Row) where
-  pub start : Ready n m count s t → Going n m count s t count (first_place s) 0
-  start r = record { fault = refl; within = r.long; near = omega (arith, (is_width s).few); rest = λ q h. h; row = λ q h. inl h; origin = λ x l. blank (r.blank x l) }
+module _ (n m count : ℕ) (s : List ℕ) (t : Table) where
+  pub start : Ready n m count s t → Going n m count s t t count (first_place s) 0
+  start r = record {
+    fault = refl;
+    within = r.long;
+    near = omega (arith, first_is s, header_near s, r.few_pairs);
+    rest = λ q h. h;
+    row = λ q h. inl h;
+    origin = λ x l. blank (r.blank x l);
+    rows = r.names;
+    roles = refl;
+  }
 
-module _ (n m count : ℕ) (s : List ℕ) (t : List table.Row) (left at least : ℕ) (g : Going n m count s t left at least) where
-  pub end_14 : left ≤ 0 → at < length s → AxiomsRead n m count s t (Err BytesLeftOver)
+module _ (n m count : ℕ) (s : List ℕ) (old t : Table) (left at least : ℕ) (g : Going n m count s old t left at least) where
+  pub end_14 : left ≤ 0 → at < length s → AxiomsRead n m count s old t (Err BytesLeftOver)
   unfolding axioms_fault
   end_14 l h =
       let e : left ≡ 0 = omega arith in
       let f : axioms_fault (width_of s) n m count 0 s (first_place s) ≡ 14 = g.fault ∙ rw (e, lt-ltb _ _ h) in
-      record { fault = refuses 1 14 _ _ (omega arith) f; decoded = λ z. absurd (omega (arith, f)) }
+      record { fault = refuses 1 14 _ _ (omega arith) f; decoded = λ z. absurd (omega (arith, f)); roles = g.roles }
 
-  pub end : left ≤ 0 → length s ≤ at → n ≤ length t → AxiomsRead n m count s t (Ok tt)
+  pub end : left ≤ 0 → length s ≤ at → AxiomsRead n m count s old t (Ok tt)
   unfolding axioms_fault
-  end l h rows = let e : left ≡ 0 = omega arith in record {
+  end l h = let e : left ≡ 0 = omega arith in record {
     fault = accepts 1 _ _ (g.fault ∙ rw (e, le-ltb _ _ h));
-    decoded = λ z. record { rows = rows; row = λ q i. elim (g.row q i) [ inl k ↦ absurd (stands_none left l k) | inr k ↦ k.0 ]; origin = g.origin };
+    decoded = λ z. record { rows = g.rows; row = λ q i. elim (g.row q i) [ inl k ↦ absurd (stands_none left l k) | inr k ↦ k.0 ]; origin = g.origin };
+    roles = g.roles;
   }
 
   module _ (more : 0 < left) where
-    pub refuses_axiom : (e : FileRefusal) → Err (file_refusal e) ≡ reading_at (width_of s) n m least s at → AxiomsRead n m count s t (Err e)
+    pub refuses_axiom : (e : FileRefusal) → Err (file_refusal e) ≡ reading_at (width_of s) n m least s at → AxiomsRead n m count s old t (Err e)
     unfolding reading_at reading
     refuses_axiom e is =
         let z = is_refused 1 (axiom_fault (width_of s) n m least s at) _ (file_refusal e) is in
         let f : axioms_fault (width_of s) n m count 0 s (first_place s) ≡ axiom_fault (width_of s) n m least s at = g.fault ∙ stops n m s left at least more _ refl z.1 in
-        record { fault = passes_on 1 _ _ _ tt (file_refusal e) is (λ some. f); decoded = λ w. absurd (omega (arith, f, w, z.1)) }
+        record { fault = passes_on 1 _ _ _ tt (file_refusal e) is (λ some. f); decoded = λ w. absurd (omega (arith, f, w, z.1)); roles = g.roles }
 
     module _ (entry : Entry) (c : Cursor) (is : axiom_read entry c ≡ reading_at (width_of s) n m least s at) where
       answer_is : IsAxiom (axiom_fault (width_of s) n m least s at) (entry_at n s at) (at + axiom_length (width_of s) s at) entry c
@@ -150,10 +163,10 @@ module _ (n m count : ℕ) (s : List ℕ) (t : List table.Row) (left at least : 
       pub left_small : entry.left.0 < n
       left_small = rw left_is sound.left
 
-      pub fits : n ≤ most_names → m ≤ most_roles → count ≤ n → n ≤ length t → Fits entry t
-      fits few_names few_roles few rows = subst (λ (x : Entry). Fits x t) answer_is.entry_is (entry_fits n m least s t at few_names few_roles rows (omega (arith, g.near)) sound)
+      pub fits : n ≤ most_names → m ≤ most_roles → count ≤ n → Fits entry
+      fits few_names few_roles few = subst (λ (x : Entry). Fits x) answer_is.entry_is (entry_fits n m least s at few_names few_roles (omega (arith, g.near)) sound)
 
-      module _ (u : List table.Row) (put : Put entry t u) where
+      module _ (u : Table) (put : Put entry t u) where
         -- the row of an axiom read before stays: left names rise
         kept : (q : ℕ) → Row t (entry_at n s q) → number (width_of s) s q < least → Row u (entry_at n s q)
         unfolding entry_at
@@ -180,7 +193,7 @@ module _ (n m count : ℕ) (s : List ℕ) (t : List table.Row) (left at least : 
           ]
         ]
 
-        pub next : (rest : ℕ) → rest ≡ left - 1 → Going n m count s u rest c.at (entry.left.0 + 1)
+        pub next : (rest : ℕ) → rest ≡ left - 1 → Going n m count s old u rest c.at (entry.left.0 + 1)
         next rest e =
             let w = tail_within (width_of s) n m (get_or s (at + width_of s) 0) s (at + width_of s + 1) sound.tail in
             rw (e, left_is, ← answer_is.next_is) (record {
@@ -190,4 +203,6 @@ module _ (n m count : ℕ) (s : List ℕ) (t : List table.Row) (left at least : 
               rest = λ q h. g.rest q (stands_there n m s left at least more h);
               row = next_row;
               origin = next_origin;
+              rows = g.rows;
+              roles = put.roles ∙ g.roles;
             })

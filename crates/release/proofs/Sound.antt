@@ -11,7 +11,7 @@ use borrow.Author.Tests.{ltb-false, leb-false}
 use lib.Dec.{ltb, leb}
 use lib.ListN.{length, get_or}
 use Rattle.el.specs.Lists.{pick}
-use Rattle.release.specs.Files.{number, most_conjuncts, parts_fault, conjunction_fault, restriction_fault, tail_fault, axiom_fault, tail_length, joins, restricts, is_filler}
+use Rattle.release.specs.Files.{number, most_conjuncts, role_fault, parts_fault, conjunction_fault, restriction_fault, tail_fault, axiom_fault, tail_length, joins, restricts, is_filler}
 
 -- no refusal: the condition does not hold, and no later one
 pub passed : (b : Bool) (k rest : ℕ) → pick b (suc k) rest ≡ 0 → (b ≡ false) × (rest ≡ 0)
@@ -48,6 +48,13 @@ conjunction_sound w n s p h =
     let b = passed (ltb most_conjuncts (get_or s p 0)) 11 _ a.1 in
     record { few = ltb-false most_conjuncts (get_or s p 0) b.0; parts = parts_sound w n (get_or s p 0) 0 s (p + 1) (ltb-false (length s) (p + 1) a.0) b.1 }
 
+-- a role, and what is met behind it
+pub role_sound : (m : ℕ) (s : List ℕ) (p rest : ℕ) → role_fault m s p rest ≡ 0 → (p < length s) × ((get_or s p 0 < m) × (rest ≡ 0))
+role_sound m s p rest h =
+    let a = passed (ltb (length s) (p + 1)) 6 _ h in
+    let b = passed (leb m (get_or s p 0)) 10 rest a.1 in
+    (omega (arith, ltb-false (length s) (p + 1) a.0), (leb-false m (get_or s p 0) b.0, b.1))
+
 pub record Restricted (w n m : ℕ) (s : List ℕ) (p : ℕ) : Type 0 where
   pub within : p + 1 + w ≤ length s
   pub role : get_or s p 0 < m
@@ -60,10 +67,9 @@ is_true false h = absurd (omega arith)
 restriction_sound : (w n m : ℕ) (s : List ℕ) (p : ℕ) → restriction_fault w n m s p ≡ 0 → Restricted w n m s p
 unfolding restriction_fault
 restriction_sound w n m s p h =
-    let a = passed (ltb (length s) (p + 1)) 6 _ h in
-    let b = passed (leb m (get_or s p 0)) 10 _ a.1 in
-    let c = passed (ltb (length s) (p + 1 + w)) 6 _ b.1 in
-    record { within = ltb-false (length s) (p + 1 + w) c.0; role = leb-false m (get_or s p 0) b.0; filler = is_true _ c.1 }
+    let role = role_sound m s p _ h in
+    let c = passed (ltb (length s) (p + 1 + w)) 6 _ role.1.1 in
+    record { within = ltb-false (length s) (p + 1 + w) c.0; role = role.1.0; filler = is_true _ c.1 }
 
 -- by the kind
 pub data Tail (w n m kind : ℕ) (s : List ℕ) (p : ℕ) : Type 0 where

@@ -1,15 +1,25 @@
--- An axiom's numbers, and what reading one answers by what the file says, with the numbers of docs/FORMAT.md.
+-- A role, a role pair and an axiom's numbers, and what reading one answers by what the file says, with the numbers of docs/FORMAT.md.
+--   role_reading m s p              reading the role at place p;  pair_reading m least s p: the pair, which does not stand before `least`
 --   entry_of w n left kind s tail   the numbers of the axiom with this left name and kind, whose tail stands at place `tail`
 --   reading_at w n m least s p      reading an axiom at place p: "it with the next place, or else the refusal"
 use Rattle.std.specs.Prelude.{List, ℕ, ◌+◌, get_or, Result}
 use Rattle.el.specs.Lists.{pick}
+use Rattle.el.specs.Axioms.{RolePair}
 use Rattle.el.specs.Concepts.{Node, everything, named}
-use Rattle.release.specs.Files.{number, joins, tail_fault, tail_length, axiom_fault, axiom_length, filler_node}
+use Rattle.release.specs.Files.{role_fault, pair_fault, number, joins, tail_fault, tail_length, axiom_fault, axiom_length, filler_node}
 use Rattle.release.specs.Kinds.{kind_number, kind_of_byte}
 use Rattle.release.specs.Refusals.{Numbers, answer}
+use Rattle.release.specs.declared.RoleName.{RoleName}
 use Rattle.release.specs.declared.axiom.Cursor.{Cursor}
 use Rattle.release.specs.declared.axiom.Entry.{Entry}
 use Rattle.release.specs.declared.kinds.Kind.{Kind}
+use Rattle.release.specs.declared.roles.RolePair as pair
+
+unfoldable pub role_reading : ℕ → List ℕ → ℕ → Result RoleName Numbers
+role_reading m s p = answer 1 (role_fault m s p 0) (record { 0 = get_or s p 0 })
+
+unfoldable pub pair_reading : ℕ → RolePair → List ℕ → ℕ → Result pair.RolePair Numbers
+pair_reading m least s p = answer 1 (pair_fault m least s p) (record { lower = record { 0 = get_or s p 0 }; upper = record { 0 = get_or s (p + 1) 0 } })
 
 -- the number of a node in a table with n names: ⊤ is n
 abbrev pub node_number : ℕ → Node → ℕ

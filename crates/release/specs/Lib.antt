@@ -1,5 +1,6 @@
 -- The release file: what it says, and what is refused. To be read in this order.
 pub mod Files
+pub mod Roles
 pub mod Refusals
 pub mod Readings
 pub mod Shown

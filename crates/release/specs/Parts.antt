@@ -6,18 +6,18 @@
 --   SomePart s t x P, EachPart s t x P    P holds of one of the conjuncts, of each
 use Rattle.std.specs.Prelude.{◌≡◌, List, ℕ, ◌+◌, ◌*◌, ◌-◌, ◌≤◌, ◌<◌, length, Option, MatchOption}
 use Rattle.std.specs.Iterator.{Count, at_most}
-use Rattle.release.specs.Files.{number, width_of}
+use Rattle.release.specs.Files.{most_names, number, width_of}
 use Rattle.release.specs.Tables.{tail_at, count_at, part_at}
 use Rattle.release.specs.Versions.{width}
 use Rattle.release.specs.declared.parts.Parts.{Parts}
-use Rattle.release.specs.declared.table.Row as table
+use Rattle.release.specs.declared.table.Table.{Table}
 
-pub record HasParts (s : List ℕ) (t : List table.Row) (x : ℕ) : Type 0 where
+pub record HasParts (s : List ℕ) (t : Table) (x : ℕ) : Type 0 where
   pub version : 3 < length s
-  pub row : x < length t
+  pub row : x < most_names
   pub inside : tail_at t x + 1 + width_of s * count_at s t x ≤ length s
 
-pub record PartsOf (s : List ℕ) (t : List table.Row) (x i : ℕ) (p : Parts) : Type 0 where
+pub record PartsOf (s : List ℕ) (t : Table) (x i : ℕ) (p : Parts) : Type 0 where
   pub file : p.file.now ≡ s
   pub version : width p.version ≡ width_of s
   pub first : p.first ≡ tail_at t x + 1
@@ -26,7 +26,7 @@ pub record PartsOf (s : List ℕ) (t : List table.Row) (x i : ℕ) (p : Parts) :
   pub few : i ≤ count_at s t x
   pub inside : tail_at t x + 1 + width_of s * count_at s t x ≤ length s
 
-pub record SoFar (s : List ℕ) (t : List table.Row) (x : ℕ) (P : ℕ → Type 0) (p : Parts) : Type 0 where
+pub record SoFar (s : List ℕ) (t : Table) (x : ℕ) (P : ℕ → Type 0) (p : Parts) : Type 0 where
   pub index : ℕ
   pub walk : PartsOf s t x index p
   pub kept : P index
@@ -53,10 +53,10 @@ abbrev pub parts_left : Parts → Count
 parts_left p = at_most (p.count - p.next)
 
 -- P holds of one of the conjuncts, of each of them
-pub record SomePart (s : List ℕ) (t : List table.Row) (x : ℕ) (P : ℕ → Type 0) : Type 0 where
+pub record SomePart (s : List ℕ) (t : Table) (x : ℕ) (P : ℕ → Type 0) : Type 0 where
   pub index : ℕ
   pub among : index < count_at s t x
   pub holds : P (part_at s t x index)
 
-pub record EachPart (s : List ℕ) (t : List table.Row) (x : ℕ) (P : ℕ → Type 0) : Type 0 where
+pub record EachPart (s : List ℕ) (t : Table) (x : ℕ) (P : ℕ → Type 0) : Type 0 where
   pub at : (i : ℕ) → i < count_at s t x → P (part_at s t x i)

@@ -4,8 +4,8 @@
 --   answer side k a                  what is told where k is the first refusal's number, or 0 and a is the value
 use Rattle.std.specs.Prelude.{ℕ, zero, suc, Result, Ok, Err}
 use Rattle.release.specs.declared.refusals.FileRefusal.{FileRefusal}
-use Rattle.release.specs.declared.refusals.FileRefusal.TheVariants.{ShortFile, NoMark, WrongVersion, ManyNames, ManyRoles, ManyAxioms, ShortAxiom, WrongKind, WrongName}
-use Rattle.release.specs.declared.refusals.FileRefusal.TheVariants.{LeftNamesNotRising, WrongRole, ManyConjuncts, ConjunctsNotRising, BytesLeftOver, DefinedConjunct}
+use Rattle.release.specs.declared.refusals.FileRefusal.TheVariants.{ShortFile, NoMark, WrongVersion, ManyNames, ManyRoles, ManyAxioms, EndOfFile, WrongKind, WrongName}
+use Rattle.release.specs.declared.refusals.FileRefusal.TheVariants.{LeftNamesNotRising, WrongRole, ManyConjuncts, ConjunctsNotRising, BytesLeftOver, DefinedConjunct, PairsNotRising}
 
 -- a refusal's number, and the side of the release or concept concerned, else 0
 pub record Numbers : Type 0 where
@@ -19,7 +19,7 @@ file_number WrongVersion = 3
 file_number ManyNames = 4
 file_number ManyRoles = 5
 file_number ManyAxioms = 6
-file_number ShortAxiom = 7
+file_number EndOfFile = 7
 file_number WrongKind = 8
 file_number WrongName = 9
 file_number LeftNamesNotRising = 10
@@ -28,6 +28,7 @@ file_number ManyConjuncts = 12
 file_number ConjunctsNotRising = 13
 file_number BytesLeftOver = 14
 file_number DefinedConjunct = 15
+file_number PairsNotRising = 49
 
 abbrev pub file_refusal : FileRefusal → Numbers
 file_refusal r = record { number = file_number r; side = 1 }

@@ -1,7 +1,7 @@
 // One axiom read at a place of the file, with the refusals that it may meet.
 ghost use Rattle.std.specs.Prelude.{◌≡◌, ◌≤◌, length, true};
 ghost use Rattle.release.specs.Files.{parts_fault, joins, restricts, filler_node};
-ghost use Rattle.release.specs.Entries.{tail_reading, reading_at, node_number};
+ghost use Rattle.release.specs.Entries.{role_reading, tail_reading, reading_at, node_number};
 ghost use Rattle.release.specs.Kinds.{kind_number};
 ghost use Rattle.release.specs.Refusals.{file_refusal, told, answer};
 ghost use Rattle.release.specs.Versions.{width};
@@ -37,6 +37,20 @@ pub struct Source<'a> {
 }
 
 impl<'a> Source<'a> {
+    // The role at `at`.
+    pub(crate) fn read_role(&self, at: usize) -> Result<RoleName, FileRefusal>
+        ensures { told file_refusal result ≡ role_reading self.now.counts.roles self.now.file.now at }
+    {
+        if self.file.len() <= at {
+            return Err(FileRefusal::EndOfFile);
+        }
+        let role = RoleName(self.file[at]);
+        if self.counts.roles <= usize::from(role.0) {
+            return Err(FileRefusal::WrongRole);
+        }
+        Ok(role)
+    }
+
     // Checks `count` rising names from `at` on.
     fn check_parts(&self, at: usize, count: usize) -> Result<(), FileRefusal>
         requires { at ≤ length self.now.file.now }
@@ -47,7 +61,7 @@ impl<'a> Source<'a> {
         let mut least: usize = 0;
         for _part in 0..count {
             if self.file.len() < place + self.version.width() {
-                return Err(FileRefusal::ShortAxiom);
+                return Err(FileRefusal::EndOfFile);
             }
             let name = self.version.number(self.file, place);
             if self.counts.names <= name {
@@ -75,7 +89,7 @@ impl<'a> Source<'a> {
             ≡ tail_reading (width self.now.version) self.now.counts.names self.now.counts.roles left kind self.now.file.now tail }
     {
         if self.file.len() <= tail {
-            return Err(FileRefusal::ShortAxiom);
+            return Err(FileRefusal::EndOfFile);
         }
         let count = usize::from(self.file[tail]);
         if Release::CONJUNCTS < count {
@@ -117,16 +131,10 @@ impl<'a> Source<'a> {
         ensures { told file_refusal result
             ≡ tail_reading (width self.now.version) self.now.counts.names self.now.counts.roles left kind self.now.file.now tail }
     {
-        if self.file.len() <= tail {
-            return Err(FileRefusal::ShortAxiom);
-        }
-        let role = usize::from(self.file[tail]);
-        if self.counts.roles <= role {
-            return Err(FileRefusal::WrongRole);
-        }
+        let role = self.read_role(tail)?;
         let next = tail + (1 + self.version.width());
         if self.file.len() < next {
-            return Err(FileRefusal::ShortAxiom);
+            return Err(FileRefusal::EndOfFile);
         }
         let filler = self.version.number(self.file, tail + 1);
         if self.counts.names <= filler && filler != self.version.top() {
@@ -135,7 +143,7 @@ impl<'a> Source<'a> {
         let entry = Entry {
             left: ConceptName(left),
             kind,
-            role: RoleName(role),
+            role,
             filler: self.filler_node(filler),
             tail,
         };
@@ -149,7 +157,7 @@ impl<'a> Source<'a> {
     {
         let after = at + self.version.width();
         if self.file.len() < after {
-            return Err(FileRefusal::ShortAxiom);
+            return Err(FileRefusal::EndOfFile);
         }
         let left = self.version.number(self.file, at);
         if self.counts.names <= left {
@@ -159,7 +167,7 @@ impl<'a> Source<'a> {
             return Err(FileRefusal::LeftNamesNotRising);
         }
         if self.file.len() <= after {
-            return Err(FileRefusal::ShortAxiom);
+            return Err(FileRefusal::EndOfFile);
         }
         let kind = Kind::try_from(self.file[after])?;
         match kind {

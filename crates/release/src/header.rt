@@ -3,6 +3,7 @@ ghost use Rattle.std.specs.Prelude.{◌≡◌};
 ghost use Rattle.release.specs.Files.{header_fault};
 ghost use Rattle.release.specs.Readings.{counts_in};
 ghost use Rattle.release.specs.Refusals.{file_refusal, told, answer};
+ghost use Rattle.release.specs.Versions.{said_version};
 
 use crate::number::Version;
 use crate::refusals::FileRefusal;
@@ -39,4 +40,17 @@ pub fn read_header(file: &[u8]) -> Result<Counts, FileRefusal>
         roles,
         axioms,
     })
+}
+
+// The version that a file says, whatever follows it: 0 where the file is shorter than any header, or has no mark.
+pub fn said_version(file: &[u8]) -> usize
+    ensures { result ≡ said_version file.now }
+{
+    if file.len() < Version::One.header_length() {
+        return 0;
+    }
+    if file.starts_with(&Release::MARK) {
+        return Version::Two.number(file, 3);
+    }
+    0
 }

@@ -10,8 +10,9 @@ pub use crate::axiom::Source;
 use crate::conjuncts::some_part_defined;
 use crate::header::read_header;
 pub use crate::kinds::Kind;
+use crate::pairs::read_pairs;
 pub use crate::refusals::{FileRefusal, Refusal};
-use crate::table::{Row, Table, read_axioms};
+use crate::table::{Table, read_axioms};
 use crate::terminology::Terminology;
 
 mod axiom;
@@ -19,18 +20,34 @@ mod conjuncts;
 pub mod header;
 mod kinds;
 pub mod number;
+mod pairs;
 pub mod parts;
 mod refusals;
+pub mod roles;
 pub mod show;
 pub mod table;
 pub mod terminology;
 
-// A concept name's number and a role name's: two types, so that neither can be passed for the other.
+// A concept name's number and a role name's, a byte in every version: two types, so that neither can be passed for the other.
 #[derive(Clone, Copy, Debug, PartialEq, Eq)]
 pub struct ConceptName(pub usize);
 
 #[derive(Clone, Copy, Debug, PartialEq, Eq)]
-pub struct RoleName(pub usize);
+pub struct RoleName(pub u8);
+
+impl RoleName {
+    ghost use Rattle.std.specs.Prelude.{◌≡◌, ◌≤◌, ◌<◌, MatchOption};
+
+    // The role with a number: there is none past a byte.
+    pub fn numbered(number: usize) -> Option<RoleName>
+        ensures { MatchOption result (255 < number) (λ role. (role.0 ≡ number) × (number ≤ 255)) }
+    {
+        if 255 < number {
+            return None;
+        }
+        Some(RoleName(number as u8))
+    }
+}
 
 // What belongs to release files as such: the mark at their start, and the limits of their numbers. It has no value: constants of the
 // module would be no plainer, since a caller reads `Release::NAMES`.
@@ -58,12 +75,13 @@ pub struct Counts {
     pub axioms: usize,
 }
 
-// Checks a release and reads it into a blank table. Of an accepted one the table then holds every axiom by name.
-pub fn read_release(file: &[u8], table: &mut [Row]) -> Result<Counts, FileRefusal>
+// Checks a release and reads it into a blank table. Of an accepted one the table then holds every axiom by name, and what lies under what.
+pub fn read_release(file: &[u8], table: &mut Table) -> Result<Counts, FileRefusal>
     requires { Blank table.old }
     ensures { ReleaseRead file.now table.new result }
 {
     let counts = read_header(file)?;
+    read_pairs(file, &mut table.roles, counts)?;
     read_axioms(file, table, counts)?;
     let terminology = Terminology { file, table };
     if some_part_defined(&terminology, counts.names) {
@@ -76,6 +94,6 @@ pub fn read_release(file: &[u8], table: &mut [Row]) -> Result<Counts, FileRefusa
 pub fn check_release(file: &[u8]) -> Result<Counts, FileRefusal>
     ensures { told file_refusal result ≡ checked file.now }
 {
-    let mut table = [Row::BLANK; Table::LENGTH];
+    let mut table = Table::BLANK;
     read_release(file, &mut table)
 }

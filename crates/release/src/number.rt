@@ -1,40 +1,52 @@
 // The versions of the file, and the numbers that stand in it by its version.
 ghost use Rattle.std.specs.Prelude.{◌≡◌, ◌+◌, ◌≤◌, ◌<◌, length};
-ghost use Rattle.release.specs.Files.{number, top_number, width_of, names_of, roles_of, count_of, header_length, most_names_of, axiom_length};
-ghost use Rattle.release.specs.Versions.{width, HasVersionNumber};
-ghost use Rattle.release.specs.Tables.{HasHeader};
+ghost use Rattle.release.specs.Files.{number, top_number, width_of, lists_pairs, names_of, roles_of, count_of, pair_count, header_length, first_place};
+ghost use Rattle.release.specs.Files.{most_names_of, axiom_length};
+ghost use Rattle.release.specs.Versions.{width, has_pairs, HasVersionNumber};
+ghost use Rattle.release.specs.Tables.{HasHeader, HasPairCount};
 
 use crate::Release;
 use crate::kinds::Kind;
 use crate::refusals::FileRefusal;
 
-// A name takes one byte in version 1 and two in version 2.
+// A name takes one byte in version 1 and two in the others. Version 3 is version 2 with role pairs: their number ends the header, and they stand
+// before the axioms.
 #[derive(Clone, Copy, Debug, PartialEq, Eq)]
 pub enum Version {
     One,
     Two,
+    Three,
 }
 
 impl Version {
     // The version of a file whose version is known: the low byte tells it.
     pub fn of(file: &[u8]) -> Self
         requires { 3 < length file.now }
-        ensures { width result ≡ width_of file.now }
+        ensures width { width result ≡ width_of file.now }
+        ensures pairs { has_pairs result ≡ lists_pairs file.now }
     {
-        if file[3] == 1 {
-            return Version::One;
+        match file[3] {
+            1 => Version::One,
+            3 => Version::Three,
+            _ => Version::Two,
         }
-        Version::Two
     }
 
-    // How many bytes a name takes; also the version's number.
+    // How many bytes a name takes.
     pub fn width(self) -> usize
         ensures { result ≡ width self }
     {
         match self {
             Version::One => 1,
-            Version::Two => 2,
+            Version::Two | Version::Three => 2,
         }
+    }
+
+    // Whether role pairs stand before the axioms.
+    pub fn has_pairs(self) -> bool
+        ensures { result ≡ has_pairs self }
+    {
+        matches!(self, Version::Three)
     }
 
     // The number that is ⊤ as a filler.
@@ -43,7 +55,7 @@ impl Version {
     {
         match self {
             Version::One => 255,
-            Version::Two => 65535,
+            Version::Two | Version::Three => 65535,
         }
     }
 
@@ -53,15 +65,34 @@ impl Version {
     {
         match self {
             Version::One => Release::NAMES_1,
-            Version::Two => Release::NAMES,
+            Version::Two | Version::Three => Release::NAMES,
         }
     }
 
-    // How many bytes stand before the first axiom.
+    // How many bytes stand before the pairs and the axioms.
     pub fn header_length(self) -> usize
-        ensures { result ≡ header_length (width self) }
+        ensures { result ≡ header_length (width self) (has_pairs self) }
     {
-        6 + 2 * self.width()
+        6 + 2 * self.width() + usize::from(self.has_pairs())
+    }
+
+    // How many role pairs a file lists: their number is the last byte of the header.
+    pub fn pair_count(self, file: &[u8]) -> usize
+        requires { HasPairCount self file.now }
+        ensures { result ≡ pair_count file.now }
+    {
+        if self.has_pairs() {
+            return usize::from(file[self.header_length() - 1]);
+        }
+        0
+    }
+
+    // The place of the first axiom: behind the header and the pairs, two bytes each.
+    pub fn first_place(self, file: &[u8]) -> usize
+        requires { HasPairCount self file.now }
+        ensures { result ≡ first_place file.now }
+    {
+        self.header_length() + 2 * self.pair_count(file)
     }
 
     // The number of a name's width at a place, low byte first.
@@ -71,7 +102,10 @@ impl Version {
     {
         match self {
             Version::One => usize::from(file[at]),
-            Version::Two => usize::from(u16::from_le_bytes([file[at], file[at + 1]])),
+            Version::Two | Version::Three => {
+                let bytes = [file[at], file[at + 1]];
+                usize::from(u16::from_le_bytes(bytes))
+            }
         }
     }
 
@@ -121,6 +155,7 @@ impl TryFrom<usize> for Version {
         match number {
             1 => Ok(Version::One),
             2 => Ok(Version::Two),
+            3 => Ok(Version::Three),
             _ => Err(FileRefusal::WrongVersion),
         }
     }

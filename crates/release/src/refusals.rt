@@ -22,7 +22,7 @@ pub enum FileRefusal {
     ManyNames,
     ManyRoles,
     ManyAxioms,
-    ShortAxiom,
+    EndOfFile,
     WrongKind,
     WrongName,
     LeftNamesNotRising,
@@ -31,6 +31,7 @@ pub enum FileRefusal {
     ConjunctsNotRising,
     BytesLeftOver,
     DefinedConjunct,
+    PairsNotRising,
 }
 
 impl Refusal for FileRefusal {
@@ -44,7 +45,7 @@ impl Refusal for FileRefusal {
             FileRefusal::ManyNames => 4,
             FileRefusal::ManyRoles => 5,
             FileRefusal::ManyAxioms => 6,
-            FileRefusal::ShortAxiom => 7,
+            FileRefusal::EndOfFile => 7,
             FileRefusal::WrongKind => 8,
             FileRefusal::WrongName => 9,
             FileRefusal::LeftNamesNotRising => 10,
@@ -53,6 +54,7 @@ impl Refusal for FileRefusal {
             FileRefusal::ConjunctsNotRising => 13,
             FileRefusal::BytesLeftOver => 14,
             FileRefusal::DefinedConjunct => 15,
+            FileRefusal::PairsNotRising => 49,
         }
     }
 

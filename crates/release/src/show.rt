@@ -5,7 +5,7 @@ ghost use Rattle.release.specs.Tables.{Release};
 ghost use Rattle.release.specs.Shown.{nowhere, place_in, shown_place, Shown};
 
 use crate::number::Version;
-use crate::table::{Row, Table};
+use crate::table::Table;
 use crate::terminology::Terminology;
 use crate::{ConceptName, read_release};
 
@@ -27,11 +27,12 @@ impl Place {
 }
 
 // Where a name's axiom stands in an accepted file, by its table. Its left name and its kind byte stand before its tail.
-fn place_in(terminology: &Terminology, side: u8, names: usize, name: usize) -> Option<Place>
+fn place_in(terminology: &Terminology, side: u8, names: usize, name: ConceptName) -> Option<Place>
     requires accepted { Release terminology.now.file.now terminology.now.table.now }
     requires names { names ≡ names_of terminology.now.file.now }
-    ensures { unwrap_or result nowhere ≡ place_in side terminology.now.file.now name }
+    ensures { unwrap_or result nowhere ≡ place_in side terminology.now.file.now name.0 }
 {
+    let name = name.0;
     if names <= name {
         return None;
     }
@@ -51,11 +52,11 @@ fn place_in(terminology: &Terminology, side: u8, names: usize, name: usize) -> O
 pub fn axiom_place(first: &[u8], second: &[u8], side: usize, name: ConceptName) -> Place
     ensures { result ≡ shown_place first.now second.now side name.0 }
 {
-    let mut first_table = [Row::BLANK; Table::LENGTH];
+    let mut first_table = Table::BLANK;
     let Ok(first_counts) = read_release(first, &mut first_table) else {
         return Place::NOWHERE;
     };
-    let mut second_table = [Row::BLANK; Table::LENGTH];
+    let mut second_table = Table::BLANK;
     let Ok(second_counts) = read_release(second, &mut second_table) else {
         return Place::NOWHERE;
     };
@@ -68,8 +69,8 @@ pub fn axiom_place(first: &[u8], second: &[u8], side: usize, name: ConceptName) 
         table: &second_table,
     };
     let place = match side {
-        1 => place_in(&first, 1, first_counts.names, name.0),
-        2 => place_in(&second, 2, second_counts.names, name.0),
+        1 => place_in(&first, 1, first_counts.names, name),
+        2 => place_in(&second, 2, second_counts.names, name),
         _ => None,
     };
     place.unwrap_or(Place::NOWHERE)

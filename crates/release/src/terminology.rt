@@ -3,32 +3,34 @@ ghost use Rattle.std.specs.Prelude.{◌≡◌, ◌==◌};
 ghost use Rattle.release.specs.Files.{joins, restricts};
 ghost use Rattle.release.specs.Kinds.{kind_number, numbered};
 ghost use Rattle.release.specs.Parts.{HasParts, PartsOf};
-ghost use Rattle.release.specs.Tables.{kind_at, role_at, filler_at, tail_at, count_at, part_at, SuccessorOf, HasRow, HasCount, HasPart};
+ghost use Rattle.release.specs.Tables.{kind_at, role_at, filler_at, tail_at, count_at, part_at, serves_at, ServingAt, SuccessorOf, HasRow, HasCount, HasPart};
 
+use crate::RoleName;
 use crate::kinds::Kind;
 use crate::number::Version;
 use crate::parts::Parts;
-use crate::table::Row;
+use crate::roles::RoleSet;
+use crate::table::Table;
 
-// A file beside its table. That a name has a row (`HasRow`) is asked in each contract, name by name: a table of any length can stand here,
-// and the names come from loops and from the file.
+// A file beside its table. That a name has a row (`HasRow`) is asked in each contract, name by name: the names come from loops and from the
+// file.
 #[derive(Clone, Copy, Debug, PartialEq, Eq)]
 pub struct Terminology<'a> {
     pub file: &'a [u8],
-    pub table: &'a [Row],
+    pub table: &'a Table,
 }
 
 impl<'a> Terminology<'a> {
     // The kind of a name's axiom, if the name has one.
     pub fn kind(&self, name: usize) -> Option<Kind>
-        requires { HasRow self.now.table.now name }
+        requires { HasRow name }
         ensures { numbered result ≡ kind_at self.now.table.now name }
     {
-        self.table[name].kind
+        self.table.rows[name].kind
     }
 
     pub fn has_kind(&self, name: usize, kind: Kind) -> bool
-        requires { HasRow self.now.table.now name }
+        requires { HasRow name }
         ensures { result ≡ (kind_at self.now.table.now name == kind_number kind) }
     {
         self.kind(name) == Some(kind)
@@ -36,7 +38,7 @@ impl<'a> Terminology<'a> {
 
     // Whether a name's axiom is a conjunction B1 ⊓ .. ⊓ Bk.
     pub fn is_conjunction(&self, name: usize) -> bool
-        requires { HasRow self.now.table.now name }
+        requires { HasRow name }
         ensures { result ≡ joins (kind_at self.now.table.now name) }
     {
         self.kind(name).is_some_and(Kind::is_conjunction)
@@ -44,33 +46,48 @@ impl<'a> Terminology<'a> {
 
     // Whether a name's axiom is a restriction ∃r.B.
     pub fn is_restriction(&self, name: usize) -> bool
-        requires { HasRow self.now.table.now name }
+        requires { HasRow name }
         ensures { result ≡ restricts (kind_at self.now.table.now name) }
     {
         self.kind(name).is_some_and(Kind::is_restriction)
     }
 
-    pub fn role(&self, name: usize) -> usize
-        requires { HasRow self.now.table.now name }
-        ensures { result ≡ role_at self.now.table.now name }
+    pub fn role(&self, name: usize) -> RoleName
+        requires { HasRow name }
+        ensures { result.0 ≡ role_at self.now.table.now name }
     {
-        usize::from(self.table[name].role)
+        self.table.rows[name].role
+    }
+
+    // Whether a role serves where another is asked for.
+    pub fn serves(&self, role: RoleName, asked: RoleName) -> bool
+        ensures { result ≡ serves_at self.now.table.now role.0 asked.0 }
+    {
+        self.table.roles.serves(role, asked)
+    }
+
+    // The roles that serve where this one is asked for.
+    pub fn under(&self, role: RoleName) -> RoleSet
+        ensures { ServingAt self.now.table.now role.0 result.0 }
+    {
+        self.table.roles.under(role)
     }
 
     // The filler as a node: ⊤ is n.
     pub fn filler(&self, name: usize) -> usize
-        requires { HasRow self.now.table.now name }
+        requires { HasRow name }
         ensures { result ≡ filler_at self.now.table.now name }
     {
-        usize::from(self.table[name].filler)
+        usize::from(self.table.rows[name].filler)
     }
 
-    // The filler of a name's axiom where that is a restriction with the role. The role is looked at first, since most names have another.
-    pub fn successor(&self, name: usize, role: usize) -> Option<usize>
-        requires { HasRow self.now.table.now name }
-        ensures { SuccessorOf self.now.table.now name role result }
+    // The filler of a name's axiom where that is a restriction with a role that serves. The role is looked at first, since most names have
+    // another.
+    pub fn successor(&self, name: usize, role: RoleName) -> Option<usize>
+        requires { HasRow name }
+        ensures { SuccessorOf self.now.table.now name role.0 result }
     {
-        if self.role(name) == role && self.is_restriction(name) {
+        if self.serves(self.role(name), role) && self.is_restriction(name) {
             return Some(self.filler(name));
         }
         None
@@ -78,10 +95,10 @@ impl<'a> Terminology<'a> {
 
     // The place of the tail in the file.
     pub fn tail(&self, name: usize) -> usize
-        requires { HasRow self.now.table.now name }
+        requires { HasRow name }
         ensures { result ≡ tail_at self.now.table.now name }
     {
-        usize::from(self.table[name].tail)
+        usize::from(self.table.rows[name].tail)
     }
 
     // The number of conjuncts of a conjunction.

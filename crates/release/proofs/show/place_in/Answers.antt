@@ -23,14 +23,14 @@ overflow_sub-start-2 c = omega (
   arith,
   c.tail.ensures,
   c.width.ensures,
-  c.of-version.ensures,
+  c.of-version.ensures.width,
   tail_far c.requires.accepted 1 _ (omega (arith, c.if-names-name.false, c.requires.names)) (some_kind c.in_ok-kind.field-0 c.in_ok-kind.ensures),
 )
 
 pub axiom_length-requires : goal.axiom_length-requires
 axiom_length-requires c = rw (← c.width.ensures) (place_inside c.requires.accepted 1 _ (omega (arith, c.if-names-name.false, c.requires.names)) (some_kind c.in_ok-kind.field-0 c.in_ok-kind.ensures)
-    _ _ (c.width.ensures ∙ c.of-version.ensures) c.tail.ensures)
+    _ _ (c.width.ensures ∙ c.of-version.ensures.width) c.tail.ensures)
 
 pub returns : goal.returns
 returns c = place_told c.requires.accepted _ _ (omega (arith, c.if-names-name.false, c.requires.names)) (some_kind c.in_ok-kind.field-0 c.in_ok-kind.ensures) _ _
-    (c.width.ensures ∙ c.of-version.ensures) c.tail.ensures _ (rw (← c.width.ensures) at c.axiom_length.ensures)
+    (c.width.ensures ∙ c.of-version.ensures.width) c.tail.ensures _ (rw (← c.width.ensures) at c.axiom_length.ensures)

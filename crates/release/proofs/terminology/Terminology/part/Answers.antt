@@ -5,4 +5,4 @@ use Rattle.release.proofs.terminology.Terminology.part.Goals as goal
 
 pub returns : goal.returns
 unfolding part_at
-returns c = c.number.ensures ∙ rw (c.tail.ensures, c.width.ensures, c.of-version.ensures)
+returns c = c.number.ensures ∙ rw (c.tail.ensures, c.width.ensures, c.of-version.ensures.width)
