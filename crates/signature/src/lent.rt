@@ -2,6 +2,8 @@
 ghost use Rattle.std.specs.Prelude.{◌≡◌, ◌+◌, ◌≤◌, length};
 ghost use Rattle.signature.specs.Bytes.{signature_of};
 
+use release::{ConceptName, RoleName};
+
 // The bytes of a signature for a release of these numbers of names and roles: names first, then roles.
 #[derive(Clone, Copy, Debug, PartialEq, Eq)]
 pub struct LentSignature<'a> {
@@ -12,9 +14,16 @@ pub struct LentSignature<'a> {
 }
 
 impl<'a> LentSignature<'a> {
-    pub fn has_role(&self, role: usize) -> bool
-        ensures { result ≡ (signature_of self.now.names self.now.roles self.now.bytes.now).has_role role }
+    pub fn has_name(&self, name: ConceptName) -> bool
+        ensures { result ≡ (signature_of self.now.names self.now.roles self.now.bytes.now).has_name name.0 }
     {
+        name.0 < self.names && self.bytes[name.0] == 1
+    }
+
+    pub fn has_role(&self, role: RoleName) -> bool
+        ensures { result ≡ (signature_of self.now.names self.now.roles self.now.bytes.now).has_role role.0 }
+    {
+        let role = usize::from(role.0);
         role < self.roles && self.bytes[self.names + role] == 1
     }
 }
