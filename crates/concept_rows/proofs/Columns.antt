@@ -5,20 +5,19 @@
 use mathlib.Core.Path.{◌≡◌}
 use mathlib.Core.Logic.{inl, inr}
 use mathlib.Core.Bool.{true}
-use mathlib.Core.List.{List}
 use Prim.Native.Nat.{ℕ}
 use Rattle.el.specs.Concepts.{Concept, top, name, both}
-use Rattle.el.specs.Axioms.{Axiom}
+use Rattle.el.specs.Axioms.{Terminology}
 use Rattle.el.specs.Signatures.{Signature}
 use Rattle.el.specs.Answers.{Column, nothing, node, name_under}
 use Rattle.el.specs.Terminologies.{name_node, Comparable}
 use Rattle.el.proofs.Tests.{Tells, never}
 use Rattle.el.proofs.Nodes.{IsColumn, no_column, node_column}
-use Rattle.el.proofs.Classification.{Table}
+use Rattle.el.proofs.Classification.{InclusionTable}
 use Rattle.el.proofs.PlainNodes.{top_below_plain, both_below_plain}
 use Rattle.el.proofs.BackwardMarks.{Below, PlainColumn, plain_nothing, plain_node}
 
-module _ {n : ℕ} {sig : Signature} {t u : List Axiom} (given : Comparable n sig t u) (second_table : Table n u) where
+module _ {n : ℕ} {sig : Signature} {t u : Terminology} (given : Comparable n sig t u) (second_table : InclusionTable n u) where
   pub tells_under : {b : ℕ} → sig.has_name b ≡ true → (y : Column) → IsColumn n y → Tells (name_under second_table.says b y) (Below u (name b) y)
   tells_under over nothing no_column = never (λ p. p)
   tells_under {b} over (node y) (node_column y_in) = record

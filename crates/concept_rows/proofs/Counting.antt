@@ -1,14 +1,11 @@
 -- How many of the first k numbers pass a test: fewer if fewer pass. Rows are counted against it: so many for each that passes no more.
 use mathlib.Core.Path.{◌≡◌, refl}
 use mathlib.Core.Bool.{Bool, true, false, false≢true}
-use Prim.Native.Nat.{ℕ, zero, suc, ◌+◌, ◌≤◌, ◌<◌}
+use Prim.Native.Nat.{ℕ, zero, suc, ◌≤◌, ◌<◌}
 use native.Mathlib.Omega.{arith}
 use native.Mathlib.Decide.{ℕ_discrete}
 use Rattle.el.specs.Lists.{pick}
-
-unfoldable pub passing : (ℕ → Bool) → ℕ → ℕ
-passing p zero = 0
-passing p (suc k) = pick (p k) 1 0 + passing p k
+use Rattle.concept_rows.specs.Written.{passing}
 
 pick_small : (b : Bool) → pick b 1 0 ≤ 1
 pick_small true = omega arith

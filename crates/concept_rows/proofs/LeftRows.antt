@@ -1,7 +1,5 @@
 -- The rows that the station writes for a left report. Each node has a number, whose concept lies above the node by the first release, and by
 -- the second not above any node that is marked for it.
---   kept rows i                      the concept of the number i: ⊤ for 0, else that of row i - 1
---   LeftRows sig t u n rows k p f    k rows; p is the number of each node; f the marks
 --   left_start                       no row, and no marks
 --   left_grown                       one more row
 --   Moved n x i p q                  q is p but for x, whose number is i
@@ -13,11 +11,10 @@
 use mathlib.Core.Path.{◌≡◌, refl}
 use mathlib.Core.Logic.{◌⊎◌, inl, inr}
 use mathlib.Core.Bool.{true, not}
-use mathlib.Core.List.{List}
 use Prim.Native.Nat.{ℕ, zero, suc, ◌≤◌, ◌<◌}
 use native.Mathlib.Omega.{arith}
-use Rattle.el.specs.Concepts.{Concept, top, both, Node, named, concept_of}
-use Rattle.el.specs.Axioms.{Axiom, filler_of}
+use Rattle.el.specs.Concepts.{both, Node, named, concept_of}
+use Rattle.el.specs.Axioms.{Axiom, filler_of, Terminology}
 use Rattle.el.specs.Derivability.{Derives, to_top, one, other, meet}
 use Rattle.el.specs.Lists.{In}
 use Rattle.el.specs.Signatures.{Signature, LeftWitness}
@@ -27,20 +24,11 @@ use Rattle.el.proofs.Tests.{which, not_both, tells_false}
 use Rattle.el.proofs.Derivations.{◌▹◌}
 use Rattle.el.specs.Terminologies.{IsNode, name_node, Comparable}
 use Rattle.el.proofs.Saturation.{Closed}
-use Rattle.el.proofs.Classification.{Link, Table}
+use Rattle.el.proofs.Classification.{Link, InclusionTable}
 use Rattle.el.proofs.ForwardMarks.{Forward, by_name, by_role, above_kept}
 use Rattle.concept_rows.specs.Rows.{Rows, row, WellFormed, is_both, concept_of_row}
-use Rattle.concept_rows.proofs.Rows.{Formed, Agree, same_concept, agreeing_formed, both_row, append}
-
-abbrev pub kept : Rows → ℕ → Concept
-kept rows zero = top
-kept rows (suc i) = concept_of_row rows i
-
-pub record LeftRows (sig : Signature) (t u : List Axiom) (n : ℕ) (rows : Rows) (k : ℕ) (p : Node → ℕ) (f : Node → Node → Type 0) : Type 0 where
-  pub formed : Formed sig rows k
-  pub inside : (x : Node) → IsNode n x → p x ≤ k
-  pub first : (x : Node) → IsNode n x → Derives t (concept_of x) (kept rows (p x))
-  pub second : (x y : Node) → IsNode n x → IsNode n y → f x y → Derives u (concept_of y) (kept rows (p x)) → ⊥
+use Rattle.concept_rows.specs.Written.{Formed, Agree, kept, LeftRows}
+use Rattle.concept_rows.proofs.Rows.{same_concept, agreeing_formed, both_row, append}
 
 -- the number of x is i now, and the others are as before
 abbrev pub Moved : ℕ → Node → ℕ → (Node → ℕ) → (Node → ℕ) → Type 0
@@ -50,7 +38,7 @@ pub kept_same : {sig : Signature} {rows seen : Rows} {k : ℕ} → Formed sig ro
 kept_same formed agree zero h = refl
 kept_same formed agree (suc i) h = same_concept formed agree i (omega arith)
 
-module _ {sig : Signature} {t u : List Axiom} {n : ℕ} where
+module _ {sig : Signature} {t u : Terminology} {n : ℕ} where
   pub left_start : {rows : Rows} {p : Node → ℕ} {f : Node → Node → Type 0} → ((x : Node) → IsNode n x → p x ≡ 0) → ((x y : Node) → IsNode n x → IsNode n y → f x y → ⊥)
       → LeftRows sig t u n rows 0 p f
   left_start unnumbered none = record {
@@ -128,7 +116,7 @@ module _ {sig : Signature} {t u : List Axiom} {n : ℕ} where
     left_fewer less = record { formed = left.formed; inside = left.inside; first = left.first; second = λ x y h i m. left.second x y h i (less x y h i m) }
 
 -- the end
-module _ {n : ℕ} {sig : Signature} {t u : List Axiom} (given : Comparable n sig t u) (first_table : Table n t) (second_table : Table n u) where
+module _ {n : ℕ} {sig : Signature} {t u : Terminology} (given : Comparable n sig t u) (first_table : InclusionTable n t) (second_table : InclusionTable n u) where
   pub left_found : (f : Test Node Node) → Closed (IsNode n) (IsNode n) (Forward sig t u first_table.says second_table.says) f → {a : ℕ} → a < n → LeftWitness sig t u a → f (named a)
       (named a) ≡ true
   left_found f closed {a} a_in w = elim (which (f (named a) (named a))) [
@@ -139,8 +127,8 @@ module _ {n : ℕ} {sig : Signature} {t u : List Axiom} (given : Comparable n si
   -- where nothing is left to take, the marks are closed
   pub record Quiet (kept : Test Node Node) : Type 0 where
     pub by_name : {b : ℕ} {x y : Node} → sig.has_name b ≡ true → IsNode n x → IsNode n y → first_table.says x (named b) ≡ true → kept x y ≡ true → second_table.says y (named b) ≡ true
-    pub by_role : {a : Axiom} {r : ℕ} {x y : Node} → In t a → Link first_table.says x r a → sig.has_role r ≡ true → IsNode n x → IsNode n y → kept x y ≡ true → Some u
-        (λ b. Link second_table.says y r b × (kept (filler_of a) (filler_of b) ≡ true))
+    pub by_role : {a : Axiom} {r : ℕ} {x y : Node} → In t.axioms a → Link t first_table.says x r a → sig.has_role r ≡ true → IsNode n x → IsNode n y → kept x y ≡ true → Some u.axioms
+        (λ b. Link u second_table.says y r b × (kept (filler_of a) (filler_of b) ≡ true))
 
   pub quiet_closed : (kept : Test Node Node) → Quiet kept → Closed (IsNode n) (IsNode n) (Forward sig t u first_table.says second_table.says) (λ x y. not (kept x y))
   quiet_closed kept quiet x y x_in y_in rule = elim (which (kept x y)) [ inr e ↦ rw e | inl e ↦ absurd (by_rule e rule) ]

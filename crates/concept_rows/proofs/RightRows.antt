@@ -1,6 +1,5 @@
 -- The rows that the station writes for a right report: a row for each marked pair of a node and a column, which lies below the node by the
 -- first release, and not below the column by the second.
---   Lost t u rows k x y j     row j, one of k, is such a row for the pair x, y
 --   lost_grown                also when there are more rows
 --   lost_of_part, lost_of_everything, lost_of_name, lost_of_role      such rows, as the rules of backward marks have them (el, Backward)
 --   right_found               closed marks have the mark of a reported name
@@ -8,12 +7,11 @@
 use mathlib.Core.Path.{◌≡◌, refl}
 use mathlib.Core.Logic.{inl, inr}
 use mathlib.Core.Bool.{true, false}
-use mathlib.Core.List.{List}
 use Prim.Native.Nat.{ℕ, suc, ◌≤◌, ◌<◌}
 use native.Mathlib.Omega.{arith}
 use Rattle.el.specs.Lists.{In}
 use Rattle.el.specs.Concepts.{name, both, some, Node, named, concept_of}
-use Rattle.el.specs.Axioms.{Axiom, parts_of, filler_of}
+use Rattle.el.specs.Axioms.{Axiom, parts_of, filler_of, Terminology}
 use Rattle.el.specs.Derivability.{Derives, one, meet, same}
 use Rattle.el.specs.Signatures.{Signature, RightWitness}
 use Rattle.el.specs.Answers.{Test, Column, node, name_under, partner}
@@ -22,19 +20,15 @@ use Rattle.el.proofs.Derivations.{◌▹◌, Fills}
 use Rattle.el.proofs.Nodes.{IsColumn, node_column}
 use Rattle.el.specs.Terminologies.{IsNode, name_node, Comparable}
 use Rattle.el.proofs.Saturation.{Closed}
-use Rattle.el.proofs.Classification.{Table}
+use Rattle.el.proofs.Classification.{InclusionTable}
 use Rattle.el.proofs.PlainNodes.{to_part_of, from_filler_of}
-use Rattle.el.proofs.BackwardMarks.{Below, PlainColumn, Backward, below_partner, below_kept}
+use Rattle.el.proofs.BackwardMarks.{PlainColumn, Backward, below_partner, below_kept}
 use Rattle.concept_rows.proofs.Columns.{tells_under, top_lost}
 use Rattle.concept_rows.specs.Rows.{Rows, row, is_both, concept_of_row, below, Shows}
-use Rattle.concept_rows.proofs.Rows.{Formed, Agree, same_concept, agreeing_formed, top_row, name_row, both_row, some_row, append}
+use Rattle.concept_rows.specs.Written.{Formed, Agree, Lost}
+use Rattle.concept_rows.proofs.Rows.{same_concept, agreeing_formed, top_row, name_row, both_row, some_row, append}
 
-pub record Lost (t u : List Axiom) (rows : Rows) (k : ℕ) (x : Node) (y : Column) (j : ℕ) : Type 0 where
-  pub inside : j < k
-  pub first : Derives t (concept_of_row rows j) (concept_of x)
-  pub second : Below u (concept_of_row rows j) y → ⊥
-
-pub lost_grown : {sig : Signature} {t u : List Axiom} {rows seen : Rows} {k l : ℕ} → Formed sig rows k → Agree rows seen k → k ≤ l → {x : Node} {y : Column} {j : ℕ} → Lost t u rows k x y j
+pub lost_grown : {sig : Signature} {t u : Terminology} {rows seen : Rows} {k l : ℕ} → Formed sig rows k → Agree rows seen k → k ≤ l → {x : Node} {y : Column} {j : ℕ} → Lost t u rows k x y j
     → Lost t u seen l x y j
 lost_grown formed agree h {j = j} w = record {
   inside = omega (arith, w.inside);
@@ -43,11 +37,11 @@ lost_grown formed agree h {j = j} w = record {
 }
 
 -- a conjunct of the column
-pub lost_of_part : {t u : List Axiom} {rows : Rows} {k : ℕ} {x : Node} {y : Column} {b : Axiom} {z j : ℕ} → In u b → node (named b.left) ≡ y → In (parts_of b) z
+pub lost_of_part : {t u : Terminology} {rows : Rows} {k : ℕ} {x : Node} {y : Column} {b : Axiom} {z j : ℕ} → In u.axioms b → node (named b.left) ≡ y → In (parts_of b) z
     → Lost t u rows k x (node (named z)) j → Lost t u rows k x y j
 lost_of_part b_in b_is_y z_in w = record { inside = w.inside; first = w.first; second = rw (← b_is_y) (λ d. w.second (to_part_of b_in refl z_in d)) }
 
-module _ {n : ℕ} {sig : Signature} {t u : List Axiom} (given : Comparable n sig t u) (first_table : Table n t) (second_table : Table n u) where
+module _ {n : ℕ} {sig : Signature} {t u : Terminology} (given : Comparable n sig t u) (first_table : InclusionTable n t) (second_table : InclusionTable n u) where
   module _ {rows : Rows} {k : ℕ} (formed : Formed sig rows k) where
     pub lost_of_everything : {x : Node} {y : Column} {j : ℕ} → PlainColumn u y → Derives t (concept_of_row rows j) (concept_of x) → j < k → rows j ≡ row 0 0 0 → Lost t u rows k x y j
     lost_of_everything {y = y} y_plain below_x j_in written = record {
@@ -66,7 +60,7 @@ module _ {n : ℕ} {sig : Signature} {t u : List Axiom} (given : Comparable n si
           second = rw is (λ d. not_both ((tells_under given second_table chosen y y_in).complete d) not_below_y);
         }
 
-    pub lost_of_role : {x : Node} {y : Column} {a : Axiom} {r j : ℕ} → PlainColumn u y → In t a → named a.left ≡ x → Fills r a
+    pub lost_of_role : {x : Node} {y : Column} {a : Axiom} {r j : ℕ} → PlainColumn u y → In t.axioms a → named a.left ≡ x → Fills t r a
         → Lost t u rows k (filler_of a) (partner u r y) j → {seen : Rows} → Agree rows seen k → Formed sig seen (suc k) → seen k ≡ row 3 r j → Lost t u seen (suc k) x y k
     lost_of_role {y = y} {r = r} {j = j} y_plain a_in a_is_x fills w {seen} agree grown written =
         let is : concept_of_row seen k ≡ some r (concept_of_row rows j) = rw (same_concept formed agree j w.inside) (some_row grown (omega arith) written w.inside) in
@@ -85,7 +79,7 @@ module _ {n : ℕ} {sig : Signature} {t u : List Axiom} (given : Comparable n si
         (below_kept given first_table second_table f closed w.below w.over (named a) (node (named a)) (name_node a_in) (node_column (name_node a_in)) h w.first))
   ]
 
-module _ {sig : Signature} {t u : List Axiom} {rows : Rows} {k : ℕ} (formed : Formed sig rows k) {a side j : ℕ} (is : side ≡ 2) (chosen : sig.has_name a ≡ true)
+module _ {sig : Signature} {t u : Terminology} {rows : Rows} {k : ℕ} (formed : Formed sig rows k) {a side j : ℕ} (is : side ≡ 2) (chosen : sig.has_name a ≡ true)
     (w : Lost t u rows k (named a) (node (named a)) j) where
   pub right_last : k ≡ suc j → Shows sig t u side a rows j
   right_last last = record { chosen = chosen; formed = λ i h. formed.at i (omega arith); differs = below is w.first w.second }

@@ -1,11 +1,9 @@
 -- The concepts of well-formed rows.
---   Formed sig rows k       the rows below k are well formed
 --   same_concept            rows that agree below k have the same concepts there
 --   top_row, name_row, both_row, some_row     the concept of a row, by its form
---   top_kind                a well-formed row with the kind of ⊤ is ⊤
 --   row_over                it is a signature concept
 --   append                  one more well-formed row: the earlier ones keep their concepts
-use mathlib.Core.Path.{◌≡◌, refl, sym, ap, ap₂, ◌∙◌}
+use mathlib.Core.Path.{◌≡◌, refl, ap, ap₂}
 use mathlib.Core.Bool.{true}
 use Prim.Native.Nat.{ℕ, zero, suc, ◌≤◌, ◌<◌}
 use native.Mathlib.Omega.{arith}
@@ -14,12 +12,7 @@ use Rattle.el.specs.Concepts.{top, name, both, some}
 use Rattle.el.specs.Signatures.{Signature, is_over}
 use Rattle.el.proofs.Tests.{and_both}
 use Rattle.concept_rows.specs.Rows.{Row, Rows, row, WellFormed, is_top, is_name, is_both, is_some, made, followed, concept_of_row}
-
-pub record Formed (sig : Signature) (rows : Rows) (k : ℕ) : Type 0 where
-  pub at : (i : ℕ) → i < k → WellFormed sig i (rows i)
-
-pub record Agree (rows seen : Rows) (k : ℕ) : Type 0 where
-  pub at : (i : ℕ) → i < k → rows i ≡ seen i
+use Rattle.concept_rows.specs.Written.{Formed, Agree}
 
 pub agree_same : {rows : Rows} {k : ℕ} → Agree rows rows k
 agree_same = record { at = λ i h. refl }
@@ -42,12 +35,6 @@ module _ {sig : Signature} {rows seen : Rows} {k : ℕ} (formed : Formed sig row
 
 pub agreeing_formed : {sig : Signature} {rows seen : Rows} {k : ℕ} → Formed sig rows k → Agree rows seen k → Formed sig seen k
 agreeing_formed formed agree = record { at = λ i h. rw (← agree.at i h) (formed.at i h) }
-
-pub top_kind : {sig : Signature} {i : ℕ} {r : Row} → WellFormed sig i r → r.kind ≡ 0 → r ≡ row 0 0 0
-top_kind (is_top e) z = e
-top_kind (is_name e o) z = let f : ◌≡◌ {A = ℕ} 1 0 = sym (ap (λ (r : Row). r.kind) e) ∙ z in absurd (omega arith)
-top_kind (is_both e p q) z = let f : ◌≡◌ {A = ℕ} 2 0 = sym (ap (λ (r : Row). r.kind) e) ∙ z in absurd (omega arith)
-top_kind (is_some e o p) z = let f : ◌≡◌ {A = ℕ} 3 0 = sym (ap (λ (r : Row). r.kind) e) ∙ z in absurd (omega arith)
 
 -- by the form of a row
 module _ {sig : Signature} {rows : Rows} {k : ℕ} (formed : Formed sig rows k) where

@@ -9,9 +9,9 @@
 --   Shows sig t u side a rows i     row i does, of a chosen name, over rows that are well formed, used or not
 --   ReportedOn sig t u side a         the name is reported on that side
 -- Not here: the numbers in which rows are lent (Lent).
-use Rattle.std.specs.Prelude.{◌≡◌, true, List, ℕ, zero, suc, ◌≤◌, ◌<◌}
+use Rattle.std.specs.Prelude.{◌≡◌, true, ℕ, zero, suc, ◌≤◌, ◌<◌}
 use Rattle.el.specs.Concepts.{Concept, top, name, both, some}
-use Rattle.el.specs.Axioms.{Axiom}
+use Rattle.el.specs.Axioms.{Terminology}
 use Rattle.el.specs.Derivability.{Derives}
 use Rattle.el.specs.Signatures.{Signature, LeftWitness, RightWitness}
 
@@ -50,15 +50,15 @@ followed (suc k) rows i = made (rows i) (followed k rows)
 abbrev pub concept_of_row : Rows → ℕ → Concept
 concept_of_row rows i = followed (suc i) rows i
 
-pub data Differs (t u : List Axiom) (side a : ℕ) (c : Concept) : Type 0 where
+pub data Differs (t u : Terminology) (side a : ℕ) (c : Concept) : Type 0 where
   above : side ≡ 1 → Derives t (name a) c → (Derives u (name a) c → ⊥) → Differs t u side a c
   below : side ≡ 2 → Derives t c (name a) → (Derives u c (name a) → ⊥) → Differs t u side a c
 
-pub record Shows (sig : Signature) (t u : List Axiom) (side a : ℕ) (rows : Rows) (i : ℕ) : Type 0 where
+pub record Shows (sig : Signature) (t u : Terminology) (side a : ℕ) (rows : Rows) (i : ℕ) : Type 0 where
   pub chosen : sig.has_name a ≡ true
   pub formed : (j : ℕ) → j ≤ i → WellFormed sig j (rows j)
   pub differs : Differs t u side a (concept_of_row rows i)
 
-pub data ReportedOn (sig : Signature) (t u : List Axiom) (side a : ℕ) : Type 0 where
+pub data ReportedOn (sig : Signature) (t u : Terminology) (side a : ℕ) : Type 0 where
   is_left : side ≡ 1 → sig.has_name a ≡ true → LeftWitness sig t u a → ReportedOn sig t u side a
   is_right : side ≡ 2 → sig.has_name a ≡ true → RightWitness sig t u a → ReportedOn sig t u side a
