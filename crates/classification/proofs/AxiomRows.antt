@@ -11,12 +11,12 @@ use Rattle.el.specs.Lists.{In, pick}
 use Rattle.el.specs.Concepts.{named}
 use Rattle.el.specs.Axioms.{Axiom, is_conjunction, parts_of, role_of, filler_of}
 use Rattle.el.specs.Terminologies.{Formed}
-use Rattle.release.specs.Files.{numbers, width_of, names_of, axioms_of, joins, restricts}
+use Rattle.release.specs.Files.{numbers, width_of, names_of, axioms_of, joins, restricts, content_of}
 use Rattle.release.specs.Tables.{kind_at, role_at, filler_at, tail_at, count_at, part_at, Shaped, Release, AxiomRow, NameRow, no_axiom, has_axiom}
 use Rattle.release.specs.Entries.{node_number}
 use Rattle.release.proofs.Numbers.{in_numbers, numbers_at}
 use Rattle.release.proofs.Linked as linked
-use Rattle.release.specs.declared.table.Row as table
+use Rattle.release.specs.declared.table.Table.{Table}
 use Rattle.classification.specs.Inclusions.{node_at}
 use Rattle.classification.proofs.Nodes.{at_name}
 
@@ -57,18 +57,18 @@ restricts_kind false true h = refl
 restricts_kind false false h = refl
 
 -- the axiom of a name
-pub record Found (s : List ℕ) (t : List table.Row) (n x : ℕ) : Type 0 where
+pub record Found (s : List ℕ) (t : Table) (n x : ℕ) : Type 0 where
   pub it : Axiom
   pub member : In (axioms_of s) it
   pub left : it.left ≡ x
   pub row : AxiomRow n s t it
 
-pub record PartAt (s : List ℕ) (t : List table.Row) (x y : ℕ) : Type 0 where
+pub record PartAt (s : List ℕ) (t : Table) (x y : ℕ) : Type 0 where
   pub at : ℕ
   pub inside : at < count_at s t x
   pub is : part_at s t x at ≡ y
 
-module _ {s : List ℕ} {t : List table.Row} {n x : ℕ} (f : Found s t n x) where
+module _ {s : List ℕ} {t : Table} {n x : ℕ} (f : Found s t n x) where
   abbrev pub joint : Bool
   joint = is_conjunction f.it
 
@@ -122,9 +122,9 @@ module _ {s : List ℕ} {t : List table.Row} {n x : ℕ} (f : Found s t n x) whe
   unfolding part_at
   part_at_lem h {y} i = let p = numbers_at (width_of s) (count_at s t x) s (tail_at t x + 1) (rw (parts_are h) at i) in record { at = p.place; inside = p.small; is = p.is }
 
-module _ {s : List ℕ} {t : List table.Row} {n : ℕ} (r : Release s t) (names : n ≡ names_of s) where
-  pub formed : Formed n (axioms_of s)
-  formed = subst (λ k. Formed k (axioms_of s)) (sym names) (linked.formed s r.accepted)
+module _ {s : List ℕ} {t : Table} {n : ℕ} (r : Release s t) (names : n ≡ names_of s) where
+  pub formed : Formed n (content_of s)
+  formed = subst (λ k. Formed k (content_of s)) (sym names) (linked.formed s r.accepted)
 
   pub ranges : Shaped n s t
   ranges = subst (λ k. Shaped k s t) (sym names) (linked.ranges r)

@@ -9,14 +9,17 @@ use Prim.Native.Nat.{ℕ, suc, ◌≤◌, ◌<◌}
 use native.Mathlib.Omega.{arith}
 use Rattle.el.specs.Concepts.{Node, named}
 use Rattle.el.specs.Axioms.{role_of, filler_of}
+use Rattle.el.specs.Derivability.{same_role}
+use Rattle.el.specs.Derivability.{through as through_roles}
 use Rattle.el.specs.Terminologies.{IsNode}
 use Rattle.el.proofs.Derivations.{has_part}
 use Rattle.el.proofs.Derivations as el
 use Rattle.el.proofs.Classification.{Link, Includes, the_same, to_everything, by_part, by_parts, by_filler}
-use Rattle.release.specs.Files.{names_of, axioms_of}
+use Rattle.release.specs.Files.{names_of, content_of}
 use Rattle.release.specs.Tables.{count_at, part_at, Release}
 use Rattle.release.specs.Entries.{node_number}
-use Rattle.release.specs.declared.table.Row as table
+use Rattle.release.proofs.Linked.{tells_serves_at}
+use Rattle.release.specs.declared.table.Table.{Table}
 use Rattle.marks.specs.declared.Square.{Square}
 use Rattle.marks.specs.Squares.{Marked}
 use Rattle.marks.specs.Passes.{Below}
@@ -34,9 +37,9 @@ pub record Through (q : Square) (w : List ℕ) (x y : ℕ) : Type 0 where
   pub second : Marked q w it y
 
 -- a step is a rule, or goes through a node
-module _ {s : List ℕ} {t : List table.Row} {q : Square} (r : Release s t) (names : q.names ≡ names_of s) where
+module _ {s : List ℕ} {t : Table} {q : Square} (r : Release s t) (names : q.names ≡ names_of s) where
   module _ {w : List ℕ} {x y : ℕ} (h : x ≤ q.names) (l : y ≤ q.names) where
-    pub step_includes : Step s t q w x y → Includes (axioms_of s) (says q w) (node_at q.names x) (node_at q.names y) ⊎ Through q w x y
+    pub step_includes : Step s t q w x y → Includes (content_of s) (says q w) (node_at q.names x) (node_at q.names y) ⊎ Through q w x y
     step_includes (to_itself e) = inl (the_same (ap (node_at q.names) (sym e)))
     step_includes (to_top e) = inl (to_everything (at_top q.names y e))
     step_includes (to_part b i bn j m c e) =
@@ -57,9 +60,10 @@ module _ {s : List ℕ} {t : List table.Row} {q : Square} (r : Release s t) (nam
         let k = defined_restriction f g.kind in
         let c = restricted r names b bn j in
         let i = is_restriction c j in
-        let fills : el.Fills (role_of c.it) f.it = record { is_defined = k.1; is_restriction = k.0; role = sym (role_is c i) ∙ (g.role ∙ role_is f k.0) } in
-        let link : Link (says q w) (node_at q.names x) (role_of c.it) c.it = record
-        { above = said (node_at q.names x) (named c.it.left) (number_at q.names x h) c.left m; is_restriction = i; role = refl } in
+        let fills : el.Fills (content_of s) (role_of c.it) f.it = record
+        { is_defined = k.1; is_restriction = k.0; role = (tells_serves_at r (role_of c.it) (role_of f.it)).sound (rw (← role_is c i, ← role_is f k.0) g.role) } in
+        let link : Link (content_of s) (says q w) (node_at q.names x) (role_of c.it) c.it = record
+        { above = said (node_at q.names x) (named c.it.left) (number_at q.names x h) c.left m; is_restriction = i; role = same_role } in
         inl (by_filler f.member (name_is f yn) fills c.member link (said (filler_of c.it) (filler_of f.it) (filler_is c i) (filler_is f k.0) g.filler))
     step_includes (through c cn m k) = inr (record { it = c; inside = cn; first = m; second = k })
 
@@ -68,7 +72,7 @@ module _ {s : List ℕ} {t : List table.Row} {q : Square} (r : Release s t) (nam
     row_of : Row s t q (node_number q.names a) v
     row_of = rows.at (node_number q.names a) (omega (arith, number_small q.names a i))
 
-    pub rows_closed : Includes (axioms_of s) (says q v) a b → says q v a b ≡ true
+    pub rows_closed : Includes (content_of s) (says q v) a b → says q v a b ≡ true
     rows_closed (the_same e) = said a b refl (ap (node_number q.names) (sym e)) row_of.seeded.itself
     rows_closed (to_everything e) = said a b refl (ap (node_number q.names) e) row_of.seeded.top
     rows_closed (by_part {a = p} {z = z} k m j e) =
@@ -88,7 +92,7 @@ module _ {s : List ℕ} {t : List table.Row} {q : Square} (r : Release s t) (nam
         let o = own r names l in
         let g : Fills t q c.left p.left v = record {
           kind = is_4 f j.is_restriction j.is_defined;
-          role = role_is o link.is_restriction ∙ (link.role ∙ (j.role ∙ sym (role_is f j.is_restriction)));
+          role = rw (role_is o link.is_restriction, role_is f j.is_restriction) ((tells_serves_at r _ _).complete (through_roles link.role j.role));
           filler = marked (filler_of c) (filler_of p) (filler_is o link.is_restriction) (filler_is f j.is_restriction) m;
         } in
         let d = (row_of.looked.at c.left ((formed r names).left_in l)).spread.fillers (restriction_restricts o link.is_restriction) (marked a (named c.left) refl refl link.above) in

@@ -6,16 +6,15 @@
 --   gathered_.., filled_.., axiom_..      what is left to mark by conjuncts, by fillers, by an axiom
 -- Not here: the other laws of passes for any rule (crate marks).
 use mathlib.Core.Path.{◌≡◌, refl, sym, ◌∙◌}
-use mathlib.Core.Bool.{Bool, true, false, ◌||◌, false≢true}
+use mathlib.Core.Bool.{Bool, true, false, ◌||◌, false≢true, true≢false}
 use mathlib.Core.List.{List}
 use Prim.Native.Nat.{ℕ, suc, ◌≤◌, ◌<◌}
 use native.Mathlib.Omega.{arith}
 use Rattle.el.proofs.Tests.{Tells, tells_as}
-use Rattle.el.proofs.Derivations.{Serves}
 use Rattle.release.specs.Files.{joins, restricts}
-use Rattle.release.specs.Tables.{kind_at, role_at, filler_at, count_at, part_at, HasRow, Conjunctive, Shaped}
+use Rattle.release.specs.Tables.{kind_at, role_at, filler_at, serves_at, count_at, part_at, HasRow, Conjunctive, Shaped}
 use Rattle.release.proofs.Faults.{restricts_not_joins}
-use Rattle.release.specs.declared.table.Row as table
+use Rattle.release.specs.declared.table.Table.{Table}
 use Rattle.marks.specs.declared.Square.{Square}
 use Rattle.marks.specs.Squares.{Marked, Put}
 use Rattle.marks.specs.Passes.{Grows, Pass, Below, Due, FromRow}
@@ -23,7 +22,7 @@ use Rattle.marks.specs.Inclusions.{Taking}
 use Rattle.marks.proofs.Squares.{frame_area}
 use Rattle.marks.proofs.Passes.{room_stays, grows_frame, marks_stay, pass_none, pass_as, pass_both, pass_by, grows_as, put_pass, put_grows, due_not, due_as}
 use Rattle.classification.specs.Steps.{PartMarked, Gathers, Fills, Step, to_itself, to_top, to_part, to_gathered, to_filled, through, Gathered, Seeds, GatheredAt, FilledAt}
-use Rattle.classification.specs.Steps.{AxiomSettled, Setting, SeededSetting, InRow, Source, DefinedRestriction, Pair, Restriction, Over}
+use Rattle.classification.specs.Steps.{AxiomSettled, Setting, SeededSetting, InRow, Source, DefinedRestriction, FilledBy, Pair, Restriction, Over}
 
 not_both : {A : Type 0} (k : ℕ) → joins k ≡ true → restricts k ≡ true → A
 not_both k j r = absurd (false≢true (sym (restricts_not_joins k r) ∙ j))
@@ -31,11 +30,11 @@ not_both k j r = absurd (false≢true (sym (restricts_not_joins k r) ∙ j))
 pub joined : {kind k : ℕ} → kind ≡ k → kind ≡ 2 → joins k ≡ true
 joined e two = rw (← e, two) refl
 
-pub shaped_row : {n : ℕ} {s : List ℕ} {t : List table.Row} {x : ℕ} → Shaped n s t → x < n → HasRow t x
+pub shaped_row : {n : ℕ} {s : List ℕ} {t : Table} {x : ℕ} → Shaped n s t → x < n → HasRow x
 shaped_row h l = record { row = omega (arith, h.rows) }
 
 -- what is asked
-module _ {s : List ℕ} {t : List table.Row} {q : Square} where
+module _ {s : List ℕ} {t : Table} {q : Square} where
   pub setting_stays : {w v : List ℕ} → Grows (Step s t q) q w v → Setting s t q w → Setting s t q v
   setting_stays g h = record { shaped = h.shaped; room = room_stays g h.room; area = frame_area (grows_frame g) h.area; few = h.few }
 
@@ -45,8 +44,8 @@ module _ {s : List ℕ} {t : List table.Row} {q : Square} where
   pub in_top_row : {w : List ℕ} {b : ℕ} → Setting s t q w → b < q.names → InRow s t q w q.names b
   in_top_row h l = record { setting = h; row = omega arith; name = l }
 
-module _ {s : List ℕ} {t : List table.Row} {q : Square} {w : List ℕ} {x b : ℕ} (h : InRow s t q w x b) where
-  pub name_row : HasRow t b
+module _ {s : List ℕ} {t : Table} {q : Square} {w : List ℕ} {x b : ℕ} (h : InRow s t q w x b) where
+  pub name_row : HasRow b
   name_row = shaped_row h.setting.shaped h.name
 
   pub conjunctive : joins (kind_at t b) ≡ true → Conjunctive q.names s t b
@@ -56,12 +55,12 @@ module _ {s : List ℕ} {t : List table.Row} {q : Square} {w : List ℕ} {x b : 
   part_small {i} j l e = omega (arith, e, h.setting.shaped.part b i h.name j l)
 
 -- a definition, for a whole column
-module _ {s : List ℕ} {t : List table.Row} {q : Square} {w : List ℕ} {y : ℕ} (h : Setting s t q w) (l : y < q.names) where
+module _ {s : List ℕ} {t : Table} {q : Square} {w : List ℕ} {y : ℕ} (h : Setting s t q w) (l : y < q.names) where
   pub pair : {b r f : ℕ} → b < q.names → restricts (kind_at t b) ≡ true → DefinedRestriction t y r f → Pair t q w b y r f
   pair i k d = record { rows = h.shaped.rows; room = h.room; fillers = h.shaped.filler; left = i; is_restriction = k; right = l; defined = d }
 
 -- conjuncts and fillers of a marked name
-module _ {s : List ℕ} {t : List table.Row} {q : Square} {w v : List ℕ} {x b : ℕ} {r : Bool} (h : Source s t q w x b) where
+module _ {s : List ℕ} {t : Table} {q : Square} {w v : List ℕ} {x b : ℕ} {r : Bool} (h : Source s t q w x b) where
   pub part_pass : {i y : ℕ} → joins (kind_at t b) ≡ true → i < count_at s t b → y ≡ part_at s t b i → Put q x y w v r → Pass (Step s t q) q (PartMarked s t q x b i) w v r
   part_pass {i} j l e p = pass_as (λ m. record { is = rw (← e) m }) (put_pass p (to_part b i h.in_row.name j h.marked l e))
 
@@ -69,21 +68,21 @@ module _ {s : List ℕ} {t : List table.Row} {q : Square} {w v : List ℕ} {x b 
   fill_pass k l f p = put_pass p (to_filled b h.in_row.name k h.marked l f)
 
 -- the fillers of two names
-module _ {t : List table.Row} {q : Square} {w : List ℕ} {b y r f : ℕ} (h : Pair t q w b y r f) where
+module _ {t : Table} {q : Square} {w : List ℕ} {b y r f : ℕ} (h : Pair t q w b y r f) where
   pub fillers_small : {under : ℕ} → under ≡ filler_at t b → (under ≤ q.names) × (f ≤ q.names)
   fillers_small e =
       let z : restricts (kind_at t y) ≡ true = rw h.defined.kind refl in
       (rw e (h.fillers b h.left h.is_restriction), rw h.defined.filler (h.fillers y h.right z))
 
-pub not_due : {t : List table.Row} {q : Square} {w : List ℕ} {b y r f role : ℕ} → DefinedRestriction t y r f → role ≡ role_at t b → (role ≡ r → ⊥) → Due false (Fills t q b y w) (Marked q w b y)
-not_due d e n = due_not (λ g. n (e ∙ g.role ∙ sym d.role))
+pub not_due : {t : Table} {q : Square} {w : List ℕ} {b y r f role : ℕ} → DefinedRestriction t y r f → role ≡ role_at t b → serves_at t role r ≡ false → Due false (Fills t q b y w) (Marked q w b y)
+not_due d e n = due_not (λ g. true≢false (sym (rw (e, d.role) g.role) ∙ n))
 
-pub due_fill : {t : List table.Row} {q : Square} {w : List ℕ} {b y r f role under : ℕ} {a : Bool} → DefinedRestriction t y r f → role ≡ role_at t b → Serves role r → under ≡ filler_at t b
+pub due_fill : {t : Table} {q : Square} {w : List ℕ} {b y r f role under : ℕ} {a : Bool} → DefinedRestriction t y r f → role ≡ role_at t b → serves_at t role r ≡ true → under ≡ filler_at t b
     → Tells a (Marked q w under f) → Due a (Fills t q b y w) (Marked q w b y)
-due_fill d e same i m = due_as (tells_as (λ z. record { kind = d.kind; role = sym e ∙ same ∙ d.role; filler = rw (← i, ← d.filler) z }) (λ z. rw (i, d.filler) z.filler) m)
+due_fill d e same i m = due_as (tells_as (λ z. record { kind = d.kind; role = rw (← e, ← d.role) same; filler = rw (← i, ← d.filler) z }) (λ z. rw (i, d.filler) z.filler) m)
 
 -- a defined conjunction in a row
-module _ {s : List ℕ} {t : List table.Row} {q : Square} {w : List ℕ} {x b : ℕ} where
+module _ {s : List ℕ} {t : Table} {q : Square} {w : List ℕ} {x b : ℕ} where
   pub gathered_there : Marked q w x b → Pass (Step s t q) q (Gathered s t q x b) w w false
   gathered_there m = pass_none (record { marked = λ g. m })
 
@@ -100,11 +99,11 @@ seeds {x = x} p o = record {
   itself = o.extends.stays x x p.there;
 }
 
-pub in_row_at : {s : List ℕ} {t : List table.Row} {q : Square} {w : List ℕ} {x b z : ℕ} → InRow s t q w x b → z < q.names → InRow s t q w x z
+pub in_row_at : {s : List ℕ} {t : Table} {q : Square} {w : List ℕ} {x b z : ℕ} → InRow s t q w x b → z < q.names → InRow s t q w x z
 in_row_at h l = record { setting = h.setting; row = h.row; name = l }
 
 -- a new mark dealt with: what is asked stays, and a mark put by a rule is growth
-module _ {s : List ℕ} {t : List table.Row} {q : Square} {w v : List ℕ} (g : Grows (Step s t q) q w v) where
+module _ {s : List ℕ} {t : Table} {q : Square} {w v : List ℕ} (g : Grows (Step s t q) q w v) where
   pub in_row_stays : {x b : ℕ} → InRow s t q w x b → InRow s t q v x b
   in_row_stays h = record { setting = setting_stays g h.setting; row = h.row; name = h.name }
 
@@ -118,61 +117,61 @@ module _ {s : List ℕ} {t : List table.Row} {q : Square} {w v : List ℕ} (g : 
   seeded_stays h = record { setting = setting_stays g h.setting; seeded = record { at = λ x l. let m = h.seeded.at x l in record { itself = marks_stay g m.itself; top = marks_stay g m.top } } }
 
 -- new marks dealt with
-pub gather_grows : {s : List ℕ} {t : List table.Row} {q : Square} {w v : List ℕ} {r : Bool} {x y : ℕ} → InRow s t q w x y → Gathers s t q x y w → Put q x y w v r → Grows (Step s t q) q w v
+pub gather_grows : {s : List ℕ} {t : Table} {q : Square} {w v : List ℕ} {r : Bool} {x y : ℕ} → InRow s t q w x y → Gathers s t q x y w → Put q x y w v r → Grows (Step s t q) q w v
 gather_grows h g p = put_grows p (to_gathered h.name g)
 
-pub restriction_of : {s : List ℕ} {t : List table.Row} {q : Square} {w : List ℕ} {x b filler : ℕ} → Setting s t q w → b < q.names → filler ≡ filler_at t b → filler ≡ x
+pub restriction_of : {s : List ℕ} {t : Table} {q : Square} {w : List ℕ} {x b filler : ℕ} → Setting s t q w → b < q.names → filler ≡ filler_at t b → filler ≡ x
     → restricts (kind_at t b) ≡ true → Marked q w b b → Restriction s t q w x b
 restriction_of h l e f r m = record { setting = h; name = l; itself = m; is_restriction = r; filler = sym e ∙ f }
 
-pub filler_small : {s : List ℕ} {t : List table.Row} {q : Square} {w : List ℕ} {x b : ℕ} → Restriction s t q w x b → x ≤ q.names
+pub filler_small : {s : List ℕ} {t : Table} {q : Square} {w : List ℕ} {x b : ℕ} → Restriction s t q w x b → x ≤ q.names
 filler_small {b = b} h = omega (arith, h.filler, h.setting.shaped.filler b h.name h.is_restriction)
 
-pub over_of : {s : List ℕ} {t : List table.Row} {q : Square} {w : List ℕ} {x b y : ℕ} → Restriction s t q w x b → Marked q w x y → y ≤ q.names → Over s t q w b y
+pub over_of : {s : List ℕ} {t : Table} {q : Square} {w : List ℕ} {x b y : ℕ} → Restriction s t q w x b → Marked q w x y → y ≤ q.names → Over s t q w b y
 over_of h m l = record { setting = h.setting; name = h.name; itself = h.itself; is_restriction = h.is_restriction; marked = rw h.filler m; column = l }
 
-pub over_grows : {s : List ℕ} {t : List table.Row} {q : Square} {w v : List ℕ} {b y z role : ℕ} {r : Bool} → Over s t q w b y → z < q.names → role ≡ role_at t b
-    → DefinedRestriction t z role y → Put q b z w v r → Grows (Step s t q) q w v
+pub over_grows : {s : List ℕ} {t : Table} {q : Square} {w v : List ℕ} {b y z role : ℕ} {r : Bool} → Over s t q w b y → z < q.names → role ≡ role_at t b
+    → FilledBy t z role y → Put q b z w v r → Grows (Step s t q) q w v
 over_grows h l i d p =
-    put_grows p (to_filled _ h.name h.is_restriction h.itself l (record { kind = d.kind; role = sym i ∙ d.role; filler = rw (← d.filler) h.marked }))
+    put_grows p (to_filled _ h.name h.is_restriction h.itself l (record { kind = d.kind; role = rw (← i) d.role; filler = rw (← d.filler) h.marked }))
 
 -- a row handed on to another one, in which its node is marked
-pub row_grows : {s : List ℕ} {t : List table.Row} {q : Square} {w v : List ℕ} {x c : ℕ} → Marked q w x c → c ≤ q.names → Grows (FromRow q c x) q w v → Grows (Step s t q) q w v
+pub row_grows : {s : List ℕ} {t : Table} {q : Square} {w v : List ℕ} {x c : ℕ} → Marked q w x c → c ≤ q.names → Grows (FromRow q c x) q w v → Grows (Step s t q) q w v
 row_grows {c = c} m h g = grows_as (λ u y z k i j f. through c h (rw f.row (marks_stay k m)) f.marked) g
 
 pub handed_down : {q : Square} {w v : List ℕ} {x c : ℕ} → Marked q w x c → c ≤ q.names → Grows (FromRow q c x) q w v → Grows (Taking q q) q w v
 handed_down {c = c} m h g = grows_as (λ u y z k i j f. record { it = c; inside = h; above = rw f.row (marks_stay k m); marked = f.marked }) g
 
-taking_step : {s : List ℕ} {t : List table.Row} {q : Square} {w : List ℕ} {x y : ℕ} → Taking q q w x y → Step s t q w x y
+taking_step : {s : List ℕ} {t : Table} {q : Square} {w : List ℕ} {x y : ℕ} → Taking q q w x y → Step s t q w x y
 taking_step k = through k.it k.inside k.above k.marked
 
-pub taking_grows : {s : List ℕ} {t : List table.Row} {q : Square} {w v : List ℕ} → Grows (Taking q q) q w v → Grows (Step s t q) q w v
+pub taking_grows : {s : List ℕ} {t : Table} {q : Square} {w v : List ℕ} → Grows (Taking q q) q w v → Grows (Step s t q) q w v
 taking_grows g = grows_as (λ u x y k i j f. taking_step f) g
 
-pub taking_pass : {s : List ℕ} {t : List table.Row} {q : Square} {D : List ℕ → Type 0} {w v : List ℕ} {r : Bool} → Pass (Taking q q) q D w v r → Pass (Step s t q) q D w v r
+pub taking_pass : {s : List ℕ} {t : Table} {q : Square} {D : List ℕ → Type 0} {w v : List ℕ} {r : Bool} → Pass (Taking q q) q D w v r → Pass (Step s t q) q D w v r
 taking_pass p = pass_by (λ u x y k i j f. taking_step f) p
 
 -- columns
-pub seeded_source : {s : List ℕ} {t : List table.Row} {q : Square} {w : List ℕ} {x : ℕ} → SeededSetting s t q w → x < q.names → Source s t q w x x
+pub seeded_source : {s : List ℕ} {t : Table} {q : Square} {w : List ℕ} {x : ℕ} → SeededSetting s t q w → x < q.names → Source s t q w x x
 seeded_source {x = x} h l = record { in_row = record { setting = h.setting; row = omega arith; name = l }; marked = (h.seeded.at x (omega arith)).itself }
 
-pub gathered_at : {s : List ℕ} {t : List table.Row} {q : Square} {w v : List ℕ} {x y : ℕ} {r : Bool} → Pass (Step s t q) q (Gathered s t q x y) w v r → Pass (Step s t q) q (GatheredAt s t q y x) w v r
+pub gathered_at : {s : List ℕ} {t : Table} {q : Square} {w v : List ℕ} {x y : ℕ} {r : Bool} → Pass (Step s t q) q (Gathered s t q x y) w v r → Pass (Step s t q) q (GatheredAt s t q y x) w v r
 gathered_at p = pass_as (λ g. record { marked = g.marked }) p
 
-pub filled_not : {t : List table.Row} {q : Square} {w : List ℕ} {y b : ℕ} {r : Bool} → r ≡ restricts (kind_at t b) → r ≡ false → FilledAt t q y b w
+pub filled_not : {t : Table} {q : Square} {w : List ℕ} {y b : ℕ} {r : Bool} → r ≡ restricts (kind_at t b) → r ≡ false → FilledAt t q y b w
 filled_not e f = record { marked = λ k. absurd (false≢true (sym f ∙ e ∙ k)) }
 
-pub filled_none : {t : List table.Row} {q : Square} {w : List ℕ} {y b : ℕ} {r : Bool} → Due r (Fills t q b y w) (Marked q w b y) → r ≡ false → FilledAt t q y b w
+pub filled_none : {t : Table} {q : Square} {w : List ℕ} {y b : ℕ} {r : Bool} → Due r (Fills t q b y w) (Marked q w b y) → r ≡ false → FilledAt t q y b w
 filled_none d e = record { marked = λ k. d.settled e }
 
-pub filled_at : {s : List ℕ} {t : List table.Row} {q : Square} {w v : List ℕ} {y b : ℕ} {r : Bool} → Pass (Step s t q) q (λ u. Marked q u b y) w v r → Pass (Step s t q) q (FilledAt t q y b) w v r
+pub filled_at : {s : List ℕ} {t : Table} {q : Square} {w v : List ℕ} {y b : ℕ} {r : Bool} → Pass (Step s t q) q (λ u. Marked q u b y) w v r → Pass (Step s t q) q (FilledAt t q y b) w v r
 filled_at p = pass_as (λ m. record { marked = λ k f. m }) p
 
 -- an axiom, by its kind
-not_filled : {t : List table.Row} {q : Square} {w : List ℕ} {x : ℕ} → (kind_at t x ≡ 4 → ⊥) → Below (FilledAt t q x) q.names w
+not_filled : {t : Table} {q : Square} {w : List ℕ} {x : ℕ} → (kind_at t x ≡ 4 → ⊥) → Below (FilledAt t q x) q.names w
 not_filled n = record { at = λ b l. record { marked = λ k f. absurd (n f.kind) } }
 
-module _ {s : List ℕ} {t : List table.Row} {q : Square} {w : List ℕ} {x : ℕ} where
+module _ {s : List ℕ} {t : Table} {q : Square} {w : List ℕ} {x : ℕ} where
   not_gathered : (kind_at t x ≡ 2 → ⊥) → Below (GatheredAt s t q x) (suc q.names) w
   not_gathered n = record { at = λ y l. record { marked = λ g. absurd (n g.kind) } }
 

@@ -7,7 +7,7 @@ use mathlib.Core.List.{List}
 use Prim.Native.Nat.{ℕ, suc, ◌≤◌, ◌<◌}
 use native.Mathlib.Omega.{arith}
 use Rattle.release.specs.Tables.{Shaped}
-use Rattle.release.specs.declared.table.Row as table
+use Rattle.release.specs.declared.table.Table.{Table}
 use Rattle.marks.specs.declared.Square.{Square}
 use Rattle.marks.specs.Squares.{Marked}
 use Rattle.marks.specs.Passes.{Pass, Below}
@@ -17,7 +17,7 @@ use Rattle.marks.proofs.Passes.{pass_next}
 use Rattle.classification.proofs.Marking.{taking_pass}
 
 -- what a pass finishes: what is marked in any row, what the axioms give in their columns, the rows above each row
-pub settled : {s : List ℕ} {t : List table.Row} {q : Square} {w : List ℕ} → Below (Seeded q) (suc q.names) w → Below (AxiomSettled s t q) q.names w → Below (Takes q q) (suc q.names) w
+pub settled : {s : List ℕ} {t : Table} {q : Square} {w : List ℕ} → Below (Seeded q) (suc q.names) w → Below (AxiomSettled s t q) q.names w → Below (Takes q q) (suc q.names) w
     → Below (Settled s t q) (suc q.names) w
 settled seeded axioms above = record {
   at = λ x h. record {
@@ -28,13 +28,13 @@ settled seeded axioms above = record {
   };
 }
 
-pub pass_settled : {s : List ℕ} {t : List table.Row} {q : Square} {u w v o : List ℕ} {a b r : Bool} → Pass (Step s t q) q (Below (Seeded q) (suc q.names)) u w a → a ≡ false
+pub pass_settled : {s : List ℕ} {t : Table} {q : Square} {u w v o : List ℕ} {a b r : Bool} → Pass (Step s t q) q (Below (Seeded q) (suc q.names)) u w a → a ≡ false
     → Pass (Step s t q) q (Below (AxiomSettled s t q) q.names) w v b → b ≡ false → Pass (Taking q q) q (Below (Takes q q) (suc q.names)) v o r
     → Pass (Step s t q) q (Below (Settled s t q) (suc q.names)) u o r
 pass_settled {s} {t} {q} f e g h k = pass_next {D = λ z. Below (Seeded q) (suc q.names) z × Below (AxiomSettled s t q) q.names z} (λ y z. settled y.0 y.1 z)
     (pass_next (λ y z. (y, z)) f e g) h (taking_pass k)
 
-module _ {s : List ℕ} {t : List table.Row} {q : Square} {w : List ℕ} (shaped : Shaped q.names s t) (rows : Below (Settled s t q) (suc q.names) w) where
+module _ {s : List ℕ} {t : Table} {q : Square} {w : List ℕ} (shaped : Shaped q.names s t) (rows : Below (Settled s t q) (suc q.names) w) where
   -- what row b has, row x has, where b is marked in it
   handed_on : {x b y : ℕ} → x ≤ q.names → b ≤ q.names → y ≤ q.names → Marked q w x b → Marked q w b y → Marked q w x y
   handed_on {x} {b} {y} h l k m n = (((rows.at x (omega arith)).above.at b (omega arith)).within m).marked y k n

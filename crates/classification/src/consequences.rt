@@ -8,14 +8,14 @@ ghost use Rattle.release.specs.Tables.{HasRow};
 ghost use Rattle.marks.specs.Squares.{Room, Area, Kept};
 ghost use Rattle.marks.specs.Passes.{Grows, FromRow};
 ghost use Rattle.marks.specs.Inclusions.{Taking};
-ghost use Rattle.classification.specs.Steps.{Of, Grown, Setting, InRow, MarkedCell, DefinedRestriction, Restriction, Over};
+ghost use Rattle.classification.specs.Steps.{Of, Grown, Setting, InRow, MarkedCell, FilledBy, Restriction, Over};
 
 use crate::Classification;
 use crate::hints::{BELOW, CONJUNCTS, FILLERS};
 use marks::columns;
 use marks::line::Line;
 use marks::waiting::Waiting;
-use release::Kind;
+use release::{Kind, RoleName};
 
 impl<'a> Classification<'a> {
     // Hands row c on to row x, which waits if it had not all of it.
@@ -71,18 +71,18 @@ impl<'a> Classification<'a> {
         }
     }
 
-    // Whether z is a defined restriction with this role and filler. Crate backward has a test of the role alone (`is_filled`): what it asks of
-    // the filler differs from place to place.
-    fn is_defined_by(&self, z: usize, role: usize, filler: usize) -> bool
-        requires { HasRow self.now.terminology.table.now z }
-        ensures { Tells result (DefinedRestriction self.now.terminology.table.now z role filler) }
+    // Whether z is a defined restriction with this filler, and the role serves for it. Crate backward has a test of the role alone
+    // (`is_filled`): what it asks of the filler differs from place to place.
+    fn is_defined_by(&self, z: usize, role: RoleName, filler: usize) -> bool
+        requires { HasRow z }
+        ensures { Tells result (FilledBy self.now.terminology.table.now z role.0 filler) }
     {
         self.terminology.has_kind(z, Kind::DefinedRestriction)
             && self.terminology.filler(z) == filler
-            && self.terminology.role(z) == role
+            && self.terminology.serves(role, self.terminology.role(z))
     }
 
-    // The defined restrictions with the filler y and the role of b, a restriction whose filler lies below y.
+    // The defined restrictions with the filler y that the role of b serves for; b is a restriction whose filler lies below y.
     fn put_over(&self, work: &mut [u8], waiting: &mut Waiting, b: usize, y: usize)
         requires { Of Over self.now work.old b y }
         ensures { Grown self.now work.old work.new }

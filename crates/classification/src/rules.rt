@@ -8,7 +8,7 @@ ghost use Rattle.marks.specs.Passes.{Pass, Below, Due};
 ghost use Rattle.classification.specs.Steps.{Of, Step, PartMarked, Gathers, Fills, Gathered, Seeds, InRow, Source, Pair};
 
 use crate::Classification;
-use release::Kind;
+use release::{Kind, RoleName};
 
 impl<'a> Classification<'a> {
     // Marks x ⊑ x and x ⊑ ⊤. Whether a mark is new.
@@ -38,18 +38,25 @@ impl<'a> Classification<'a> {
 
     // Whether y, a defined restriction with this role and filler, is not marked in row b yet, and the restriction b serves for it. The
     // cell is looked at first, since most are marked or not asked for.
-    pub(crate) fn fills(&self, work: &[u8], b: usize, y: usize, role: usize, filler: usize) -> bool
-        requires { Pair self.now.terminology.table.now self.now.square work.now b y role filler }
+    pub(crate) fn fills(
+        &self,
+        work: &[u8],
+        b: usize,
+        y: usize,
+        role: RoleName,
+        filler: usize,
+    ) -> bool
+        requires { Pair self.now.terminology.table.now self.now.square work.now b y role.0 filler }
         ensures { Due result (Fills self.now.terminology.table.now self.now.square b y work.now) (Marked self.now.square work.now b y) }
     {
         if self.square.is_marked(work, b, y) {
             return false;
         }
-        if self.terminology.role(b) != role {
-            return false;
+        if self.terminology.serves(self.terminology.role(b), role) {
+            let under = self.terminology.filler(b);
+            return self.square.is_marked(work, under, filler);
         }
-        let under = self.terminology.filler(b);
-        self.square.is_marked(work, under, filler)
+        false
     }
 
     // Whether all conjuncts of the defined conjunction y are marked in row x.
