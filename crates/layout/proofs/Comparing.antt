@@ -11,9 +11,9 @@ use borrow.Author.Tests.{ltb-true}
 use lib.Dec.{ltb}
 use Rattle.el.proofs.Tests.{and_left}
 use Rattle.el.specs.Terminologies.{Comparable, NamesBelow}
-use Rattle.el.proofs.Classification.{Table}
-use Rattle.release.specs.declared.table.Row as table
-use Rattle.release.specs.Files.{axioms_of}
+use Rattle.el.proofs.Classification.{InclusionTable}
+use Rattle.release.specs.declared.table.Table.{Table}
+use Rattle.release.specs.Files.{content_of}
 use Rattle.release.specs.Tables.{Shaped}
 use Rattle.release.proofs.Linked as linked
 use Rattle.marks.specs.Squares.{Frame}
@@ -28,20 +28,20 @@ use Rattle.layout.specs.Comparing.{Comparing}
 pub chosen_below : (l : Layout) (g : List ℕ) → NamesBelow l.names (chosen l g)
 chosen_below l g x h = ltb-true x l.names (and_left (ltb x l.names) _ h)
 
-pub rowed : {n : ℕ} {s : List ℕ} {t : List table.Row} → Shaped n s t → Rowed n t
+pub rowed : {n : ℕ} {s : List ℕ} {t : Table} → Shaped n s t → Rowed n t
 rowed h = record { rows = h.rows; filler = h.filler }
 
 module _ {s t : List ℕ} {given : Given} {w : List ℕ} (c : Comparing s t given w) where
   abbrev pub l : Layout
   l = given.layout
 
-  pub comparable : (g : List ℕ) → Comparable l.names (chosen l g) (axioms_of s) (axioms_of t)
+  pub comparable : (g : List ℕ) → Comparable l.names (chosen l g) (content_of s) (content_of t)
   comparable g = record {
     names_in = chosen_below l g;
     first_formed = formed c.first_release c.first_names;
     second_formed = formed c.second_release c.second_names;
-    first_terms = linked.terminology s c.first_release.accepted;
-    second_terms = linked.terminology t c.second_release.accepted;
+    first_terms = linked.normalised s c.first_release.accepted;
+    second_terms = linked.normalised t c.second_release.accepted;
   }
 
   pub first_shaped : Shaped l.names s given.first.table.now
@@ -55,8 +55,8 @@ module _ {s t : List ℕ} {given : Given} {w : List ℕ} (c : Comparing s t give
 
   -- while the marks change
   module _ {v : List ℕ} (f : Frame (mark_square l) w v) where
-    abbrev pub first_table_by : Table l.names (axioms_of s)
+    abbrev pub first_table_by : InclusionTable l.names (content_of s)
     first_table_by = table_by (inclusions_stay f (inl c.first_apart) c.first_inclusions) refl
 
-    abbrev pub second_table_by : Table l.names (axioms_of t)
+    abbrev pub second_table_by : InclusionTable l.names (content_of t)
     second_table_by = table_by (inclusions_stay f (inl c.second_apart) c.second_inclusions) refl

@@ -1,47 +1,136 @@
 -- Laws of what is found of a signature.
---   found_none, found_more, found_end      the names told of one after the other
---   found_edges                            what was found can be read
+--   RolesTo, role_none                     the roles of the signature that lie so to one, looked at one after the other
+--   lowest_all, lowest_less                of these the lowest by the second release
+--   Written, written_none, written_more    sets written one after the other
+--   edges_none                             a name without an edge
+--   found_edges                            what was found can be read;  stands_itself: below, each role is there itself
 --   name_handed                            the names handed on are those of the signature
-use mathlib.Core.Path.{◌≡◌, refl}
-use mathlib.Core.Bool.{Bool, false}
-use mathlib.Core.List.{List, ◌++◌}
-use Prim.Native.Nat.{ℕ, ◌+◌, ◌≤◌, ◌<◌}
+use mathlib.Core.Path.{◌≡◌, refl, ap}
+use mathlib.Core.Bool.{true}
+use mathlib.Core.List.{List}
+use mathlib.Core.Logic.{inl, inr}
+use Prim.Native.Nat.{ℕ, ◌+◌, ◌^◌, ◌≤◌, ◌<◌}
 use native.Mathlib.Omega.{arith}
 use native.Mathlib.Decide.{ℕ_discrete, dec_lt}
-use borrow.Author.Tests.{le-ltb}
-use lib.ListN.{length, set, length-append, get_or-append}
+use borrow.Author.Tests.{le-ltb, ltb-true}
+use lib.Dec.{ltb}
+use lib.ListN.{length, set}
 use lib.Seq.{get_or-set_same, get_or-set_other}
-use Rattle.el.proofs.Tests.{Tells}
-use Rattle.release.specs.declared.table.Row as table
+use Rattle.el.specs.Derivability.{same_role, through}
+use Rattle.el.proofs.Tests.{and_left}
+use Rattle.release.specs.declared.table.Table.{Table}
+use Rattle.release.specs.declared.roles.RoleSet.{RoleSet}
+use Rattle.release.specs.Files.{restricts, most_roles}
+use Rattle.release.specs.Roles.{HasRole, NoRole, SomeRole, With, Without, Met}
+use Rattle.release.specs.Tables.{kind_at, role_at, serves_at, ServingAt, Release}
+use Rattle.release.proofs.Linked.{tells_serves_at}
+use Rattle.release.proofs.RoleSets.{empty, some_role}
+use Rattle.signature.specs.Bytes.{signature_of}
+use Rattle.marks.proofs.WordBits.{bit_few}
 use Rattle.layout.specs.declared.Given.{Given}
-use Rattle.layout.specs.Tables.{has_edge, Edges}
+use Rattle.layout.specs.declared.edges.Position.{Position}
+use Rattle.layout.specs.declared.edges.Position.TheVariants.{Above, Below}
+use Rattle.layout.specs.Tables.{edges_at, Edges}
 use Rattle.layout.specs.Layouts.{chosen}
-use Rattle.layout.specs.Findings.{RoleChosen, Found, Handed}
+use Rattle.layout.specs.Findings.{RoleChosen, StandsFor, Lowest, EachStands, EdgesOf, Found, Handed}
 
--- what is told of the first k names
-pub record FoundTo (g : List ℕ) (a : List table.Row) (n m k : ℕ) (edges : List Bool) : Type 0 where
-  pub tells : (x : ℕ) → x < k → Tells (has_edge edges x) (RoleChosen g a n m x)
+role_below : (n m : ℕ) (g : List ℕ) (r : ℕ) → (signature_of n m g).has_role r ≡ true → r < m
+role_below n m g r h = ltb-true r m (and_left (ltb r m) _ h)
 
-module _ {g : List ℕ} {a : List table.Row} {n m : ℕ} where
-  pub found_none : {edges : List Bool} → FoundTo g a n m 0 edges
-  found_none = record { tells = λ x h. absurd (omega arith) }
+-- of the roles before k
+pub record RolesTo (p : Position) (g : List ℕ) (a : Table) (n m q k set : ℕ) : Type 0 where
+  pub sound : (r : ℕ) → HasRole set r → RoleChosen p g a n m q r
+  pub complete : (r : ℕ) → r < k → RoleChosen p g a n m q r → HasRole set r
 
-  pub found_more : {k : ℕ} (b : Bool) {edges : List Bool} → k < length edges → FoundTo g a n m k edges → Tells b (RoleChosen g a n m k) → FoundTo g a n m (k + 1) (set edges k b)
-  found_more {k} b {edges} h f p = record { tells = λ x i. by_place x i (ℕ_discrete x k) }
-    where
-      by_place : (x : ℕ) → x < k + 1 → Dec (x ≡ k) → Tells (has_edge (set edges k b) x) (RoleChosen g a n m x)
-      by_place x i (yes e) = rw (e, get_or-set_same edges k b false h) p
-      by_place x i (no e) = rw (get_or-set_other edges k x b false e) (f.tells x (omega arith))
+module _ {p : Position} {g : List ℕ} {a : Table} {n m q : ℕ} where
+  pub role_none : RolesTo p g a n m q 0 0
+  role_none = record { sound = λ r h. absurd (empty.none r h); complete = λ r l o. absurd (omega arith) }
 
-  -- of edges that were lent, the first ones are told
-  pub found_end : {k : ℕ} {told : List Bool} (rest : List Bool) → n ≤ length told → n ≤ k → FoundTo g a n m k told → Found g a n m (told ++ rest)
-  found_end {told = told} rest h j f = record {
-    long = rw (length-append told rest) (omega (arith, h));
-    tells = λ x i. rw (get_or-append told rest false x (omega (arith, h))) (f.tells x (omega arith));
+-- the lowest roles: at first all, then without one for which another serves
+pub lowest_all : (b : Table) {set : ℕ} → Lowest b set set
+lowest_all b = record {
+  sound = λ r h. h;
+  complete = λ t release r h. record { role = r; has = h; stands = (tells_serves_at release r r).complete same_role };
+}
+
+module _ {b : Table} {set kept others one under met r : ℕ} (before : Lowest b set kept) (with : With 0 r one) (without : Without kept one others)
+    (serving : ServingAt b r under) (meets : Met others under met) (few : met < 2 ^ 32) (some : NoRole met → ⊥) where
+  -- it is another one, and what the role stood for it stands for
+  serving_one : SomeRole met
+  serving_one = some_role some
+
+  both : HasRole others serving_one.it × HasRole under serving_one.it
+  both = (meets.both serving_one.it).0 serving_one.has
+
+  serves : serves_at b serving_one.it r ≡ true
+  serves = (serving.tells serving_one.it (bit_few {d = 32} few serving_one.has.is)).0 both.1
+
+  pub lowest_less : Lowest b set others
+  lowest_less = record {
+    sound = λ q h. before.sound q ((without.first_alone q).0 h).0;
+    complete = λ t release q h. let s = before.complete t release q h in by_place release s (ℕ_discrete s.role r);
   }
+    where
+      by_place : {t : List ℕ} {q : ℕ} → Release t b → (s : StandsFor Above b kept q) → Dec (s.role ≡ r) → StandsFor Above b others q
+      by_place {q = q} release s (yes e) =
+          let up : serves_at b r q ≡ true = rw (← e) s.stands in
+          record {
+            role = serving_one.it;
+            has = both.0;
+            stands = (tells_serves_at release serving_one.it q).complete (through ((tells_serves_at release serving_one.it r).sound serves) ((tells_serves_at release r q).sound up));
+          }
+      by_place {q = q} release s (no e) = record {
+        role = s.role;
+        has = (without.first_alone s.role).1 (s.has, λ h. elim ((with.either s.role).0 h) [ inl i ↦ empty.none s.role i | inr i ↦ e i.0 ]);
+        stands = s.stands;
+      }
 
-  pub found_edges : {edges : List Bool} → Found g a n m edges → Edges n a edges
-  found_edges f = record { long = f.long; restriction = λ x h e. ((f.tells x h).sound e).is_restriction }
+-- the first k sets
+pub record Written (Right : ℕ → ℕ → Type 0) (k : ℕ) (sets : List RoleSet) : Type 0 where
+  pub at : (i : ℕ) → i < k → Right i (edges_at sets i)
 
-pub name_handed : {g : List ℕ} {given : Given} → Handed g given → (x : ℕ) → (chosen given.layout given.chosen_names.now).has_name x ≡ (chosen given.layout g).has_name x
+module _ {Right : ℕ → ℕ → Type 0} where
+  pub written_none : {sets : List RoleSet} → Written Right 0 sets
+  written_none = record { at = λ i h. absurd (omega arith) }
+
+  pub written_more : {k : ℕ} (one : RoleSet) {sets : List RoleSet} → k < length sets → Written Right k sets → Right k one.0 → Written Right (k + 1) (set sets k one)
+  written_more {k} one {sets} h f right = record { at = λ i l. by_place i l (ℕ_discrete i k) }
+    where
+      by_place : (i : ℕ) → i < k + 1 → Dec (i ≡ k) → Right i (edges_at (set sets k one) i)
+      by_place i l (yes e) =
+          let same : edges_at (set sets k one) k ≡ one.0 = ap (λ (r : RoleSet). r.0) (get_or-set_same sets k one (record { 0 = 0 }) h) in
+          rw (e, same) right
+      by_place i l (no e) =
+          let other : edges_at (set sets k one) i ≡ edges_at sets i = ap (λ (r : RoleSet). r.0) (get_or-set_other sets k i one (record { 0 = 0 }) e) in
+          rw other (f.at i (omega arith))
+
+-- the roles of an edge
+module _ {a : Table} {sets : List RoleSet} {x : ℕ} where
+  pub edges_none : ((restricts (kind_at a x) ≡ true) × (role_at a x < most_roles) → ⊥) → EdgesOf a sets x 0
+  edges_none not = record { tells = λ r. (λ h. absurd (empty.none r h), λ h. absurd (not (h.0, h.1))) }
+
+-- the edges are of chosen roles, and one stands for each of these
+pub found_end : {p : Position} {g : List ℕ} {a b : Table} {n m k : ℕ} {sets edges : List RoleSet} → EachStands p g a b n m sets → m ≤ most_roles → n ≤ length edges → n ≤ k
+    → Written (EdgesOf a sets) k edges → Found p g a b n m edges
+found_end each few long told f = record {
+  long = long;
+  few = few;
+  sound = λ x r i h. let e = ((f.at x (omega arith)).tells r).0 h in record { is_restriction = e.0; small = e.1; role = (each.role _ e.1).sound r e.2 };
+  complete = λ t release x r i o.
+      let s = (each.role _ o.small).complete t release r o.role in
+      record { role = s.role; has = ((f.at x (omega arith)).tells s.role).1 (o.is_restriction, o.small, s.has); stands = s.stands };
+}
+
+pub found_edges : {p : Position} {g : List ℕ} {a b : Table} {n m : ℕ} {edges : List RoleSet} → Found p g a b n m edges → Edges n a edges
+found_edges {g = g} {n = n} {m = m} f = record {
+  long = f.long;
+  restriction = λ x r i h. (f.sound x r i h).is_restriction;
+  few = λ x r i h. omega (arith, f.few, role_below n m g r (f.sound x r i h).role.in_signature);
+}
+
+-- below, a role stands for itself alone
+pub stands_itself : {b : Table} {set r : ℕ} → StandsFor Below b set r → HasRole set r
+stands_itself s = rw (← s.stands) s.has
+
+pub name_handed : {p : Position} {g : List ℕ} {given : Given} → Handed p g given → (x : ℕ) → (chosen given.layout given.chosen_names.now).has_name x ≡ (chosen given.layout g).has_name x
 name_handed {given = given} handed x = elim (dec_lt x given.layout.names) [ yes h ↦ rw (handed.same_names x h) refl | no h ↦ rw (le-ltb x given.layout.names (omega arith)) refl ]

@@ -1,29 +1,139 @@
-// What is found of a signature before marks are put: which axioms of a release are restrictions with a role of the signature. The
-// functions that put marks are handed that for each name, and none of the signature's roles.
-ghost use Rattle.std.specs.Prelude.{◌≤◌, ◌<◌, length};
-ghost use Rattle.el.proofs.Tests.{Tells};
+// What is found of a signature before marks are put: with which of its roles each name of the first release has an edge. The functions that
+// put marks are handed that for each name, and none of the signature's roles.
+ghost use Rattle.std.specs.Prelude.{◌≡◌, ◌≤◌, ◌<◌, length};
+ghost use Rattle.release.specs.Files.{most_roles};
+ghost use Rattle.release.specs.Tables.{HasRow};
 ghost use Rattle.layout.specs.Tables.{Rowed};
-ghost use Rattle.layout.specs.Findings.{RoleChosen, Found};
+ghost use Rattle.layout.specs.Findings.{lies, RolesFound, Lowest, RolesStand, EachStands, EdgesOf, Found};
 
+use release::roles::RoleSet;
 use release::terminology::Terminology;
+use release::{Release, RoleName};
 use signature::LentSignature;
 
-// Whether the axiom of x is a restriction with a role of the signature.
-fn has_chosen_role(signature: &LentSignature, first: &Terminology, x: usize) -> bool
-    requires rowed { Rowed signature.now.names first.now.table.now }
-    requires x_lt_names { x < signature.now.names }
-    ensures { Tells result (RoleChosen signature.now.bytes.now first.now.table.now signature.now.names signature.now.roles x) }
-{
-    first.is_restriction(x) && signature.has_role(first.role(x))
+// Which roles are found of the role of an axiom: those above it, for which it serves, as forward marks ask, or those below it, which serve
+// for it, as backward marks ask.
+#[derive(Clone, Copy, Debug, PartialEq, Eq)]
+pub enum Position {
+    Above,
+    Below,
 }
 
-// Writes that of each name.
-pub fn find_edges(signature: &LentSignature, first: &Terminology, edges: &mut [bool])
+// Whether a role lies so to the role `own` of an axiom.
+fn lies(position: Position, first: &Terminology, own: RoleName, role: RoleName) -> bool
+    ensures { result ≡ lies position first.now.table.now own.0 role.0 }
+{
+    match position {
+        Position::Above => first.serves(own, role),
+        Position::Below => first.serves(role, own),
+    }
+}
+
+// The roles of the signature that lie so to a role.
+fn find_roles(
+    signature: &LentSignature,
+    first: &Terminology,
+    position: Position,
+    own: RoleName,
+) -> RoleSet
+    requires few { signature.now.roles ≤ most_roles }
+    ensures { RolesFound position signature.now.bytes.now first.now.table.now signature.now.names signature.now.roles own.0 result.0 }
+{
+    let mut found = RoleSet::NONE;
+    for number in 0..signature.roles {
+        let role = RoleName(number as u8);
+        if signature.has_role(role) && lies(position, first, own, role) {
+            found = found.with(role);
+        }
+    }
+    found
+}
+
+// The lowest of the roles by the second release: a role for which another one serves is left out, but for one of those that serve for each
+// other. What has no partner with a role has none with the roles that serve for it, so that an edge is lost by a role left out only where it
+// is lost by one that stays; and a pass looks at an edge once for each of its roles.
+fn lowest(second: &Terminology, roles: RoleSet) -> RoleSet
+    ensures { Lowest second.now.table.now roles.0 result.0 }
+{
+    let mut kept = roles;
+    let mut next = 0;
+    while let Some(role) = roles.next(next) {
+        next = role.0 + 1;
+        let others = kept.without(RoleSet::NONE.with(role));
+        if others.meet(second.under(role)).is_empty() {
+            continue;
+        }
+        kept = others;
+    }
+    kept
+}
+
+// Those of the roles that stand for all. Backward marks ask all those below at once, so none of these is left out.
+fn find_standing(
+    signature: &LentSignature,
+    first: &Terminology,
+    second: &Terminology,
+    position: Position,
+    own: RoleName,
+) -> RoleSet
+    requires few { signature.now.roles ≤ most_roles }
+    ensures { RolesStand
+        position signature.now.bytes.now first.now.table.now second.now.table.now signature.now.names signature.now.roles own.0
+        result.0 }
+{
+    let roles = find_roles(signature, first, position, own);
+    match position {
+        Position::Above => lowest(second, roles),
+        Position::Below => roles,
+    }
+}
+
+// They are found once for each role, and not for each name.
+fn find_each_role(
+    signature: &LentSignature,
+    first: &Terminology,
+    second: &Terminology,
+    position: Position,
+) -> [RoleSet; Release::ROLES]
+    requires few { signature.now.roles ≤ most_roles }
+    ensures { EachStands
+        position signature.now.bytes.now first.now.table.now second.now.table.now signature.now.names signature.now.roles result }
+{
+    let mut sets = [RoleSet::NONE; Release::ROLES];
+    for own in 0..Release::ROLES {
+        sets[own] = find_standing(signature, first, second, position, RoleName(own as u8));
+    }
+    sets
+}
+
+// The roles that the name x has an edge with: those found of its role, where its axiom is a restriction.
+fn edges_of(first: &Terminology, sets: &[RoleSet; Release::ROLES], x: usize) -> RoleSet
+    requires { HasRow x }
+    ensures { EdgesOf first.now.table.now sets.now x result.0 }
+{
+    let own = usize::from(first.role(x).0);
+    if first.is_restriction(x) && own < Release::ROLES {
+        return sets[own];
+    }
+    RoleSet::NONE
+}
+
+// Writes these of each name.
+pub fn find_edges(
+    signature: &LentSignature,
+    first: &Terminology,
+    second: &Terminology,
+    position: Position,
+    edges: &mut [RoleSet],
+)
     requires rowed { Rowed signature.now.names first.now.table.now }
     requires names_in_bounds { signature.now.names ≤ length edges.old }
-    ensures { Found signature.now.bytes.now first.now.table.now signature.now.names signature.now.roles edges.new }
+    requires few { signature.now.roles ≤ most_roles }
+    ensures { Found
+        position signature.now.bytes.now first.now.table.now second.now.table.now signature.now.names signature.now.roles edges.new }
 {
-    for (x, edge) in edges[..signature.names].iter_mut().enumerate() {
-        *edge = has_chosen_role(signature, first, x);
+    let sets = find_each_role(signature, first, second, position);
+    for x in 0..signature.names {
+        edges[x] = edges_of(first, &sets, x);
     }
 }

@@ -7,6 +7,7 @@ ghost use Rattle.release.specs.Files.{most_names};
 ghost use Rattle.layout.specs.Tables.{Rowed, Edges};
 
 use marks::Square;
+use release::roles::RoleSet;
 use release::terminology::Terminology;
 
 pub mod edges;
@@ -68,12 +69,12 @@ impl Layout {
     }
 }
 
-// What marks are put by: the bytes of the signature's names, whether each name has an edge with a role of it (edges), the two
-// terminologies, and the squares. Each name has its byte, its edge and its rows.
+// What marks are put by: the bytes of the signature's names, the roles of it that each name has an edge with (edges), the two terminologies,
+// and the squares. Each name has its byte, its set of roles and its rows.
 #[derive(Clone, Copy, Debug, PartialEq, Eq)]
 pub struct Given<'a> {
     pub chosen_names: &'a [u8],
-    pub edges: &'a [bool],
+    pub edges: &'a [RoleSet],
     pub first: Terminology<'a>,
     pub second: Terminology<'a>,
     pub layout: Layout,
