@@ -10,7 +10,7 @@ use Prim.Native.Nat.{ℕ, ◌≤◌, ◌<◌}
 use native.Mathlib.Omega.{arith}
 use Rattle.el.specs.Lists.{In}
 use Rattle.el.specs.Concepts.{Node, everything, named}
-use Rattle.el.specs.Axioms.{Axiom, is_conjunction, role_of, filler_of}
+use Rattle.el.specs.Axioms.{Axiom, is_conjunction, role_of, filler_of, Terminology}
 use Rattle.el.specs.Answers.{Column, node, name_under, partner}
 use Rattle.el.specs.Terminologies.{IsNode, name_node}
 use Rattle.el.proofs.Tests.{not_both}
@@ -18,10 +18,11 @@ use Rattle.el.proofs.Nodes.{IsColumn}
 use Rattle.el.proofs.PlainNodes.{plain_name}
 use Rattle.el.proofs.BackwardMarks.{Backward, of_part, of_everything, of_parts, of_name, of_role, Partner, filler, none, partner_is}
 use Rattle.el.proofs.BackwardMarks as el
-use Rattle.release.specs.declared.table.Row as table
-use Rattle.release.specs.Files.{axioms_of}
+use Rattle.release.specs.declared.table.Table.{Table}
+use Rattle.release.specs.Files.{most_roles, axioms_of, content_of}
 use Rattle.release.specs.Tables.{kind_at, role_at, filler_at, count_at, part_at}
 use Rattle.release.specs.Entries.{node_number}
+use Rattle.release.proofs.Linked.{role_small}
 use Rattle.marks.specs.Squares.{Marked}
 use Rattle.classification.specs.Inclusions.{node_at, says}
 use Rattle.classification.proofs.Nodes.{at_top, number_at, number_small, said, marked}
@@ -30,9 +31,10 @@ use Rattle.layout.specs.declared.Given.{Given}
 use Rattle.layout.specs.declared.Layout.{Layout}
 use Rattle.layout.specs.Layouts.{first_square, second_square, mark_square, chosen}
 use Rattle.layout.specs.Searches.{SomeBelow, EachBelow}
-use Rattle.layout.specs.Findings.{Handed}
+use Rattle.layout.specs.declared.edges.Position.TheVariants as position
+use Rattle.layout.specs.Findings.{EdgeChosen, Handed}
 use Rattle.layout.specs.Comparing.{Comparing}
-use Rattle.layout.proofs.Findings.{name_handed}
+use Rattle.layout.proofs.Findings.{stands_itself, name_handed}
 use Rattle.layout.proofs.Comparing.{chosen_below}
 use Rattle.backward.specs.Rules.{PlainColumn, ColumnPart, RowPart, Filled, PartnerLost, of_filler, of_nothing, RoleLost, RowLost, by_top, by_parts, by_role, Defined, by_part}
 use Rattle.backward.specs.Rules.{by_row, Own, by_definition, by_name, Quiet}
@@ -40,20 +42,20 @@ use Rattle.backward.specs.Backward.{column_at}
 use Rattle.backward.proofs.Columns.{column_last, column_name, last_or_name, named_column, by_column, says_column, said_column, column_marked}
 use Rattle.backward.proofs.Defined.{joins_2, found_2, found_4, not_joined, not_2, plain_node_at, fills_filled, filled_by}
 
-no_plain_top : {al : List Axiom} → el.PlainColumn al (node everything) → ⊥
+no_plain_top : {al : Terminology} → el.PlainColumn al (node everything) → ⊥
 no_plain_top (el.plain_node p) = elim p [ ]
 
-module _ {given : Given} {g w : List ℕ} (handed : Handed g given) (c : Comparing given.first.file.now given.second.file.now given w) (v : List ℕ) where
+module _ {given : Given} {g w : List ℕ} (handed : Handed position.Below g given) (c : Comparing given.first.file.now given.second.file.now given w) (v : List ℕ) where
   abbrev s : List ℕ
   s = given.first.file.now
 
   abbrev t : List ℕ
   t = given.second.file.now
 
-  abbrev a : List table.Row
+  abbrev a : Table
   a = given.first.table.now
 
-  abbrev b : List table.Row
+  abbrev b : Table
   b = given.second.table.now
 
   abbrev l : Layout
@@ -63,19 +65,19 @@ module _ {given : Given} {g w : List ℕ} (handed : Handed g given) (c : Compari
   n = l.names
 
   abbrev Rule : Node → Column → Type 0
-  Rule x y = Backward (chosen l g) (axioms_of s) (axioms_of t) (says (first_square l) v) (says (second_square l) v) (says_column (mark_square l) v) x y
+  Rule x y = Backward (chosen l g) (content_of s) (content_of t) (says (first_square l) v) (says (second_square l) v) (says_column (mark_square l) v) x y
 
   -- plain columns
-  plain_there : {y : ℕ} → y ≤ n → PlainColumn given y → el.PlainColumn (axioms_of t) (column_at n y)
+  plain_there : {y : ℕ} → y ≤ n → PlainColumn given y → el.PlainColumn (content_of t) (column_at n y)
   plain_there {y} y_in p = elim (last_or_name n y y_in) [
     | inl e ↦ rw (column_last n y e) el.plain_nothing
     | inr h ↦ rw (column_name n y h) (el.plain_node (plain_name (not_joined c.second_release c.second_names (p.not_joined h))))
   ]
 
-  plain_back : {y : ℕ} → el.PlainColumn (axioms_of t) (column_at n y) → PlainColumn given y
+  plain_back : {y : ℕ} → el.PlainColumn (content_of t) (column_at n y) → PlainColumn given y
   plain_back {y} p = record { not_joined = λ h e. by_form h e (rw (column_name n y h) at p) }
     where
-      by_form : y < n → kind_at b y ≡ 2 → el.PlainColumn (axioms_of t) (node (named y)) → ⊥
+      by_form : y < n → kind_at b y ≡ 2 → el.PlainColumn (content_of t) (node (named y)) → ⊥
       by_form h e (el.plain_node (plain_name k)) = not_2 c.second_release c.second_names h k e
 
   -- names below a column
@@ -90,9 +92,9 @@ module _ {given : Given} {g w : List ℕ} (handed : Handed g given) (c : Compari
   filler_said p everything e f h m = absurd (omega arith)
   filler_said p (named z) e f h m = said p (named z) e f m
 
-  partner_there : {x y : ℕ} (f : Found s a n x) → is_conjunction f.it ≡ false → y ≤ n → PartnerLost given v y (role_at given.first.table.now x) (filler_at given.first.table.now x)
-      → Partner (axioms_of t) (role_of f.it) (column_at n y) (partner (axioms_of t) (role_of f.it) (column_at n y))
-      → says_column (mark_square l) v (filler_of f.it) (partner (axioms_of t) (role_of f.it) (column_at n y)) ≡ true
+  partner_there : {x y r : ℕ} (f : Found s a n x) → is_conjunction f.it ≡ false → y ≤ n → PartnerLost given v y r (filler_at a x)
+      → Partner (content_of t) r (column_at n y) (partner (content_of t) r (column_at n y))
+      → says_column (mark_square l) v (filler_of f.it) (partner (content_of t) r (column_at n y)) ≡ true
   partner_there {x} {y} f k y_in (of_filler filled small m) (filler {b = d} d_in e fills q) =
       let p = named_column n y d.left y_in e in
       let o = own c.second_release c.second_names d_in in
@@ -100,13 +102,9 @@ module _ {given : Given} {g w : List ℕ} (handed : Handed g given) (c : Compari
       rw q (filler_said (filler_of f.it) (filler_of d) (filler_is f k) at small m)
   partner_there {x} {y} f k y_in (of_filler filled small m) (none d q) =
       let o = found_4 c.second_release c.second_names y filled.is_name filled.kind in
-      let role : role_at b y ≡ role_of f.it = filled.role ∙ role_is f k in
-      absurd (d o.it o.member (ap (λ z. node (named z)) o.left ∙ sym (column_name n y filled.is_name))
-      (filled_by c.second_release c.second_names (record { is_name = filled.is_name; kind = filled.kind; role = role }) o))
+      absurd (d o.it o.member (ap (λ z. node (named z)) o.left ∙ sym (column_name n y filled.is_name)) (filled_by c.second_release c.second_names filled o))
   partner_there {x} {y} f k y_in (of_nothing not_filled m) (filler {b = d} d_in e fills q) =
-      let p = named_column n y d.left y_in e in
-      let h : Filled b n d.left (role_at a x) = rw (← role_is f k) at (fills_filled c.second_release c.second_names d_in fills) in
-      absurd (not_filled (rw p.1 at h))
+      absurd (not_filled (rw (named_column n y d.left y_in e).1 at (fills_filled c.second_release c.second_names d_in fills)))
   partner_there {x} {y} f k y_in (of_nothing not_filled m) (none d q) = rw q (said (filler_of f.it) everything (filler_is f k) refl m)
 
   -- definitions are the rule
@@ -121,9 +119,10 @@ module _ {given : Given} {g w : List ℕ} (handed : Handed g given) (c : Compari
     row_backward plain (by_role h e p) =
         let f = found_4 c.first_release c.first_names x h e in
         let d = defined_restriction f e in
+        let one = (handed.found.sound x p.role h p.edge).role in
         of_role (plain_there y_in plain) (plain_node_at c.first_release c.first_names h (λ z. omega arith)) f.member (name_is f h)
-        (record { is_defined = d.1; is_restriction = d.0; role = refl }) (rw (← role_is f d.0) ((handed.found.tells x h).sound p.with_edge).chosen_role)
-        (partner_there f d.0 y_in p.partner (partner_is (axioms_of t) (role_of f.it) (column_at n y)))
+        (filled_by c.first_release c.first_names (record { is_name = h; kind = e; role = one.lies }) f) one.in_signature
+        (partner_there f d.0 y_in p.partner (partner_is (content_of t) p.role (column_at n y)))
 
     pub step_backward : Defined given v x y → Rule (node_at n x) (column_at n y)
     step_backward (by_row p) = row_backward p.plain p.row
@@ -142,8 +141,8 @@ module _ {given : Given} {g w : List ℕ} (handed : Handed g given) (c : Compari
       by_node : {y : ℕ} → IsNode n (named z) → z ≡ y → y < n
       by_node (name_node h) e = omega arith
 
-  partner_back : {y r : ℕ} {o : Axiom} → In (axioms_of s) o → is_conjunction o ≡ false → y ≤ n → Partner (axioms_of t) r (column_at n y) (partner (axioms_of t) r (column_at n y))
-      → says_column (mark_square given.layout) v (filler_of o) (partner (axioms_of t) r (column_at n y)) ≡ true → PartnerLost given v y r (node_number n (filler_of o))
+  partner_back : {y r : ℕ} {o : Axiom} → In (axioms_of s) o → is_conjunction o ≡ false → y ≤ n → Partner (content_of t) r (column_at n y) (partner (content_of t) r (column_at n y))
+      → says_column (mark_square given.layout) v (filler_of o) (partner (content_of t) r (column_at n y)) ≡ true → PartnerLost given v y r (node_number n (filler_of o))
   partner_back {y} {r} {o} o_in k y_in (filler {b = d} d_in e fills q) m =
       let p = named_column n y d.left y_in e in
       let f = own c.second_release c.second_names d_in in
@@ -165,7 +164,7 @@ module _ {given : Given} {g w : List ℕ} (handed : Handed g given) (c : Compari
       marked_by : Defined given v (node_number n x) y → says_column (mark_square given.layout) v x (column_at n y) ≡ true
       marked_by step = said_column x refl y_in (at_cell (number_small n x x_in) (by_definition step))
 
-      marked_row : el.PlainColumn (axioms_of t) (column_at n y) → RowLost given v (node_number n x) y → says_column (mark_square given.layout) v x (column_at n y) ≡ true
+      marked_row : el.PlainColumn (content_of t) (column_at n y) → RowLost given v (node_number n x) y → says_column (mark_square given.layout) v x (column_at n y) ≡ true
       marked_row plain lost = marked_by (by_row (record { plain = plain_back plain; row = lost }))
 
       marked_above : {d : ℕ} → d < n → Own given v d y → Marked (first_square given.layout) v d (node_number n x) → says_column (mark_square given.layout) v x (column_at n y) ≡ true
@@ -193,13 +192,14 @@ module _ {given : Given} {g w : List ℕ} (handed : Handed g given) (c : Compari
           (by_name (record { chosen_name = name_handed handed d ∙ over; not_second = under_not y_in not_below })) (marked (named d) x refl refl below_x)
       cell_closed (of_role {a = o} {r = r} plain x_plain o_in e fills over m) =
           let f = own c.first_release c.first_names o_in in
+          let k = fills.is_restriction in
           let h = fills_filled c.first_release c.first_names o_in fills in
-          let p = partner_back o_in fills.is_restriction y_in (partner_is (axioms_of t) r (column_at n y)) m in
-          let lost : RoleLost given v o.left y = record {
-            with_edge = (handed.found.tells o.left h.is_name).complete
-                (record { is_restriction = restriction_restricts f fills.is_restriction; chosen_role = rw h.role over });
-            partner = rw (h.role, ← filler_is f fills.is_restriction) p;
-          } in
+          let p = partner_back o_in k y_in (partner_is (content_of t) r (column_at n y)) m in
+          let small : role_at a o.left < most_roles = rw (role_is f k) (role_small s c.first_release.accepted o_in k) in
+          let one : EdgeChosen position.Below g a n l.roles o.left r = record
+          { is_restriction = restriction_restricts f k; small = small; role = record { in_signature = over; lies = h.role } } in
+          let edge = stands_itself (handed.found.complete given.second.file.now c.second_release o.left r h.is_name one) in
+          let lost : RoleLost given v o.left y = record { role = r; edge = edge; partner = rw (← filler_is f k) p } in
           marked_row plain (rw (← e) (by_role h.is_name h.kind lost))
 
     not_at_top : Rule x (node everything) → ⊥

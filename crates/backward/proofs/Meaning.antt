@@ -16,7 +16,7 @@ use Rattle.el.proofs.Derivations.{◌▹◌}
 use Rattle.el.proofs.Nodes.{IsColumn}
 use Rattle.el.proofs.BackwardMarks.{LostBelow, backward_sound, below_kept}
 use Rattle.el.proofs.BackwardMarks as el
-use Rattle.release.specs.Files.{axioms_of}
+use Rattle.release.specs.Files.{content_of}
 use Rattle.release.specs.Entries.{node_number}
 use Rattle.marks.specs.Squares.{Marked, Frame}
 use Rattle.marks.specs.Passes.{Grows, Closed, AllGood}
@@ -27,6 +27,7 @@ use Rattle.layout.specs.declared.Given.{Given}
 use Rattle.layout.specs.declared.Layout.{Layout}
 use Rattle.classification.proofs.Meaning.{inclusions_stay}
 use Rattle.layout.specs.Layouts.{second_square, mark_square, chosen}
+use Rattle.layout.specs.declared.edges.Position.TheVariants as position
 use Rattle.layout.specs.Findings.{Handed}
 use Rattle.layout.specs.Comparing.{Comparing}
 use Rattle.layout.proofs.Findings.{name_handed}
@@ -36,7 +37,7 @@ use Rattle.backward.specs.Backward.{column_at, Backwarded}
 use Rattle.backward.proofs.Columns.{column_last, column_name, last_or_name, column_in, by_column, says_column, column_marked}
 use Rattle.backward.proofs.Bridge.{step_backward, rows_closed}
 
-module _ {given : Given} {g w v : List ℕ} (handed : Handed g given) (c : Comparing given.first.file.now given.second.file.now given w)
+module _ {given : Given} {g w v : List ℕ} (handed : Handed position.Below g given) (c : Comparing given.first.file.now given.second.file.now given w)
     (closed : Closed (Step given) (mark_square given.layout) (Quiet given) w v) where
   abbrev s : List ℕ
   s = given.first.file.now
@@ -51,14 +52,14 @@ module _ {given : Given} {g w v : List ℕ} (handed : Handed g given) (c : Compa
   n = l.names
 
   abbrev Means : ℕ → ℕ → Type 0
-  Means x y = LostBelow (chosen l g) (axioms_of s) (axioms_of t) (node_at n x) (column_at n y)
+  Means x y = LostBelow (chosen l g) (content_of s) (content_of t) (node_at n x) (column_at n y)
 
   module _ {u : List ℕ} {x y : ℕ} (frame : Frame (mark_square l) w u) (x_in : x ≤ n) (y_in : y ≤ n) where
     defined_sound : AllGood (mark_square given.layout) Means u → Defined given u x y → Means x y
     defined_sound good step = backward_sound (comparable c g) (first_table_by c frame) (second_table_by c frame) (says_column (mark_square l) u) good_said (node_at n x)
         (column_at n y) (at_node n x x_in) (column_in n y y_in) (step_backward handed c u x_in y_in step)
       where
-        good_said : (p : Node) (q : Column) → IsNode n p → IsColumn n q → says_column (mark_square l) u p q ≡ true → LostBelow (chosen l g) (axioms_of s) (axioms_of t) p q
+        good_said : (p : Node) (q : Column) → IsNode n p → IsColumn n q → says_column (mark_square l) u p q ≡ true → LostBelow (chosen l g) (content_of s) (content_of t) p q
         good_said p q i j h = elim (by_column n q j) [
           | inl e ↦ absurd (false≢true (rw e at h))
           | inr k ↦ rw (at_number n p i, k.is) at (good.good (node_number n p) k.number (number_small n p i) k.small (column_marked p refl k.small (rw (← k.is) at h)))
@@ -74,10 +75,10 @@ module _ {given : Given} {g w v : List ℕ} (handed : Handed g given) (c : Compa
         x_name : x < n
         x_name = chosen_below l g x over
 
-        second : (y < n) → Derives (axioms_of t) (name x) (name y) → Marked (second_square l) u x y
+        second : (y < n) → Derives (content_of t) (name x) (name y) → Marked (second_square l) u x y
         second h d = (inclusions_stay frame (inl c.second_apart) c.second_inclusions).complete x y x_in y_in (rw (at_name n x x_name, at_name n y h) d)
 
-        not_below : (y ≡ n) ⊎ (y < n) → (y ≡ n) ⊎ (Marked (second_square l) u x y → ⊥) → el.Below (axioms_of t) (name x) (column_at n y) → ⊥
+        not_below : (y ≡ n) ⊎ (y < n) → (y ≡ n) ⊎ (Marked (second_square l) u x y → ⊥) → el.Below (content_of t) (name x) (column_at n y) → ⊥
         not_below (inl e) k d = rw (column_last n y e) at d
         not_below (inr h) (inl e) d = omega arith
         not_below (inr h) (inr k) d = k (second h (rw (column_name n y h) at d))

@@ -1,5 +1,7 @@
 -- Laws of the rules of backward marks, as the functions test them.
 --   no_rule_row, not_joined_column          a row or a column that needs no look
+--   all_serving, none_serving, some_serving     the roles of an edge that serve for a column
+--   outside, from_nothing, tells_role_lost      which roles of an edge give a mark
 --   cell_marked, cell_put, cell_none        a pair looked at;  row_to, row_end: the pairs of a row
 --   missing_grows, name_row                 the columns that a line has not, which has what lies above a name
 --   over_grows                              a restriction over another one
@@ -15,8 +17,10 @@ use mathlib.Core.Logic.{inl, inr}
 use Prim.Native.Nat.{ℕ, suc, ◌≤◌, ◌<◌}
 use native.Mathlib.Omega.{arith}
 use native.Mathlib.Decide.{dec_lt}
-use Rattle.el.proofs.Tests.{not_both}
-use Rattle.release.specs.Tables.{kind_at, role_at}
+use Rattle.el.proofs.Tests.{Tells, tells_as, not_both}
+use Rattle.release.specs.Roles.{HasRole, NoRole, Met, Without}
+use Rattle.release.specs.Tables.{kind_at, role_at, filler_at, ServingAt}
+use Rattle.release.proofs.RoleSets.{empty, some_role}
 use Rattle.marks.specs.Squares.{Marked, Put, First, Nowhere}
 use Rattle.marks.specs.Passes.{Grows, Pass, Below, FromRow}
 use Rattle.marks.specs.Lines.{Empty, Joined, Missing, Full}
@@ -29,7 +33,8 @@ use Rattle.layout.specs.declared.Layout.{Layout}
 use Rattle.layout.specs.Layouts.{first_square, second_square, mark_square, chosen}
 use Rattle.layout.specs.Comparing.{Comparing}
 use Rattle.layout.proofs.Comparing as comparing
-use Rattle.backward.specs.Rules.{Setting, Named, Squares, NameLost, PartnerLost, of_filler, Filling, NoRule}
+use Rattle.layout.specs.Tables.{edges_at, HasEdge}
+use Rattle.backward.specs.Rules.{Setting, Named, Squares, NameLost, Filled, Serving, Restricted, PartnerLost, of_filler, of_nothing, RoleLost, NothingLost, FillerLost, Filling, NoRule}
 use Rattle.backward.specs.Rules.{PartLost, RowLost, by_top, by_parts, by_role, PlainLost, by_part, by_row, Own, by_definition, by_name, Over, FromBelow, Follows}
 use Rattle.backward.specs.Rules.{from_definition, from_below, Step, by_own, by_below, follows_step, Cell, Row, Column, Quiet}
 
@@ -38,10 +43,55 @@ module _ {given : Given} {w : List ℕ} {x y : ℕ} where
   no_rule : NoRule given x → RowLost given w x y → ⊥
   no_rule n (by_top d) = omega (arith, n.is_name)
   no_rule n (by_parts d i p) = n.not_joined i
-  no_rule n (by_role d i p) = not_both p.with_edge (n.no_edge i)
+  no_rule n (by_role d i p) = (n.no_edge i).none p.role p.edge
 
   pub no_rule_row : NoRule given x → Cell (PlainLost given) given.layout x y w
   no_rule_row n = record { marked = λ p. absurd (no_rule n p.row) }
+
+-- the roles of an edge that serve for y
+pub record SomeServing (given : Given) (x y : ℕ) : Type 0 where
+  pub role : ℕ
+  pub edge : HasEdge given.edges.now x role
+  pub filled : Filled given.second.table.now given.layout.names y role
+
+module _ {given : Given} {x y : ℕ} where
+  pub all_serving : {served set : ℕ} → x < given.layout.names → Restricted given.second.table.now given.layout.names y
+      → ServingAt given.second.table.now (role_at given.second.table.now y) served → Met (edges_at given.edges.now x) served set → Serving given x y set
+  all_serving x_in restricted served met = record {
+    tells = λ r. (
+      λ k. let w = (met.both r).0 k in (w.0, record { is_name = restricted.is_name; kind = restricted.kind; role = (served.tells r (given.edges_found.few x r x_in w.0)).0 w.1 }),
+      λ w. (met.both r).1 (w.0, (served.tells r (given.edges_found.few x r x_in w.0)).1 w.1.role),
+    );
+  }
+
+  pub none_serving : (Restricted given.second.table.now given.layout.names y → ⊥) → Serving given x y 0
+  none_serving f = record { tells = λ r. (λ k. absurd (empty.none r k), λ w. absurd (f (record { is_name = w.1.is_name; kind = w.1.kind }))) }
+
+  module _ {set : ℕ} (serving : Serving given x y set) where
+    pub some_serving : (NoRole set → ⊥) → SomeServing given x y
+    some_serving some = let e = some_role some in let w = (serving.tells e.it).0 e.has in record { role = e.it; edge = w.0; filled = w.1 }
+
+    module _ {w : List ℕ} where
+      pub from_nothing : NothingLost given w x set → RoleLost given w x y
+      from_nothing l = record { role = l.role; edge = l.edge; partner = of_nothing (λ f. l.free ((serving.tells l.role).1 (l.edge, f))) l.marked }
+
+      from_filler : FillerLost given w x y set → RoleLost given w x y
+      from_filler l = let s = some_serving l.some in record { role = s.role; edge = s.edge; partner = of_filler s.filled l.small l.marked }
+
+      to_filler : (NothingLost given w x set → ⊥) → RoleLost given w x y → FillerLost given w x y set
+      to_filler f l = by_partner l.partner
+        where
+          by_partner : PartnerLost given w y l.role (filler_at given.first.table.now x) → FillerLost given w x y set
+          by_partner (of_filler filled small m) = record { some = λ n. n.none l.role ((serving.tells l.role).1 (l.edge, filled)); small = small; marked = m }
+          by_partner (of_nothing free m) = absurd (f (record { role = l.role; edge = l.edge; free = λ h. free ((serving.tells l.role).0 h).1; marked = m }))
+
+      pub tells_role_lost : {b : Bool} → (NothingLost given w x set → ⊥) → Tells b (FillerLost given w x y set) → Tells b (RoleLost given w x y)
+      tells_role_lost f t = tells_as from_filler (to_filler f) t
+
+-- some role of x's edge is outside a set
+pub outside : {given : Given} {w : List ℕ} {x set rest : ℕ} → Without (edges_at given.edges.now x) set rest → (NoRole rest → ⊥)
+    → Marked (mark_square given.layout) w (filler_at given.first.table.now x) given.layout.names → NothingLost given w x set
+outside rest some m = let e = some_role some in let w = (rest.first_alone e.it).0 e.has in record { role = e.it; edge = w.0; free = w.1; marked = m }
 
 -- a pair
 module _ {Rule : List ℕ → ℕ → ℕ → Type 0} {l : Layout} {w : List ℕ} {x y : ℕ} where
@@ -104,10 +154,10 @@ module _ {given : Given} {w : List ℕ} {x : ℕ} {i k : List ℕ} (h : Named gi
 module _ {given : Given} {w : List ℕ} {x y z : ℕ} (filling : Filling given x z) (y_in : y < given.layout.names) (m : Marked (mark_square given.layout) w z y) where
   over_lost : (u : List ℕ) (p c : ℕ) → Grows (Over given x y) (mark_square given.layout) w u → p ≤ given.layout.names → c ≤ given.layout.names → Over given x y u p c → Follows given u p c
   over_lost u p c grows p_in c_in o =
-      let lost : PartnerLost given u c (role_at given.first.table.now x) z = of_filler o.filled (omega (arith, o.filler)) (rw o.filler (marks_stay grows m)) in
+      let lost : PartnerLost given u c o.role z = of_filler o.filled (omega (arith, o.filler)) (rw o.filler (marks_stay grows m)) in
       rw o.row (from_definition (by_row (record {
         plain = record { not_joined = λ h e. omega (arith, o.filled.kind) };
-        row = by_role filling.is_name filling.kind (record { with_edge = filling.with_edge; partner = rw filling.filler lost });
+        row = by_role filling.is_name filling.kind (record { role = o.role; edge = o.edge; partner = rw filling.filler lost });
       })))
 
   pub over_grows : {v : List ℕ} → Grows (Over given x y) (mark_square given.layout) w v → Grows (Follows given) (mark_square given.layout) w v

@@ -4,16 +4,19 @@
 --   PlainColumn given y            y is not defined by a conjunction
 --   ColumnPart given w x y i       x is marked with the conjunct i of y;  RowPart given w x y i: the conjunct i of x is marked with y
 --   NameLost given w x y           x is a signature name that is not below y by the second release
---   Filled t n y r                 the name y below n is defined by a restriction with the role r
+--   Restricted t n y               the name y below n is defined by a restriction;  Filled t n y r: and the role r serves for its role
+--   Serving given x y set          the set has the roles that x has an edge with and for which y is so
 --   PartnerLost given w y r z      z is marked with the filler of such a y, which is not ⊤; for another y, with nothing
---   RoleLost given w x y           so is the filler of x, and x has an edge: its role is in the signature
---   Filling given x z              x is defined by a restriction with the filler z, and has an edge
---   NoRule given x                 the definition of x allows no mark: it has none, or one with a role that is not in the signature
+--   RoleLost given w x y           so is the filler of x, for a role that x has an edge with
+--   NothingLost given w x set      the filler of x is marked with nothing, and x has an edge with a role outside the set
+--   FillerLost given w x y set     the filler of x is marked with that of y, which is not ⊤, and the set has a role
+--   Filling given x z              x is defined by a restriction with the filler z
+--   NoRule given x                 the definition of x allows no mark: it has none, or one without an edge
 --   PartLost given w x y           y is a conjunction, and x is marked with one of its conjuncts
 --   RowLost given w x y            the definition of x allows the mark x, y;  PlainLost given w x y: and y is a plain column
 --   Defined given w x y            the definitions of x and y allow the mark x, y: one of the two
 --   Own given w x y                they do, or x is such a name
---   Over given x y w p z           p is x, and z has its role and the filler y
+--   Over given x y w p z           p is x, and z is so for a role that x has an edge with, and has the filler y
 --   FromBelow l w x y              something below x by the first release is marked with y
 --   Follows given w x y            the definitions of x and y allow the mark x, y, or something below x does;  Followed given w v: w became v
 --                                  by such marks
@@ -21,9 +24,10 @@
 --   Cell R l x y w                 the rule R leaves nothing to mark there;  Row R l x w: in the row x;  Column R l y w: in the column y
 --   Quiet given w                  nothing is left to mark
 -- Not here: what the rules mean (proofs/Meaning).
-use Rattle.std.specs.Prelude.{◌≡◌, true, false, List, ◌⊎◌, ℕ, suc, ◌+◌, ◌≤◌, ◌<◌}
-use Rattle.release.specs.declared.table.Row as table
-use Rattle.release.specs.Tables.{kind_at, role_at, filler_at, count_at, part_at, Shaped}
+use Rattle.std.specs.Prelude.{◌≡◌, ◌↔◌, true, List, ◌⊎◌, ℕ, suc, ◌+◌, ◌≤◌, ◌<◌}
+use Rattle.release.specs.declared.table.Table.{Table}
+use Rattle.release.specs.Roles.{HasRole, NoRole}
+use Rattle.release.specs.Tables.{kind_at, role_at, filler_at, serves_at, count_at, part_at, Shaped}
 use Rattle.marks.specs.Squares.{span, Room, Marked}
 use Rattle.marks.specs.Passes.{Grows, Below}
 use Rattle.marks.specs.Inclusions.{Gives}
@@ -32,7 +36,7 @@ use Rattle.layout.specs.declared.Layout.{Layout}
 use Rattle.layout.specs.Searches.{SomeBelow, EachBelow}
 use Rattle.layout.specs.Layouts as layout
 use Rattle.layout.proofs.Layouts.{setting_stays as places_stay}
-use Rattle.layout.specs.Tables.{has_edge}
+use Rattle.layout.specs.Tables.{edges_at, HasEdge}
 use Rattle.layout.specs.Layouts.{first_square, second_square, mark_square, chosen}
 
 -- what the functions ask: all is in its place, conjuncts too, and marks change no inclusion of the second release
@@ -76,10 +80,17 @@ pub record NameLost (given : Given) (w : List ℕ) (x y : ℕ) : Type 0 where
   pub chosen_name : (chosen given.layout given.chosen_names.now).has_name x ≡ true
   pub not_second : (y ≡ given.layout.names) ⊎ (Marked (second_square given.layout) w x y → ⊥)
 
-pub record Filled (t : List table.Row) (n y r : ℕ) : Type 0 where
+pub record Restricted (t : Table) (n y : ℕ) : Type 0 where
   pub is_name : y < n
   pub kind : kind_at t y ≡ 4
-  pub role : role_at t y ≡ r
+
+pub record Filled (t : Table) (n y r : ℕ) : Type 0 where
+  pub is_name : y < n
+  pub kind : kind_at t y ≡ 4
+  pub role : serves_at t r (role_at t y) ≡ true
+
+pub record Serving (given : Given) (x y set : ℕ) : Type 0 where
+  pub tells : (r : ℕ) → HasRole set r ↔ (HasEdge given.edges.now x r × Filled given.second.table.now given.layout.names y r)
 
 pub data PartnerLost (given : Given) (w : List ℕ) (y r z : ℕ) : Type 0 where
   of_filler : Filled given.second.table.now given.layout.names y r → filler_at given.second.table.now y < given.layout.names
@@ -87,19 +98,30 @@ pub data PartnerLost (given : Given) (w : List ℕ) (y r z : ℕ) : Type 0 where
   of_nothing : (Filled given.second.table.now given.layout.names y r → ⊥) → Marked (mark_square given.layout) w z given.layout.names → PartnerLost given w y r z
 
 pub record RoleLost (given : Given) (w : List ℕ) (x y : ℕ) : Type 0 where
-  pub with_edge : has_edge given.edges.now x ≡ true
-  pub partner : PartnerLost given w y (role_at given.first.table.now x) (filler_at given.first.table.now x)
+  pub role : ℕ
+  pub edge : HasEdge given.edges.now x role
+  pub partner : PartnerLost given w y role (filler_at given.first.table.now x)
+
+pub record NothingLost (given : Given) (w : List ℕ) (x set : ℕ) : Type 0 where
+  pub role : ℕ
+  pub edge : HasEdge given.edges.now x role
+  pub free : HasRole set role → ⊥
+  pub marked : Marked (mark_square given.layout) w (filler_at given.first.table.now x) given.layout.names
+
+pub record FillerLost (given : Given) (w : List ℕ) (x y set : ℕ) : Type 0 where
+  pub some : NoRole set → ⊥
+  pub small : filler_at given.second.table.now y < given.layout.names
+  pub marked : Marked (mark_square given.layout) w (filler_at given.first.table.now x) (filler_at given.second.table.now y)
 
 pub record Filling (given : Given) (x z : ℕ) : Type 0 where
   pub is_name : x < given.layout.names
   pub kind : kind_at given.first.table.now x ≡ 4
   pub filler : filler_at given.first.table.now x ≡ z
-  pub with_edge : has_edge given.edges.now x ≡ true
 
 pub record NoRule (given : Given) (x : ℕ) : Type 0 where
   pub is_name : x < given.layout.names
   pub not_joined : kind_at given.first.table.now x ≡ 2 → ⊥
-  pub no_edge : kind_at given.first.table.now x ≡ 4 → has_edge given.edges.now x ≡ false
+  pub no_edge : kind_at given.first.table.now x ≡ 4 → NoRole (edges_at given.edges.now x)
 
 pub record PartLost (given : Given) (w : List ℕ) (x y : ℕ) : Type 0 where
   pub is_name : y < given.layout.names
@@ -125,7 +147,9 @@ pub data Own (given : Given) (w : List ℕ) (x y : ℕ) : Type 0 where
 
 pub record Over (given : Given) (x y : ℕ) (w : List ℕ) (p z : ℕ) : Type 0 where
   pub row : p ≡ x
-  pub filled : Filled given.second.table.now given.layout.names z (role_at given.first.table.now x)
+  pub role : ℕ
+  pub edge : HasEdge given.edges.now x role
+  pub filled : Filled given.second.table.now given.layout.names z role
   pub filler : filler_at given.second.table.now z ≡ y
 
 pub record FromBelow (l : Layout) (w : List ℕ) (x y : ℕ) : Type 0 where

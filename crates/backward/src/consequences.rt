@@ -9,7 +9,7 @@ ghost use Rattle.marks.specs.Passes.{Grows};
 ghost use Rattle.layout.specs.Layouts.{mark_square, Areas};
 ghost use Rattle.backward.specs.Rules.{Setting, Squares, Filling, Over, FromBelow, Followed};
 
-use crate::rules::{defined_lost, is_filled, is_filling};
+use crate::rules::{defined_lost, is_filling, serving};
 use classification::hints::{CONJUNCTS, FILLERS};
 use layout::Given;
 use marks::columns;
@@ -74,19 +74,19 @@ fn put_line(
     }
 }
 
-// Row x, a restriction whose filler is marked with y: the columns of the restrictions of the second release with its role and the
-// filler y. Crate classification has a function of this name: there the mark is an inclusion, which its own rule allows.
+// Row x, a restriction whose filler is marked with y: the columns of the restrictions of the second release with the filler y that a role
+// serves for with which x has an edge. Crate classification has a function of this name: there the mark is an inclusion, which its own rule
+// allows.
 fn put_over(given: &Given, work: &mut [u8], waiting: &mut Waiting, x: usize, y: usize)
     requires areas { Areas given.now.layout work.old }
     requires x_lt_names { (x < given.now.layout.names) × (y ≤ given.now.layout.names) }
     ensures { Grows (Over given.now x y) (mark_square given.now.layout) work.old work.new }
 {
     let inclusions = given.layout.second_square();
-    let role = given.first.role(x);
     let mut next = 0;
     while let Some(name) = inclusions.next_hint(work, FILLERS, y, next) {
         next = name + 1;
-        if !is_filled(given, name, role) {
+        if serving(given, x, name).is_empty() {
             continue;
         }
         if given.second.filler(name) != y {

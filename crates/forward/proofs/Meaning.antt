@@ -11,7 +11,7 @@ use Rattle.el.specs.Derivability.{same}
 use Rattle.el.specs.Terminologies.{IsNode}
 use Rattle.el.proofs.Derivations.{◌▹◌}
 use Rattle.el.proofs.ForwardMarks.{LostAbove, forward_sound, above_kept}
-use Rattle.release.specs.Files.{axioms_of}
+use Rattle.release.specs.Files.{content_of}
 use Rattle.release.specs.Entries.{node_number}
 use Rattle.marks.specs.Squares.{Marked, Frame}
 use Rattle.marks.specs.Passes.{Grows, Closed, Below, AllGood}
@@ -21,6 +21,7 @@ use Rattle.classification.proofs.Meaning.{inclusions_stay}
 use Rattle.classification.proofs.Nodes.{at_node, number_at, at_number, number_small, marked}
 use Rattle.layout.specs.declared.Layout.{Layout}
 use Rattle.layout.specs.declared.Given.{Given}
+use Rattle.layout.specs.declared.edges.Position.TheVariants.{Above}
 use Rattle.layout.specs.Layouts.{first_square, mark_square, chosen}
 use Rattle.layout.specs.Findings.{Handed}
 use Rattle.layout.specs.Comparing.{Comparing}
@@ -29,7 +30,7 @@ use Rattle.forward.specs.Rules.{Step, by_itself, by_above, Row}
 use Rattle.forward.specs.Forward.{Forwarded}
 use Rattle.forward.proofs.Bridge.{own_forward, rows_closed}
 
-module _ {g s t : List ℕ} {given : Given} {w v : List ℕ} (handed : Handed g given) (c : Comparing s t given w)
+module _ {g s t : List ℕ} {given : Given} {w v : List ℕ} (handed : Handed Above g given) (c : Comparing s t given w)
     (closed : Closed (Step given) (mark_square given.layout) (Below (Row given) (suc given.layout.names)) w v) where
   abbrev l : Layout
   l = given.layout
@@ -38,7 +39,7 @@ module _ {g s t : List ℕ} {given : Given} {w v : List ℕ} (handed : Handed g 
   n = l.names
 
   abbrev Means : ℕ → ℕ → Type 0
-  Means x y = LostAbove (chosen l g) (axioms_of s) (axioms_of t) (node_at n x) (node_at n y)
+  Means x y = LostAbove (chosen l g) (content_of s) (content_of t) (node_at n x) (node_at n y)
 
   module _ (u : List ℕ) (x y : ℕ) (grows : Grows (Step given) (mark_square l) w u) (good : AllGood (mark_square l) Means u) (x_in : x ≤ n) (y_in : y ≤ n) where
     abbrev frame : Frame (mark_square l) w u
@@ -47,7 +48,7 @@ module _ {g s t : List ℕ} {given : Given} {w v : List ℕ} (handed : Handed g 
     inclusions : Inclusions s (first_square l) u
     inclusions = inclusions_stay frame (inl c.first_apart) c.first_inclusions
 
-    good_said : (p q : Node) → IsNode n p → IsNode n q → says (mark_square l) u p q ≡ true → LostAbove (chosen l g) (axioms_of s) (axioms_of t) p q
+    good_said : (p q : Node) → IsNode n p → IsNode n q → says (mark_square l) u p q ≡ true → LostAbove (chosen l g) (content_of s) (content_of t) p q
     good_said p q i j h = rw (at_number n p i, at_number n q j) at (good.good (node_number n p) (node_number n q) (number_small n p i) (number_small n q j) (marked p q refl refl h))
 
     step_sound : Step given u x y → Means x y

@@ -1,11 +1,11 @@
 -- Laws of the rules of forward marks.
 --   joined_below, second_small, join_asks     what lies below a name, by a row of the turned inclusions
 --   KeptTo, kept_more                     the line of the nodes that the names before one keep
---   edge_by                               there is an edge
+--   roles_to, roles_end                   the roles of an edge, one after the other
 --   no_partner_stays                      where there is no partner, marks put later give none
 --   seen_stays                            what is asked holds after marks are seen
 --   named, named_stays                    what is asked to mark names is there, and stays
---   edges_lost                            marks put where a line has nothing, as steps of the rules;  by_name_pass, by_edge_pass: as passes
+--   edges_lost                            marks put where a line has nothing, as steps of the rules;  by_name_pass, by_role_pass: as passes
 --   row_quiet, row_lost                   what is answered of all nodes at once
 --   edge_lost, cell_kept, cell_lost, cells_to, cells_end     the edge of a name at one node, and at those that its line leaves open
 --   missing_start .. missing_none         the next node that a line leaves open
@@ -20,7 +20,7 @@ use mathlib.Core.Logic.{◌⊎◌, inl, inr}
 use Prim.Native.Nat.{ℕ, suc, ◌+◌, ◌≤◌, ◌<◌}
 use native.Mathlib.Omega.{arith}
 use native.Mathlib.Decide.{ℕ_discrete, dec_lt}
-use Rattle.release.specs.Tables.{role_at, filler_at, HasSuccessor}
+use Rattle.release.specs.Tables.{filler_at, HasSuccessor}
 use Rattle.marks.specs.declared.Square.{Square}
 use Rattle.marks.specs.Squares as squares
 use Rattle.marks.specs.Squares.{behind, Small, Room, First, Nowhere, Marked, NotMarked, Apart, Frame, Put}
@@ -28,17 +28,17 @@ use Rattle.marks.specs.Passes.{Grows, Pass, Below, FromRow}
 use Rattle.marks.specs.Lines.{Has, Spans, Empty, Joined, Missing, Full}
 use Rattle.marks.specs.Inclusions.{Taking, Takes}
 use Rattle.marks.proofs.Squares.{not_true, marked_frame, frame_room}
-use Rattle.marks.proofs.Passes.{grows_frame, marks_stay, grows_as, pass_by, pass_as, pass_with, pass_both, put_pass, kept_grows}
+use Rattle.marks.proofs.Passes.{grows_frame, marks_stay, grows_as, pass_by, pass_as, pass_with, pass_both, put_pass, turns_to, kept_grows}
 use Rattle.marks.proofs.Handing.{stays_anywhere}
 use Rattle.layout.specs.declared.Layout.{Layout}
 use Rattle.layout.specs.declared.Given.{Given}
 use Rattle.layout.specs.Searches.{SomeBelow, EachBelow}
-use Rattle.layout.specs.Tables.{has_edge}
+use Rattle.layout.specs.Tables.{HasEdge}
 use Rattle.layout.specs.Layouts.{first_square, second_square, below_square, mark_square, chosen}
 use Rattle.layout.proofs.Layouts.{second_apart}
 use Rattle.layout.proofs.Searches.{each_more, each_to}
-use Rattle.forward.specs.Rules.{Beneath, beneath_stays, Serves, Setting, setting_stays, Named, NameLost, Partner, Edge, EdgeLost, Own, by_name, by_edge, FromAbove, Follows}
-use Rattle.forward.specs.Rules.{from_edge, from_above, Step, by_itself, by_above, follows_step, JoinedBelow, Kept, LeftOpen, ByName, ByEdge, EdgeCell, RowLost, Looked, Row}
+use Rattle.forward.specs.Rules.{Beneath, beneath_stays, Serves, Setting, setting_stays, Named, NameLost, Partner, Edge, RoleLost, Own, by_name, by_edge, FromAbove, Follows}
+use Rattle.forward.specs.Rules.{from_edge, from_above, Step, by_itself, by_above, follows_step, JoinedBelow, Kept, LeftOpen, ByName, ByRole, ByEdge, EdgeCell, RowLost, Looked, Row}
 
 -- what lies below a name, by a row of the turned inclusions
 pub joined_below : {l : Layout} {w : List ℕ} {c : ℕ} {i j : List ℕ} {p : Square} → p ≡ below_square l → Beneath l w → c < l.names → Joined p w c i j → JoinedBelow l w c i j
@@ -79,9 +79,21 @@ kept_more {given} {w} {z} {r} {c} {i} {j} serves joined k = record {
     by_place y d h o p (yes e) = let q : Partner given w z y r c = rw e at p in joined.has y h q.second
     by_place y d h o p (no e) = joined.stays y (k.has y d h (omega arith) p)
 
--- edges
-pub edge_by : {given : Given} {x : ℕ} → x < given.layout.names → has_edge given.edges.now x ≡ true → Edge given x
-edge_by h e = record { is_name = h; with_edge = e }
+-- the roles of an edge one after the other: what is none of them gives nothing
+role_none : {given : Given} {w : List ℕ} {x r : ℕ} → (HasEdge given.edges.now x r → ⊥) → ByRole given x r w
+role_none not = record { marked = λ y h o. absurd (not o.edge.with_role) }
+
+module _ {given : Given} {x from : ℕ} {u w : List ℕ} {b : Bool} (p : Pass (Follows given) (mark_square given.layout) (Below (ByRole given x) from) u w b) where
+  pub roles_to : {r : ℕ} → First (HasEdge given.edges.now x) (λ q. HasEdge given.edges.now x q → ⊥) 31 from r
+      → Pass (Follows given) (mark_square given.layout) (Below (ByRole given x) r) u w b
+  roles_to next = turns_to p (λ q h l. role_none (next.before q h l))
+
+  pub roles_end : x < given.layout.names → Nowhere (λ q. HasEdge given.edges.now x q → ⊥) 31 from → Pass (Follows given) (mark_square given.layout) (ByEdge given x) u w b
+  roles_end x_in past = pass_as (λ below. record { marked = λ y h o. (by_place below o.role (given.edges_found.few x o.role x_in o.lost.edge.with_role) (dec_lt o.role from)).marked y h o.lost }) p
+    where
+      by_place : Below (ByRole given x) from w → (r : ℕ) → r < 32 → Dec (r < from) → ByRole given x r w
+      by_place below r l (yes i) = below.at r i
+      by_place below r l (no i) = role_none (past.each r (omega arith) (omega arith))
 
 -- what is seen of the marks changes none
 pub seen_stays : {given : Given} {w v : List ℕ} → squares.Kept (mark_square given.layout) w v → Setting given w → Setting given v
@@ -106,28 +118,31 @@ no_partner_stays {given = given} s grows h f p =
     })
 
 -- marks put where the line of an edge has nothing
-module _ {given : Given} {w : List ℕ} (s : Setting given w) {x : ℕ} {k : List ℕ} (edge : Edge given x)
-    (kept : Kept given w (filler_at given.first.table.now x) (role_at given.first.table.now x) k) where
+module _ {given : Given} {w : List ℕ} (s : Setting given w) {x r : ℕ} {k : List ℕ} (edge : Edge given x r)
+    (kept : Kept given w (filler_at given.first.table.now x) r k) where
   edge_missing : (u : List ℕ) (c y : ℕ) → Grows (Missing k x) (mark_square given.layout) w u → c ≤ given.layout.names → y ≤ given.layout.names → Missing k x u c y → Follows given u c y
   edge_missing u c y grows c_in y_in m = from_edge
-      (rw m.row (record { edge = edge; no_partner = no_partner_stays (s.below (omega (arith, edge.is_name))) grows y_in (kept_lost y_in kept m.not_there) }))
+      (rw m.row (record {
+        role = r;
+        lost = record { edge = edge; no_partner = no_partner_stays (s.below (omega (arith, edge.is_name))) grows y_in (kept_lost y_in kept m.not_there) };
+      }))
 
   pub edges_lost : {v : List ℕ} → Grows (Missing k x) (mark_square given.layout) w v → Grows (Follows given) (mark_square given.layout) w v
   edges_lost grows = grows_as edge_missing grows
 
-  pub by_edge_pass : {v : List ℕ} {f : Bool} → Pass (Missing k x) (mark_square given.layout) (Full (mark_square given.layout) k x) w v f
-      → Pass (Follows given) (mark_square given.layout) (ByEdge given x) w v f
-  by_edge_pass {v} p = pass_with done (pass_by edge_missing p)
+  pub by_role_pass : {v : List ℕ} {f : Bool} → Pass (Missing k x) (mark_square given.layout) (Full (mark_square given.layout) k x) w v f
+      → Pass (Follows given) (mark_square given.layout) (ByRole given x r) w v f
+  by_role_pass {v} p = pass_with done (pass_by edge_missing p)
     where
-      done : v ≡ w → Full (mark_square given.layout) k x v → ByEdge given x v
+      done : v ≡ w → Full (mark_square given.layout) k x v → ByRole given x r v
       done e full = record { marked = λ y h o. full.marked y h (λ m. o.no_partner (rw e (kept.only y h m))) }
 
 -- what is answered of them: no, where the row is full; else yes
-module _ {given : Given} {x : ℕ} {w v : List ℕ} where
-  pub row_quiet : {r : Bool} → Pass (Follows given) (mark_square given.layout) (ByEdge given x) w v r → RowLost given x w v r
+module _ {given : Given} {x r : ℕ} {w v : List ℕ} where
+  pub row_quiet : {b : Bool} → Pass (Follows given) (mark_square given.layout) (ByRole given x r) w v b → RowLost given x r w v b
   row_quiet p = record { grows = p.grows; same = p.same; done = p.done }
 
-  pub row_lost : Grows (Follows given) (mark_square given.layout) w v → RowLost given x w v true
+  pub row_lost : Grows (Follows given) (mark_square given.layout) w v → RowLost given x r w v true
   row_lost grows = record { grows = grows; same = λ e. not_true e; done = λ e. not_true e }
 
 -- what those ask that mark names is there, and stays
@@ -159,42 +174,42 @@ module _ {given : Given} {w : List ℕ} (s : Named given w) {x : ℕ} {k i : Lis
       done e full = record { marked = λ y h o. full.marked y h (λ m. o.not_second (rw e (below_it y h m))) }
 
 -- the edge of x at one node, and at all nodes that the line of an edge leaves open, one after the other
-module _ {given : Given} {x : ℕ} where
-  pub edge_lost : {w : List ℕ} {y z r : ℕ} → Edge given x → z ≡ filler_at given.first.table.now x → r ≡ role_at given.first.table.now x
-      → (SomeBelow (Partner given w z y r) given.layout.names → ⊥) → EdgeLost given w x y
-  edge_lost e f g none = record { edge = e; no_partner = rw (← f, ← g) none }
+module _ {given : Given} {x r : ℕ} where
+  pub edge_lost : {w : List ℕ} {y z : ℕ} → Edge given x r → z ≡ filler_at given.first.table.now x → (SomeBelow (Partner given w z y r) given.layout.names → ⊥) → RoleLost given w x r y
+  edge_lost e f none = record { edge = e; no_partner = rw (← f) none }
 
-  pub cell_kept : {w : List ℕ} {y z r : ℕ} → z ≡ filler_at given.first.table.now x → r ≡ role_at given.first.table.now x → SomeBelow (Partner given w z y r) given.layout.names → EdgeCell given x y w
-  cell_kept f g s = record { marked = λ o. absurd (o.no_partner (rw (← f, ← g) s)) }
+  pub cell_kept : {w : List ℕ} {y z : ℕ} → z ≡ filler_at given.first.table.now x → SomeBelow (Partner given w z y r) given.layout.names → EdgeCell given x r y w
+  cell_kept f s = record { marked = λ o. absurd (o.no_partner (rw (← f) s)) }
 
-  pub cell_lost : {w v : List ℕ} {y : ℕ} {t : Bool} → EdgeLost given w x y → Put (mark_square given.layout) x y w v t → Pass (Follows given) (mark_square given.layout) (EdgeCell given x y) w v t
-  cell_lost e p = pass_as (λ m. record { marked = λ o. m }) (put_pass p (from_edge e))
+  pub cell_lost : {w v : List ℕ} {y : ℕ} {t : Bool} → RoleLost given w x r y → Put (mark_square given.layout) x y w v t
+      → Pass (Follows given) (mark_square given.layout) (EdgeCell given x r y) w v t
+  cell_lost e p = pass_as (λ m. record { marked = λ o. m }) (put_pass p (from_edge (record { role = r; lost = e })))
 
   -- a node that is marked, or that has a partner by the line; the line holds as long as nothing has changed
-  settled : {u w k : List ℕ} {y : ℕ} → Kept given u (filler_at given.first.table.now x) (role_at given.first.table.now x) k → w ≡ u → y ≤ given.layout.names
-      → Has k y ⊎ Marked (mark_square given.layout) w x y → EdgeCell given x y w
+  settled : {u w k : List ℕ} {y : ℕ} → Kept given u (filler_at given.first.table.now x) r k → w ≡ u → y ≤ given.layout.names
+      → Has k y ⊎ Marked (mark_square given.layout) w x y → EdgeCell given x r y w
   settled {y = y} kept e h (inl i) = record { marked = λ o. absurd (o.no_partner (rw e (kept.only y h i))) }
   settled kept e h (inr i) = record { marked = λ o. i }
 
   -- up to the next node that the line leaves open
-  pub cells_to : {u w k : List ℕ} {m y : ℕ} {t : Bool} → Kept given u (filler_at given.first.table.now x) (role_at given.first.table.now x) k
+  pub cells_to : {u w k : List ℕ} {m y : ℕ} {t : Bool} → Kept given u (filler_at given.first.table.now x) r k
       → First (LeftOpen (mark_square given.layout) w x k) (λ i. Has k i ⊎ Marked (mark_square given.layout) w x i) given.layout.names m y
-      → Pass (Follows given) (mark_square given.layout) (Below (EdgeCell given x) m) u w t
-      → Pass (Follows given) (mark_square given.layout) (Below (EdgeCell given x) y) u w t
+      → Pass (Follows given) (mark_square given.layout) (Below (EdgeCell given x r) m) u w t
+      → Pass (Follows given) (mark_square given.layout) (Below (EdgeCell given x r) y) u w t
   cells_to {u} {w} {k} {m} {y} kept next p = pass_with (λ e c. record { at = λ i h. by_place e c i h (dec_lt i m) }) p
     where
-      by_place : w ≡ u → Below (EdgeCell given x) m w → (i : ℕ) → i < y → Dec (i < m) → EdgeCell given x i w
+      by_place : w ≡ u → Below (EdgeCell given x r) m w → (i : ℕ) → i < y → Dec (i < m) → EdgeCell given x r i w
       by_place e c i h (yes j) = c.at i j
       by_place e c i h (no j) = settled kept e (omega (arith, next.inside)) (next.before i (omega arith) h)
 
   -- where it leaves none open
-  pub cells_end : {u w k : List ℕ} {m : ℕ} {t : Bool} → Kept given u (filler_at given.first.table.now x) (role_at given.first.table.now x) k
+  pub cells_end : {u w k : List ℕ} {m : ℕ} {t : Bool} → Kept given u (filler_at given.first.table.now x) r k
       → Nowhere (λ i. Has k i ⊎ Marked (mark_square given.layout) w x i) given.layout.names m
-      → Pass (Follows given) (mark_square given.layout) (Below (EdgeCell given x) m) u w t
-      → Pass (Follows given) (mark_square given.layout) (ByEdge given x) u w t
+      → Pass (Follows given) (mark_square given.layout) (Below (EdgeCell given x r) m) u w t
+      → Pass (Follows given) (mark_square given.layout) (ByRole given x r) u w t
   cells_end {u} {w} {k} {m} kept past p = pass_with (λ e c. record { marked = λ y h o. (by_place e c y h (dec_lt y m)).marked o }) p
     where
-      by_place : w ≡ u → Below (EdgeCell given x) m w → (y : ℕ) → y ≤ given.layout.names → Dec (y < m) → EdgeCell given x y w
+      by_place : w ≡ u → Below (EdgeCell given x r) m w → (y : ℕ) → y ≤ given.layout.names → Dec (y < m) → EdgeCell given x r y w
       by_place e c y h (yes j) = c.at y j
       by_place e c y h (no j) = settled kept e h (past.each y (omega arith) h)
 
@@ -269,11 +284,8 @@ quiet_rows {given} {w} looked takes = record {
   where
     cell : (x y : ℕ) → y ≤ given.layout.names → Own given w x y → Marked (mark_square given.layout) w x y
     cell x y h (by_name e) = (looked.at x e.is_name).name.marked y h e
-    cell x y h (by_edge e) = (looked.at x e.edge.is_name).edge.marked y h e
+    cell x y h (by_edge e) = (looked.at x e.lost.edge.is_name).edge.marked y h e
 
--- names and edges that lose nothing
+-- a name that loses nothing
 pub by_name_none : {given : Given} {x : ℕ} {w : List ℕ} → (chosen given.layout given.chosen_names.now).has_name x ≡ false → ByName given x w
 by_name_none e = record { marked = λ y h o. absurd (false≢true (sym e ∙ o.chosen_name)) }
-
-pub by_edge_none : {given : Given} {x : ℕ} {w : List ℕ} → has_edge given.edges.now x ≡ false → ByEdge given x w
-by_edge_none e = record { marked = λ y h o. absurd (false≢true (sym e ∙ o.edge.with_edge)) }

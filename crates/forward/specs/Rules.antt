@@ -3,11 +3,11 @@
 --   Beneath l w                 w has the second release's inclusions turned, too: row c has what lies below c
 --   Setting given w             all that the functions ask;  Named given w: what those ask that mark names
 --   NameLost given w x y        x is a signature name, and not above y by the second release
---   Serves b q w z r c          the restriction of c in the table b has the role r, and its filler is not marked in row z
+--   Serves b q w z r c          the role of the restriction of c in the table b serves for r, and its filler is not marked in row z
 --   Partner given w z y r c     so it is, and y lies below c by the second release: c gives y an edge
 --   NextSuccessor b r c from o  o is the first successor of c by the role r in the table b, from `from` on, if there is one
---   Edge given x                the axiom of x gives an edge by the first release, with a signature role
---   EdgeLost given w x y        the edge of x has no partner
+--   Edge given x r              the axiom of x gives an edge by the first release with the signature role r, its own role or one above it
+--   RoleLost given w x r y      the edge of x with r has no partner;  EdgeLost given w x y: so it is for one of its roles
 --   Own given w x y             x, y is lost by what x itself is: by its name, or by its edge
 --   FromAbove l w x y           x, y is lost since c, y is marked, and x lies below c by the first release
 --   Follows given w x y         x, y is lost by the edge of x, or by what lies above x;  Followed given w v: w became v by such marks
@@ -16,9 +16,8 @@
 --   Kept given w z r k          the line k is what lies below a name that serves
 --   LeftOpen q w x k y          the cell x, y is not marked, and y is not in the line k
 --   NextMissing q w x k from o  o is the first such column of row x from `from` on, if there is one
---   ByName given x w            nothing is left to mark by the name x;  ByEdge given x w: by its edge
---   EdgeCell given x y w        nothing is left to mark there by its edge
---   RowLost given x w v r       w became v by marks that follow; r: some can be new. If not, nothing is left to mark by the edge of x
+--   ByName given x w            nothing is left to mark by the name x;  ByRole given x r w: by its edge with r;  ByEdge given x w: by its edge
+--   EdgeCell given x r y w      nothing is left to mark there by its edge with r
 --   Looked given x w            by both
 --   Cell given x y w            nothing is left to mark there by x itself
 --   Taken l x c w               if x lies below c by the first release, row x has the marks of row c
@@ -26,9 +25,9 @@
 -- Not here: what the rules mean (proofs/Meaning).
 use Rattle.std.specs.Prelude.{◌≡◌, Bool, true, false, List, ◌⊎◌, ℕ, suc, ◌+◌, ◌*◌, ◌≤◌, ◌<◌, Option}
 use Rattle.std.specs.Option.{MatchOption}
-use Rattle.release.specs.declared.table.Row as table
+use Rattle.release.specs.declared.table.Table.{Table}
 use Rattle.release.specs.Files.{restricts}
-use Rattle.release.specs.Tables.{kind_at, role_at, filler_at, HasSuccessor}
+use Rattle.release.specs.Tables.{kind_at, role_at, filler_at, serves_at, HasSuccessor}
 use Rattle.marks.specs.declared.Square.{Square}
 use Rattle.marks.specs.Squares.{span, behind, Room, Marked, Apart, Frame, Within, Next}
 use Rattle.marks.specs.Passes.{Grows, Below}
@@ -41,7 +40,7 @@ use Rattle.layout.specs.declared.Given.{Given}
 use Rattle.layout.specs.Searches.{SomeBelow}
 use Rattle.layout.specs.Layouts as layout
 use Rattle.layout.proofs.Layouts.{second_apart, below_apart, setting_stays as places_stay}
-use Rattle.layout.specs.Tables.{has_edge}
+use Rattle.layout.specs.Tables.{HasEdge}
 use Rattle.layout.specs.Layouts.{first_square, second_square, below_square, mark_square, chosen}
 
 -- what is asked of the turned inclusions: they are there, and marks change neither them nor the others
@@ -80,9 +79,9 @@ pub record NameLost (given : Given) (w : List ℕ) (x y : ℕ) : Type 0 where
   pub chosen_name : (chosen given.layout given.chosen_names.now).has_name x ≡ true
   pub not_second : Marked (second_square given.layout) w y x → ⊥
 
-pub record Serves (b : List table.Row) (q : Square) (w : List ℕ) (z r c : ℕ) : Type 0 where
+pub record Serves (b : Table) (q : Square) (w : List ℕ) (z r c : ℕ) : Type 0 where
   pub is_restriction : restricts (kind_at b c) ≡ true
-  pub role : role_at b c ≡ r
+  pub role : serves_at b (role_at b c) r ≡ true
   pub free : Marked q w z (filler_at b c) → ⊥
 
 pub record Partner (given : Given) (w : List ℕ) (z y r c : ℕ) : Type 0 where
@@ -90,24 +89,28 @@ pub record Partner (given : Given) (w : List ℕ) (z y r c : ℕ) : Type 0 where
   pub second : Marked (second_square given.layout) w y c
 
 -- the node that an edge ends at; a name has one axiom, so one at most
-pub record FirstSuccessor (b : List table.Row) (r c from z : ℕ) : Type 0 where
+pub record FirstSuccessor (b : Table) (r c from z : ℕ) : Type 0 where
   pub after : from ≤ z
   pub before : (d : ℕ) → from ≤ d → d < z → HasSuccessor b c r d → ⊥
   pub successor : HasSuccessor b c r z
 
-pub record NoSuccessor (b : List table.Row) (r c from : ℕ) : Type 0 where
+pub record NoSuccessor (b : Table) (r c from : ℕ) : Type 0 where
   pub none : (d : ℕ) → from ≤ d → HasSuccessor b c r d → ⊥
 
-abbrev pub NextSuccessor : List table.Row → ℕ → ℕ → ℕ → Option ℕ → Type 0
+abbrev pub NextSuccessor : Table → ℕ → ℕ → ℕ → Option ℕ → Type 0
 NextSuccessor b r c from o = MatchOption o (NoSuccessor b r c from) (FirstSuccessor b r c from)
 
-pub record Edge (given : Given) (x : ℕ) : Type 0 where
+pub record Edge (given : Given) (x r : ℕ) : Type 0 where
   pub is_name : x < given.layout.names
-  pub with_edge : has_edge given.edges.now x ≡ true
+  pub with_role : HasEdge given.edges.now x r
+
+pub record RoleLost (given : Given) (w : List ℕ) (x r y : ℕ) : Type 0 where
+  pub edge : Edge given x r
+  pub no_partner : SomeBelow (Partner given w (filler_at given.first.table.now x) y r) given.layout.names → ⊥
 
 pub record EdgeLost (given : Given) (w : List ℕ) (x y : ℕ) : Type 0 where
-  pub edge : Edge given x
-  pub no_partner : SomeBelow (Partner given w (filler_at given.first.table.now x) y (role_at given.first.table.now x)) given.layout.names → ⊥
+  pub role : ℕ
+  pub lost : RoleLost given w x role y
 
 pub data Own (given : Given) (w : List ℕ) (x y : ℕ) : Type 0 where
   by_name : NameLost given w x y → Own given w x y
@@ -156,16 +159,19 @@ NextMissing q w x k from o = Next (LeftOpen q w x k) (λ y. Has k y ⊎ Marked q
 pub record ByName (given : Given) (x : ℕ) (w : List ℕ) : Type 0 where
   pub marked : (y : ℕ) → y ≤ given.layout.names → NameLost given w x y → Marked (mark_square given.layout) w x y
 
+pub record ByRole (given : Given) (x r : ℕ) (w : List ℕ) : Type 0 where
+  pub marked : (y : ℕ) → y ≤ given.layout.names → RoleLost given w x r y → Marked (mark_square given.layout) w x y
+
 pub record ByEdge (given : Given) (x : ℕ) (w : List ℕ) : Type 0 where
   pub marked : (y : ℕ) → y ≤ given.layout.names → EdgeLost given w x y → Marked (mark_square given.layout) w x y
 
-pub record EdgeCell (given : Given) (x y : ℕ) (w : List ℕ) : Type 0 where
-  pub marked : EdgeLost given w x y → Marked (mark_square given.layout) w x y
+pub record EdgeCell (given : Given) (x r y : ℕ) (w : List ℕ) : Type 0 where
+  pub marked : RoleLost given w x r y → Marked (mark_square given.layout) w x y
 
-pub record RowLost (given : Given) (x : ℕ) (w v : List ℕ) (r : Bool) : Type 0 where
+pub record RowLost (given : Given) (x r : ℕ) (w v : List ℕ) (b : Bool) : Type 0 where
   pub grows : Grows (Follows given) (mark_square given.layout) w v
-  pub same : r ≡ false → v ≡ w
-  pub done : r ≡ false → ByEdge given x v
+  pub same : b ≡ false → v ≡ w
+  pub done : b ≡ false → ByRole given x r v
 
 pub record Looked (given : Given) (x : ℕ) (w : List ℕ) : Type 0 where
   pub name : ByName given x w

@@ -16,6 +16,7 @@ use layout::Given;
 use marks::columns;
 use marks::line::Line;
 use marks::waiting::Waiting;
+use release::RoleName;
 
 // What is few. Where more bytes of a row have something new, the nodes that can lose a partner by it are not looked for; where more
 // such nodes are left, they are not tested one by one. To test all nodes at once is then quicker.
@@ -23,16 +24,17 @@ const FEW_BYTES: usize = 2;
 
 const FEW_NODES: usize = 4;
 
-// Marks the pairs of x that its edge loses, for all nodes at once. Whether marks can be new: where not, none is, and none was left to put.
+// Marks the pairs of x that its edge with the role loses, for all nodes at once. Whether marks can be new: where not, none is, and none was
+// left to put.
 // It stays a function of its own, so that its loop has registers enough.
 #[inline(never)]
-pub fn lose_row(given: &Given, work: &mut [u8], x: usize) -> bool
+fn lose_row(given: &Given, work: &mut [u8], x: usize, role: RoleName) -> bool
     requires setting { Setting given.now work.old }
-    requires edge { Edge given.now x }
-    ensures { RowLost given.now x work.old work.new result }
+    requires edge { Edge given.now x role.0 }
+    ensures { RowLost given.now x role.0 work.old work.new result }
 {
     let mut kept = [0u8; Line::LENGTH];
-    if keep_partners(given, work, &mut kept, x) {
+    if keep_partners(given, work, &mut kept, x, role) {
         return false;
     }
     let marks = given.layout.mark_square();
@@ -40,8 +42,22 @@ pub fn lose_row(given: &Given, work: &mut [u8], x: usize) -> bool
     true
 }
 
-// Adds to the line what lies below the restrictions of the second release with this role and this filler.
-fn touch_by(given: &Given, work: &[u8], touched: &mut [u8], role: usize, filler: usize)
+// The same for each role of the edge of x.
+pub fn lose_rows(given: &Given, work: &mut [u8], x: usize)
+    requires setting { Setting given.now work.old }
+    requires x_lt_names { x < given.now.layout.names }
+    ensures { Followed given.now work.old work.new }
+{
+    let roles = given.edges[x];
+    let mut next = 0;
+    while let Some(role) = roles.next(next) {
+        next = role.0 + 1;
+        lose_row(given, work, x, role);
+    }
+}
+
+// Adds to the line what lies below the restrictions of the second release with a role that serves for this one, and this filler.
+fn touch_by(given: &Given, work: &[u8], touched: &mut [u8], role: RoleName, filler: usize)
     requires area { Area (second_square given.now.layout) work.now × Beneath given.now.layout work.now }
     requires spans { Spans given.now.layout.names touched.old }
     requires filler_le_names { filler ≤ given.now.layout.names }
@@ -50,7 +66,7 @@ fn touch_by(given: &Given, work: &[u8], touched: &mut [u8], role: usize, filler:
     let second = given.second;
     let inclusions = given.layout.second_square();
     for name in inclusions.hinted(work, FILLERS, filler) {
-        if name < inclusions.names && second.role(name) == role {
+        if name < inclusions.names && second.serves(second.role(name), role) {
             join_below(given, work, touched, name);
         }
     }
@@ -58,7 +74,7 @@ fn touch_by(given: &Given, work: &[u8], touched: &mut [u8], role: usize, filler:
 
 // Adds what lies below such restrictions for each filler among the new columns. A node that is not in the line has no partner with such a
 // filler, so the new marks take none from it.
-fn touch(given: &Given, work: &[u8], new: &[u8], touched: &mut [u8], role: usize)
+fn touch(given: &Given, work: &[u8], new: &[u8], touched: &mut [u8], role: RoleName)
     requires area { Area (second_square given.now.layout) work.now × Beneath given.now.layout work.now }
     requires spans { Spans given.now.layout.names new.now × Spans given.now.layout.names touched.old }
 {
@@ -96,10 +112,10 @@ fn find_left(
     Some(count)
 }
 
-// The edge of x, for each of the nodes noted. Whether a mark is new.
-fn lose_each(given: &Given, work: &mut [u8], left: &[usize], x: usize) -> bool
+// The edge of x with the role, for each of the nodes noted. Whether a mark is new.
+fn lose_each(given: &Given, work: &mut [u8], left: &[usize], x: usize, role: RoleName) -> bool
     requires setting { Setting given.now work.old }
-    requires edge { Edge given.now x }
+    requires edge { Edge given.now x role.0 }
     ensures { Pass (Follows given.now) (mark_square given.now.layout) Anything work.old work.new result }
 {
     let mut changed = false;
@@ -107,40 +123,64 @@ fn lose_each(given: &Given, work: &mut [u8], left: &[usize], x: usize) -> bool
         if given.layout.names < y {
             continue;
         }
-        changed |= look_at_pair(given, work, x, y);
+        changed |= look_at_pair(given, work, x, role, y);
     }
     changed
 }
 
-// The edge of x, which only nodes of the line can lose: where a few are left that x is not marked with, for each of these; where more are
-// left, for all nodes at once. Whether marks can be new.
-fn lose_touched(given: &Given, work: &mut [u8], touched: &[u8], x: usize) -> bool
+// The edge of x with the role, which only nodes of the line can lose: where a few are left that x is not marked with, for each of these; where
+// more are left, for all nodes at once. Whether marks can be new.
+fn lose_touched(given: &Given, work: &mut [u8], touched: &[u8], x: usize, role: RoleName) -> bool
     requires setting { Setting given.now work.old }
     requires spans { Spans given.now.layout.names touched.now }
-    requires edge { Edge given.now x }
+    requires edge { Edge given.now x role.0 }
     ensures { Followed given.now work.old work.new }
 {
     let mut left = [0; FEW_NODES];
     match find_left(given, work, touched, &mut left, x) {
-        Some(count) => lose_each(given, work, &left[..count], x),
-        None => lose_row(given, work, x),
+        Some(count) => lose_each(given, work, &left[..count], x, role),
+        None => lose_row(given, work, x, role),
     }
 }
 
-// The edge of x, whose end has new marks in the columns of a line: for the nodes that can lose it by these, or where something is new in
-// more bytes than a few, for all nodes at once. Whether marks can be new.
-fn lose_edge(given: &Given, work: &mut [u8], new: &[u8], fresh: usize, x: usize) -> bool
+// The edge of x with the role, whose end has new marks in the columns of a line: for the nodes that can lose it by these, or where something
+// is new in more bytes than a few, for all nodes at once. Whether marks can be new.
+fn lose_role(
+    given: &Given,
+    work: &mut [u8],
+    new: &[u8],
+    fresh: usize,
+    x: usize,
+    role: RoleName,
+) -> bool
     requires setting { Setting given.now work.old }
     requires spans { Spans given.now.layout.names new.now }
-    requires edge { Edge given.now x }
+    requires edge { Edge given.now x role.0 }
     ensures { Followed given.now work.old work.new }
 {
     if FEW_BYTES < fresh {
-        return lose_row(given, work, x);
+        return lose_row(given, work, x, role);
     }
     let mut touched = [0u8; Line::LENGTH];
-    touch(given, work, new, &mut touched, given.first.role(x));
-    lose_touched(given, work, &touched, x)
+    touch(given, work, new, &mut touched, role);
+    lose_touched(given, work, &touched, x, role)
+}
+
+// The same for each role of the edge of x.
+fn lose_edge(given: &Given, work: &mut [u8], new: &[u8], fresh: usize, x: usize) -> bool
+    requires setting { Setting given.now work.old }
+    requires spans { Spans given.now.layout.names new.now }
+    requires x_lt_names { x < given.now.layout.names }
+    ensures { Followed given.now work.old work.new }
+{
+    let roles = given.edges[x];
+    let mut changed = false;
+    let mut next = 0;
+    while let Some(role) = roles.next(next) {
+        next = role.0 + 1;
+        changed |= lose_role(given, work, new, fresh, x, role);
+    }
+    changed
 }
 
 // The edges that end at the node, which has new marks in the columns of a line.
@@ -162,7 +202,7 @@ fn lose_edges(
     // the loop writes the memory that it searches, so no iterator can hold it
     while let Some(x) = inclusions.next_hint(work, FILLERS, end, next) {
         next = x + 1;
-        if inclusions.names <= x || !given.edges[x] {
+        if inclusions.names <= x {
             continue;
         }
         if lose_edge(given, work, new, fresh, x) {

@@ -1,7 +1,7 @@
 // The nodes that keep a partner of an edge, as a line, and the next node that it leaves open.
 ghost use Rattle.std.specs.Prelude.{◌≡◌, true, ◌≤◌, ◌<◌};
 ghost use Rattle.el.proofs.Tests.{Tells};
-ghost use Rattle.release.specs.Tables.{role_at, filler_at};
+ghost use Rattle.release.specs.Tables.{filler_at};
 ghost use Rattle.marks.specs.Squares.{Small, Room};
 ghost use Rattle.marks.specs.Lines.{Spans, Empty, Full};
 ghost use Rattle.layout.specs.Tables.{Rowed};
@@ -10,28 +10,29 @@ ghost use Rattle.forward.specs.Rules.{Beneath, JoinedBelow, Serves, Kept, NextMi
 
 use layout::{Given, Layout};
 use marks::{Square, hints, line};
+use release::RoleName;
 use release::terminology::Terminology;
 
-// Whether the name is a restriction of the second release with the role, to a node that `end` is not marked with. The role and the end of an
-// edge are two parameters here and in partner: a struct of the two would be made of x's edge in two places, to be taken apart at once in each
-// of the three functions that it is handed to.
+// Whether the name is a restriction of the second release with a role that serves, to a node that `end` is not marked with. The role is asked
+// last: that takes longest, and most names have failed before. The role and the end of an edge are two parameters here and in partner: a struct
+// of the two would be made of x's edge in two places, to be taken apart at once in each of the three functions that it is handed to.
 fn serves(
     second: &Terminology,
     marks: Square,
     work: &[u8],
     end: usize,
-    role: usize,
+    role: RoleName,
     name: usize,
 ) -> bool
     requires rowed { Rowed marks.names second.now.table.now }
     requires room { Room marks work.now }
     requires end_le_names { (end ≤ marks.names) × (name < marks.names) }
-    ensures { Tells result (Serves second.now.table.now marks work.now end role name) }
+    ensures { Tells result (Serves second.now.table.now marks work.now end role.0 name) }
 {
-    match second.successor(name, role) {
-        Some(filler) => !marks.is_marked(work, end, filler),
-        None => false,
+    if !second.is_restriction(name) || marks.is_marked(work, end, second.filler(name)) {
+        return false;
     }
+    second.serves(second.role(name), role)
 }
 
 // The inclusions of the second release, turned: row c has what lies below the name c. They lie behind the others, where it was noted what
@@ -54,11 +55,11 @@ pub fn join_below(given: &Given, work: &[u8], line: &mut [u8], name: usize)
 }
 
 // Adds all nodes that have an edge with the role by the second release, to a node that `end` is not marked with.
-fn keep(given: &Given, work: &[u8], kept: &mut [u8], end: usize, role: usize)
+fn keep(given: &Given, work: &[u8], kept: &mut [u8], end: usize, role: RoleName)
     requires room { Room (mark_square given.now.layout) work.now × Beneath given.now.layout work.now }
     requires spans { Spans given.now.layout.names kept.old × Empty kept.old }
     requires end_le_names { end ≤ given.now.layout.names }
-    ensures { Kept given.now work.now end role kept.new }
+    ensures { Kept given.now work.now end role.0 kept.new }
 {
     // in variables of its own, so that a turn reads them from registers
     let second = given.second;
@@ -72,18 +73,18 @@ fn keep(given: &Given, work: &[u8], kept: &mut [u8], end: usize, role: usize)
     }
 }
 
-// The line of the edge of x: all nodes that have a partner of it. Where it answers yes, row x is marked with all others; a no says nothing.
+// The line of the edge of x with the role: all nodes that have a partner of it. Where it answers yes, row x is marked with all others; a no
+// says nothing.
 // It stands in its callers' code, where the line is known to be apart from the work memory.
 #[inline(always)]
-pub fn keep_partners(given: &Given, work: &[u8], kept: &mut [u8], x: usize) -> bool
+pub fn keep_partners(given: &Given, work: &[u8], kept: &mut [u8], x: usize, role: RoleName) -> bool
     requires room { Room (mark_square given.now.layout) work.now × Beneath given.now.layout work.now }
     requires spans { Spans given.now.layout.names kept.old × Empty kept.old }
     requires x_lt_names { (x < given.now.layout.names) × (filler_at given.now.first.table.now x ≤ given.now.layout.names) }
     ensures { Kept
-        given.now work.now (filler_at given.now.first.table.now x) (role_at given.now.first.table.now x) kept.new
+        given.now work.now (filler_at given.now.first.table.now x) role.0 kept.new
         × (result ≡ true → Full (mark_square given.now.layout) kept.new x work.now) }
 {
-    let role = given.first.role(x);
     let end = given.first.filler(x);
     keep(given, work, kept, end, role);
     let marks = given.layout.mark_square();

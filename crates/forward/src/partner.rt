@@ -9,12 +9,13 @@ ghost use Rattle.layout.specs.Layouts.{second_square, mark_square};
 ghost use Rattle.forward.specs.Rules.{Partner, NextSuccessor, Setting, Edge, Follows, EdgeCell};
 
 use layout::Given;
+use release::RoleName;
 use release::terminology::Terminology;
 
 // The first successor of the name by the role, from the node `from` on. A name has one axiom, so one successor at most.
-fn next_successor(second: &Terminology, role: usize, name: usize, from: usize) -> Option<usize>
-    requires { HasRow second.now.table.now name }
-    ensures { NextSuccessor second.now.table.now role name from result }
+fn next_successor(second: &Terminology, role: RoleName, name: usize, from: usize) -> Option<usize>
+    requires { HasRow name }
+    ensures { NextSuccessor second.now.table.now role.0 name from result }
 {
     match second.successor(name, role) {
         Some(filler) if from <= filler => Some(filler),
@@ -24,10 +25,10 @@ fn next_successor(second: &Terminology, role: usize, name: usize, from: usize) -
 
 // Whether y has an edge with the role by the second release, to a node that `end` is not marked with. The candidates are the names above
 // y by the second release, up to ⊤; of each, its successors by the role are looked at. The first partner ends both loops.
-fn has_partner(given: &Given, work: &[u8], end: usize, role: usize, y: usize) -> bool
+fn has_partner(given: &Given, work: &[u8], end: usize, role: RoleName, y: usize) -> bool
     requires room { Room (second_square given.now.layout) work.now × Room (mark_square given.now.layout) work.now }
     requires end_le_names { (end ≤ given.now.layout.names) × (y ≤ given.now.layout.names) }
-    ensures { Tells result (SomeBelow (Partner given.now work.now end y role) given.now.layout.names) }
+    ensures { Tells result (SomeBelow (Partner given.now work.now end y role.0) given.now.layout.names) }
 {
     // in variables of its own, so that a turn reads them from registers
     let second = given.second;
@@ -53,15 +54,14 @@ fn has_partner(given: &Given, work: &[u8], end: usize, role: usize, y: usize) ->
     found
 }
 
-// Marks the pair x, y if the search finds no partner of the edge of x there. Whether the mark is new.
-pub fn look_at_pair(given: &Given, work: &mut [u8], x: usize, y: usize) -> bool
+// Marks the pair x, y if the search finds no partner of the edge of x with the role there. Whether the mark is new.
+pub fn look_at_pair(given: &Given, work: &mut [u8], x: usize, role: RoleName, y: usize) -> bool
     requires setting { Setting given.now work.old }
-    requires edge { Edge given.now x }
+    requires edge { Edge given.now x role.0 }
     requires y_le_names { y ≤ given.now.layout.names }
-    ensures { Pass (Follows given.now) (mark_square given.now.layout) (EdgeCell given.now x y) work.old work.new result }
+    ensures { Pass (Follows given.now) (mark_square given.now.layout) (EdgeCell given.now x role.0 y) work.old work.new result }
 {
     let end = given.first.filler(x);
-    let role = given.first.role(x);
     if has_partner(given, work, end, role, y) {
         return false;
     }

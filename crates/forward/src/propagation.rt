@@ -8,7 +8,7 @@ ghost use Rattle.marks.specs.declared.inclusions.Direction.TheVariants.{Down};
 ghost use Rattle.layout.specs.Layouts.{first_square, mark_square};
 ghost use Rattle.forward.specs.Rules.{Setting, Named, NameLost, Followed, Step};
 
-use crate::consequences::lose_row;
+use crate::consequences::lose_rows;
 use crate::sweep::look_at_name;
 use layout::Given;
 use marks::inclusions::{Direction, Handing};
@@ -62,14 +62,15 @@ fn first_edge(given: &Given, work: &mut [u8], waiting: &mut Waiting, done: &[u8]
     requires x_lt_names { x < given.now.layout.names }
     ensures { Followed given.now work.old work.new }
 {
-    if given.edges[x] {
-        let end = given.first.filler(x);
-        lose_row(given, work, x);
-        if line::has(done, end) {
-            return;
-        }
-        waiting.wait(end);
+    if given.edges[x].is_empty() {
+        return;
     }
+    let end = given.first.filler(x);
+    lose_rows(given, work, x);
+    if line::has(done, end) {
+        return;
+    }
+    waiting.wait(end);
 }
 
 // Each row takes the marks of what lies above it by the first release.

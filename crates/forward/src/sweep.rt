@@ -1,10 +1,10 @@
 // Passes over all names and rows: what one looks at, and with what it leaves nothing to mark where it finds nothing.
 ghost use Rattle.std.specs.Prelude.{suc, ◌≤◌, ◌<◌};
 ghost use Rattle.marks.specs.Passes.{Pass, Below};
-ghost use Rattle.release.specs.Tables.{role_at, filler_at};
+ghost use Rattle.release.specs.Tables.{filler_at};
 ghost use Rattle.marks.specs.Lines.{Spans};
 ghost use Rattle.layout.specs.Layouts.{mark_square};
-ghost use Rattle.forward.specs.Rules.{Setting, setting_stays, follows_step, Named, NameLost, Edge, Follows, Step, Kept, ByName, ByEdge, EdgeCell, Looked, Row};
+ghost use Rattle.forward.specs.Rules.{Setting, setting_stays, follows_step, Named, NameLost, Edge, Follows, Step, Kept, ByName, ByRole, ByEdge, EdgeCell, Looked, Row};
 
 use crate::consequences::deal;
 use crate::kept::{join_below, keep_partners, next_missing};
@@ -16,6 +16,7 @@ use marks::line::Line;
 use marks::order::Order;
 use marks::rules::Rules;
 use marks::waiting::Waiting;
+use release::RoleName;
 
 // Marks the name x with all that it is not above by the second release, if it is in the signature. Whether a mark is new. Crate backward has
 // a function of this name, which joins another row and marks one column more; what the two share is no more than these few lines. So it is
@@ -34,43 +35,56 @@ pub fn look_at_name(given: &Given, work: &mut [u8], x: usize) -> bool
     false
 }
 
-// The edge of x, for each node that x is not marked with and that is not in the line of those that keep a partner: of each the search
-// decides. Whether a mark is new.
-fn look_at_missing(given: &Given, work: &mut [u8], kept: &[u8], x: usize) -> bool
+// The edge of x with the role, for each node that x is not marked with and that is not in the line of those that keep a partner: of each the
+// search decides. Whether a mark is new.
+fn look_at_missing(given: &Given, work: &mut [u8], kept: &[u8], x: usize, role: RoleName) -> bool
     requires setting { Setting given.now work.old }
-    requires edge { Edge given.now x }
+    requires edge { Edge given.now x role.0 }
     requires spans { Spans given.now.layout.names kept.now }
-    requires kept { Kept given.now work.old (filler_at given.now.first.table.now x) (role_at given.now.first.table.now x) kept.now }
-    ensures { Pass (Follows given.now) (mark_square given.now.layout) (ByEdge given.now x) work.old work.new result }
+    requires kept { Kept given.now work.old (filler_at given.now.first.table.now x) role.0 kept.now }
+    ensures { Pass (Follows given.now) (mark_square given.now.layout) (ByRole given.now x role.0) work.old work.new result }
 {
     let marks = given.layout.mark_square();
     let mut changed = false;
     let mut next = 0;
     // the loop writes the memory that it searches, so no iterator can hold it
     while let Some(y) = next_missing(marks, work, x, kept, next) {
-        changed |= look_at_pair(given, work, x, y);
+        changed |= look_at_pair(given, work, x, role, y);
         next = y + 1;
     }
     changed
 }
 
-// Marks the pairs of x that its edge loses. The line settles who keeps a partner; of each node that is neither marked nor in it the search
-// decides. A quiet pass has no such node, so the search costs it nothing. Whether a mark is new. It stays a function of its own, so that
-// its loop has registers enough.
+// Marks the pairs of x that its edge with the role loses. The line settles who keeps a partner; of each node that is neither marked nor in it
+// the search decides. A quiet pass has no such node, so the search costs it nothing. Whether a mark is new. It stays a function of its own, so
+// that its loop has registers enough.
 #[inline(never)]
+fn look_at_role(given: &Given, work: &mut [u8], x: usize, role: RoleName) -> bool
+    requires setting { Setting given.now work.old }
+    requires edge { Edge given.now x role.0 }
+    ensures { Pass (Follows given.now) (mark_square given.now.layout) (ByRole given.now x role.0) work.old work.new result }
+{
+    let mut kept = [0u8; Line::LENGTH];
+    if keep_partners(given, work, &mut kept, x, role) {
+        return false;
+    }
+    look_at_missing(given, work, &kept, x, role)
+}
+
+// The same for each role of the edge of x.
 fn look_at_edge(given: &Given, work: &mut [u8], x: usize) -> bool
     requires setting { Setting given.now work.old }
     requires x_lt_names { x < given.now.layout.names }
     ensures { Pass (Follows given.now) (mark_square given.now.layout) (ByEdge given.now x) work.old work.new result }
 {
-    if given.edges[x] {
-        let mut kept = [0u8; Line::LENGTH];
-        if keep_partners(given, work, &mut kept, x) {
-            return false;
-        }
-        return look_at_missing(given, work, &kept, x);
+    let roles = given.edges[x];
+    let mut changed = false;
+    let mut next = 0;
+    while let Some(role) = roles.next(next) {
+        next = role.0 + 1;
+        changed |= look_at_role(given, work, x, role);
     }
-    false
+    changed
 }
 
 // What names and edges give, for all names. Whether a mark is new.

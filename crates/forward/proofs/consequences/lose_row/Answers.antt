@@ -1,9 +1,9 @@
--- The edge of x for all nodes at once: a row that is full by the line of kept nodes has nothing left to mark; else what the line lacks is
--- lost.
+-- The edge of x with the role for all nodes at once: a row that is full by the line of kept nodes has nothing left to mark; else what the
+-- line lacks is lost.
 use native.Mathlib.Omega.{arith}
 use Rattle.marks.proofs.Passes.{pass_none}
 use Rattle.marks.proofs.Lines.{empty_zeros}
-use Rattle.forward.proofs.Tested.{edges_lost, by_edge_pass, row_quiet, row_lost}
+use Rattle.forward.proofs.Tested.{edges_lost, by_role_pass, row_quiet, row_lost}
 use Rattle.forward.proofs.consequences.lose_row.Goals as goal
 
 pub keep_partners-requires-clause-spans : goal.keep_partners-requires-clause-spans
@@ -11,7 +11,7 @@ keep_partners-requires-clause-spans c = (record { inside = omega (arith, c.args.
 
 pub returns-then-keep_partners : goal.returns-then-keep_partners
 returns-then-keep_partners c =
-    row_quiet (by_edge_pass c.requires.setting c.requires.edge c.keep_partners.ensures.0 (pass_none (c.keep_partners.ensures.1 c.if-keep_partners.true)))
+    row_quiet (by_role_pass c.requires.setting c.requires.edge c.keep_partners.ensures.0 (pass_none (c.keep_partners.ensures.1 c.if-keep_partners.true)))
 
 pub returns : goal.returns
 returns c =

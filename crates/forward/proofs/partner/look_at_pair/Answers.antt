@@ -5,9 +5,9 @@ use Rattle.forward.proofs.Tested.{edge_lost, cell_kept, cell_lost}
 use Rattle.forward.proofs.partner.look_at_pair.Goals as goal
 
 pub returns-then-has_partner : goal.returns-then-has_partner
-returns-then-has_partner c = pass_none (cell_kept c.filler-end.ensures c.role-role.ensures (c.has_partner.ensures.sound c.if-has_partner.true))
+returns-then-has_partner c = pass_none (cell_kept c.filler-end.ensures (c.has_partner.ensures.sound c.if-has_partner.true))
 
 pub returns : goal.returns
 returns c =
     let no_partner = refuted c.has_partner.ensures c.if-has_partner.false in
-    cell_lost (edge_lost c.requires.edge c.filler-end.ensures c.role-role.ensures no_partner) (rw c.mark_square-marks.ensures at c.mark.ensures)
+    cell_lost (edge_lost c.requires.edge c.filler-end.ensures no_partner) (rw c.mark_square-marks.ensures at c.mark.ensures)

@@ -2,5 +2,5 @@
 use Rattle.marks.specs.Passes.{none}
 use Rattle.forward.proofs.propagation.first_edge.Goals as goal
 
-pub returns-else-given-x : goal.returns-else-given-x
-returns-else-given-x c = none
+pub returns-then-is_empty : goal.returns-then-is_empty
+returns-then-is_empty c = none

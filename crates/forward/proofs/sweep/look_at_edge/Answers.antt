@@ -1,17 +1,18 @@
--- The edge of x: a row that is full by the line of kept nodes has nothing left to mark; else the nodes that are left are looked at.
+-- The roles of the edge of x, one after the other. Invariant: a pass after which nothing is left to mark by the roles before the next one.
 use native.Mathlib.Omega.{arith}
-use Rattle.marks.proofs.Passes.{pass_none}
-use Rattle.marks.proofs.Lines.{empty_zeros}
-use Rattle.forward.proofs.Tested.{edge_by, by_edge_pass, by_edge_none}
+use Rattle.marks.proofs.Passes.{turns_none, turn_both}
+use Rattle.forward.specs.Rules.{setting_stays}
+use Rattle.forward.proofs.Tested.{roles_to, roles_end}
 use Rattle.forward.proofs.sweep.look_at_edge.Goals as goal
 
-pub keep_partners-requires-clause-spans : goal.keep_partners-requires-clause-spans
-keep_partners-requires-clause-spans c = (record { inside = omega (arith, c.args.given.now.layout.few) }, empty_zeros 128)
+pub loop-next-init : goal.loop-next-init
+loop-next-init c = (omega arith, c.requires.setting, turns_none)
 
-pub returns-then-keep_partners : goal.returns-then-keep_partners
-returns-then-keep_partners c =
-    let edge = edge_by c.requires.x_lt_names c.if-given-x.true in
-    by_edge_pass c.requires.setting edge c.keep_partners.ensures.0 (pass_none (c.keep_partners.ensures.1 c.if-keep_partners.true))
+pub loop-next-preserved : goal.loop-next-preserved
+loop-next-preserved c =
+    let before = c.loop-next.invariant in
+    let turn = c.look_at_role-changed.ensures in
+    (omega (arith, c.in-Some.ensures.inside), setting_stays turn.grows before.1, turn_both (roles_to before.2 c.in-Some.ensures) turn)
 
 pub returns : goal.returns
-returns c = pass_none (by_edge_none c.if-given-x.false)
+returns c = roles_end c.loop-next.invariant.2 c.requires.x_lt_names c.in_default.ensures

@@ -8,7 +8,7 @@ use Rattle.forward.proofs.sweep.look_at_missing.Given as goal
 abbrev pub invariant-loop-y : goal.invariant-loop-y
 invariant-loop-y l =
     Setting l.given l.work
-    × Pass (Follows l.given) (mark_square l.given.layout) (Below (EdgeCell l.given l.x) l.next) l.initial.work l.work l.changed
+    × Pass (Follows l.given) (mark_square l.given.layout) (Below (EdgeCell l.given l.x l.role.0) l.next) l.initial.work l.work l.changed
 
 abbrev pub decreases-loop-y : goal.decreases-loop-y
 decreases-loop-y l = suc l.marks.names - l.next

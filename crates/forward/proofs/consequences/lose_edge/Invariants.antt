@@ -1,0 +1,13 @@
+-- The roles of the edge of x, one after the other. Invariant: marks that the rules allow were put.
+use Prim.Native.Nat.{◌-◌, ◌≤◌}
+use Rattle.forward.specs.Rules.{Setting, Followed}
+use Rattle.forward.proofs.consequences.lose_edge.Given as goal
+
+abbrev pub invariant-loop-next : goal.invariant-loop-next
+invariant-loop-next l =
+    (l.next ≤ 32)
+    × Setting l.given l.work
+    × Followed l.given l.initial.work l.work
+
+abbrev pub decreases-loop-next : goal.decreases-loop-next
+decreases-loop-next l = 32 - l.next
