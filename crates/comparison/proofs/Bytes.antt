@@ -18,7 +18,7 @@ use Rattle.el.proofs.Tests.{Tells, which, not_both}
 use Rattle.el.proofs.ForwardMarks.{LostAbove}
 use Rattle.el.proofs.BackwardMarks.{LostBelow}
 use Rattle.el.proofs.Demand3.{byte_left, byte_right, byte_small}
-use Rattle.release.specs.Files.{axioms_of}
+use Rattle.release.specs.Files.{content_of}
 use Rattle.marks.specs.Squares.{Marked}
 use Rattle.classification.proofs.Nodes.{at_name}
 use Rattle.layout.specs.declared.Layout.{Layout}
@@ -52,35 +52,35 @@ module _ {g : List ℕ} {f h : Layout} {w : List ℕ} where
 
 -- the marks of the cell a, a tell of witnesses
 module _ {g s t : List ℕ} {f : Layout} {w : List ℕ} {a : ℕ} (a_in : a < f.names) where
-  pub left_by_mark : {b : Bool} → ForwardMarked g s t f w → Tells b (Marked (mark_square f) w a a) → (b ≡ true) ↔ LeftWitness (chosen f g) (axioms_of s) (axioms_of t) a
+  pub left_by_mark : {b : Bool} → ForwardMarked g s t f w → Tells b (Marked (mark_square f) w a a) → (b ≡ true) ↔ LeftWitness (chosen f g) (content_of s) (content_of t) a
   left_by_mark {b} marked tells = (λ e. there e, λ x. elim (which b) [ inl e ↦ e | inr e ↦ absurd (none e x) ])
     where
-      there : b ≡ true → LeftWitness (chosen f g) (axioms_of s) (axioms_of t) a
-      there e = let lost : LostAbove (chosen f g) (axioms_of s) (axioms_of t) (named a) (named a) = rw (at_name f.names a a_in)
+      there : b ≡ true → LeftWitness (chosen f g) (content_of s) (content_of t) a
+      there e = let lost : LostAbove (chosen f g) (content_of s) (content_of t) (named a) (named a) = rw (at_name f.names a a_in)
           at (marked.sound a a (omega arith) (omega arith) (tells.sound e)) in record { above = lost.it; over = lost.over; first = lost.by_first; not_second = lost.not_second }
 
-      none : b ≡ false → LeftWitness (chosen f g) (axioms_of s) (axioms_of t) a → ⊥
+      none : b ≡ false → LeftWitness (chosen f g) (content_of s) (content_of t) a → ⊥
       none e x = x.not_second (rw (at_name f.names a a_in) at (marked.kept a a (omega arith) (omega arith) (λ m. not_both (tells.complete m) e) x.above x.over (rw (at_name f.names a a_in) x.first)))
 
-  pub right_by_mark : {b : Bool} → BackwardMarked g s t f w → Tells b (Marked (mark_square f) w a a) → (b ≡ true) ↔ RightWitness (chosen f g) (axioms_of s) (axioms_of t) a
+  pub right_by_mark : {b : Bool} → BackwardMarked g s t f w → Tells b (Marked (mark_square f) w a a) → (b ≡ true) ↔ RightWitness (chosen f g) (content_of s) (content_of t) a
   right_by_mark {b} marked tells = (λ e. there e, λ x. elim (which b) [ inl e ↦ e | inr e ↦ absurd (none e x) ])
     where
-      there : b ≡ true → RightWitness (chosen f g) (axioms_of s) (axioms_of t) a
-      there e = let lost : LostBelow (chosen f g) (axioms_of s) (axioms_of t) (named a) (node (named a)) = rw (at_name f.names a a_in, column_name f.names a a_in)
+      there : b ≡ true → RightWitness (chosen f g) (content_of s) (content_of t) a
+      there e = let lost : LostBelow (chosen f g) (content_of s) (content_of t) (named a) (node (named a)) = rw (at_name f.names a a_in, column_name f.names a a_in)
           at (marked.sound a a (omega arith) (omega arith) (tells.sound e)) in record { below = lost.it; over = lost.over; first = lost.by_first; not_second = lost.not_second }
 
-      none : b ≡ false → RightWitness (chosen f g) (axioms_of s) (axioms_of t) a → ⊥
+      none : b ≡ false → RightWitness (chosen f g) (content_of s) (content_of t) a → ⊥
       none e x = x.not_second (rw (column_name f.names a a_in)
           at (marked.kept a a (omega arith) (omega arith) (λ m. not_both (tells.complete m) e) x.below x.over (rw (at_name f.names a a_in) x.first)))
 
 pub is_byte : {g s t : List ℕ} {f h : Layout} {w : List ℕ} {a b : ℕ} → h.names ≡ f.names → chosen h g ≡ chosen f g → a < f.names → ForwardMarked g s t f w
-    → BackwardMarked g s t h w → ByteAt g f h w a b → IsByte (chosen f g) (axioms_of s) (axioms_of t) a b
+    → BackwardMarked g s t h w → ByteAt g f h w a b → IsByte (chosen f g) (content_of s) (content_of t) a b
 is_byte {g} {s} {t} {f} {h} {w} {a} {b} names same a_in forward backward y = elim (which ((chosen f g).has_name a)) [
   | inl i ↦ by_marks i (y.inside i)
   | inr o ↦ record { outside = y.outside; small = rw (y.outside o) (omega arith); left = λ z. absurd (not_both z o); right = λ z. absurd (not_both z o) }
 ]
   where
-    by_marks : (chosen f g).has_name a ≡ true → ByMarks f h w a b → IsByte (chosen f g) (axioms_of s) (axioms_of t) a b
+    by_marks : (chosen f g).has_name a ≡ true → ByMarks f h w a b → IsByte (chosen f g) (content_of s) (content_of t) a b
     by_marks i m = record {
       outside = λ z. absurd (not_both i z);
       small = rw m.is (byte_small m.is_left m.is_right);

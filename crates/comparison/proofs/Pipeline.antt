@@ -2,7 +2,7 @@
 --   first_unclassified, second_unclassified, first_area, both_filled     the two classifications, the hints, and what they give together
 --   unchanged, room_behind, second_behind, prepared            the second square turned behind its rows: memory that is ready
 --   handable, names_long, handed         what finding edges asks, and what is handed on of the signature
---   comparing, comparing_first, forward_asks, backward_asks, all_marked     the marks
+--   comparing, comparing_first, forward_asks, forwarded, backward_ready, backward_asks, backwarded, all_marked     the marks
 --   readable, marking                              what writing the result bytes asks and gives
 --   both_in, given_in, compared, compared_again             what it asks of memory of the same length, and what it gives
 use mathlib.Core.Path.{◌≡◌, refl, sym, ap, ◌∙◌}
@@ -30,6 +30,8 @@ use Rattle.classification.proofs.AxiomRows.{ranges}
 use Rattle.classification.proofs.Meaning.{inclusions_stay}
 use Rattle.layout.specs.declared.Layout.{Layout}
 use Rattle.layout.specs.declared.Given as layout
+use Rattle.layout.specs.declared.edges.Position.{Position}
+use Rattle.layout.specs.declared.edges.Position.TheVariants as position
 use Rattle.layout.specs.Layouts.{first_square, second_square, mark_square}
 use Rattle.layout.specs.Findings.{Handed}
 use Rattle.layout.specs.Comparing.{Comparing}
@@ -38,7 +40,8 @@ use Rattle.forward.specs.Rules.{Beneath, Setting}
 use Rattle.forward.specs.Forward.{ForwardMarked, Forwarded, ForwardFrom}
 use Rattle.backward.specs.Backward.{Backwarded, BackwardFrom}
 use Rattle.comparison.specs.Bytes.{Readable, Written}
-use Rattle.comparison.specs.Compared.{SecondTurned, forward_layout, backward_layout, square_at, Handable, PutBy, BothGiven, Given, BothIncluded, Ready, Prepared, AllMarked, ZeroedBetween}
+use Rattle.comparison.specs.Compared.{SecondTurned, forward_layout, backward_layout, square_at, Handable, PutBy, BothGiven, Given, BothIncluded, Ready, BackwardReady, Prepared}
+use Rattle.comparison.specs.Compared.{AllMarked, ZeroedBetween}
 use Rattle.comparison.specs.declared.Releases.{Releases}
 use Rattle.comparison.specs.Compared.{Marking, Compared, ComparedAgain}
 use Rattle.comparison.proofs.Rows.{two_spans, RowsSame, same_marked, marked_same}
@@ -237,9 +240,9 @@ module _ {r : Releases} {w : List ℕ} (both : BothGiven r w) where
   pub handable : {g : List ℕ} → signature_fault n r.roles g ≡ 0 → Handable g r
   handable accepted = record { first = rowed (ranges both.first both.first_names); second = rowed (ranges both.second both.second_names); signature = accepted }
 
-  module _ {g : List ℕ} {base : ℕ} {h : layout.Given} (by : PutBy g r (layout_at base) h) where
-    pub handed : Handed g h
-    handed = record { same_names = λ x i. rw by.names (get_or-take n g x 0 (rw by.layout at i)); found = rw (by.layout, by.first) by.found }
+  module _ {p : Position} {g : List ℕ} {base : ℕ} {h : layout.Given} (by : PutBy p g r (layout_at base) h) where
+    pub handed : Handed p g h
+    handed = record { same_names = λ x i. rw by.names (get_or-take n g x 0 (rw by.layout at i)); found = rw (by.layout, by.first, by.second) by.found }
 
     pub comparing : 2 * k ≤ base → base ≤ 3 * k → {v : List ℕ} → length v ≡ length w → Inclusions s (square_at n 0) v → Inclusions t (square_at n k) v → Unmarked (square_at n base) v
         → Comparing s t h v
@@ -270,36 +273,39 @@ module _ {r : Releases} {w : List ℕ} (both : BothGiven r w) where
     forward_below : 1 ≤ n → Beneath (forward_layout r) w
     forward_below some = record { room = below_room r (omega (arith, both.room)) some refl; turned = ready.turned some; apart = omega (arith, two_spans n some) }
 
-    module _ {g : List ℕ} {h : layout.Given} (by : PutBy g r (forward_layout r) h) where
-      pub comparing_first : Comparing s t h w
-      comparing_first = comparing by (omega arith) (omega arith) refl ready.first ready.second (unmarked (2 * k) (omega arith) (omega arith))
+    pub comparing_first : {p : Position} {g : List ℕ} {h : layout.Given} → PutBy p g r (forward_layout r) h → Comparing s t h w
+    comparing_first by = comparing by (omega arith) (omega arith) refl ready.first ready.second (unmarked (2 * k) (omega arith) (omega arith))
 
+    module _ {g : List ℕ} {h : layout.Given} (by : PutBy position.Above g r (forward_layout r) h) where
       pub forward_asks : Setting h w
-      forward_asks = record { places = setting comparing_first; below = rw by.layout forward_below }
+      forward_asks = record { places = setting (comparing_first by); below = rw by.layout forward_below }
 
-      module _ {w2 : List ℕ} (f : ForwardFrom h w w2) {i : layout.Given} (also : PutBy g r (backward_layout r) i) where
-        forth : Forwarded g s t (forward_layout r) w w2
-        forth = rw by.layout at (f.of_releases g s t (handed by) comparing_first)
+      pub forwarded : {v : List ℕ} → ForwardFrom h w v → Forwarded g s t (forward_layout r) w v
+      forwarded f = rw by.layout at (f.of_releases g s t (handed by) (comparing_first by))
 
-        comparing_second : Comparing s t i w2
-        comparing_second = comparing also (omega arith) (omega arith) forth.frame.long
-            (inclusions_stay forth.frame (inl (omega (arith, span_size n))) ready.first)
-            (inclusions_stay forth.frame (inl (omega (arith, span_size n))) ready.second)
-            (frame_unmarked forth.frame (inr (omega (arith, span_size n))) (unmarked (3 * k) (omega arith) (omega arith)))
+    pub backward_ready : {g v : List ℕ} → Forwarded g s t (forward_layout r) w v → BackwardReady r v
+    backward_ready forth = record {
+      first = inclusions_stay forth.frame (inl (omega (arith, span_size n))) ready.first;
+      second = inclusions_stay forth.frame (inl (omega (arith, span_size n))) ready.second;
+      free = frame_unmarked forth.frame (inr (omega (arith, span_size n))) (unmarked (3 * k) (omega arith) (omega arith));
+    }
 
-        pub backward_asks : Comparing i.first.file.now i.second.file.now i w2
-        backward_asks = of_files (ap (λ (x : Terminology). x.file.now) also.first) (ap (λ (x : Terminology). x.file.now) also.second) comparing_second
+  module _ (ready : BackwardReady r w) {g : List ℕ} {h : layout.Given} (by : PutBy position.Below g r (backward_layout r) h) where
+    pub backward_asks : Comparing h.first.file.now h.second.file.now h w
+    backward_asks = of_files (ap (λ (x : Terminology). x.file.now) by.first) (ap (λ (x : Terminology). x.file.now) by.second)
+        (comparing by (omega arith) (omega arith) refl ready.first ready.second ready.free)
 
-        pub all_marked : {w3 : List ℕ} → BackwardFrom i w2 w3 → AllMarked g r w w3
-        all_marked {w3} b =
-            let back : Backwarded g s t (backward_layout r) w2 w3 = rw (also.layout, also.first, also.second) at (b.of_signature g (handed also)) in
-            record {
-              long = back.frame.long ∙ forth.frame.long;
-              before = λ j h. back.frame.before j (omega arith) ∙ forth.frame.before j h;
-              past = λ j h. back.frame.past j (omega arith) ∙ forth.frame.past j (omega arith);
-              forward = forward_stays back.frame (inl (omega (arith, span_size n))) forth.marked;
-              backward = back.marked;
-            }
+    pub backwarded : {v : List ℕ} → BackwardFrom h w v → Backwarded g s t (backward_layout r) w v
+    backwarded b = rw (by.layout, by.first, by.second) at (b.of_signature g (handed by))
+
+  pub all_marked : {g u v : List ℕ} → Forwarded g s t (forward_layout r) w u → Backwarded g s t (backward_layout r) u v → AllMarked g r w v
+  all_marked forth back = record {
+    long = back.frame.long ∙ forth.frame.long;
+    before = λ j h. back.frame.before j (omega arith) ∙ forth.frame.before j h;
+    past = λ j h. back.frame.past j (omega (arith, span_size n)) ∙ forth.frame.past j (omega (arith, span_size n));
+    forward = forward_stays back.frame (inl (omega (arith, span_size n))) forth.marked;
+    backward = back.marked;
+  }
 
   -- the result
   module _ {g v : List ℕ} (marked : AllMarked g r w v) where

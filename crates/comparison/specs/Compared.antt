@@ -2,13 +2,15 @@
 --   forward_layout r, backward_layout r     where the marks are read and written: four squares lie one after the other
 --   IsLent g r l                  l is the lent signature of the bytes g, for releases r
 --   Handable g r                  the tables and the signature are as marks are put by them
---   PutBy g r l h                 h is what marks are put by: the releases, what is handed on of the signature, and a layout of the four squares
+--   PutBy p g r l h               h is what marks are put by: the releases, what is handed on of the signature, by the position p of the
+--                                 roles found, and a layout of the four squares
 --   BothGiven r w                 accepted releases with their tables, and memory for four squares
 --   Given g r w                   and an accepted signature
 --   BothIncluded r w v            the memory w became v: the first two squares hold the inclusions of the releases, the others are 0, and
 --                                 later bytes are as before
 --   SecondTurned r w v            the memory w became v: the second square is turned behind its rows, and all else is as before
 --   Ready r v                     so it is in v, and the first two squares are filled: all that signatures share
+--   BackwardReady r v             the first two squares are filled, and nothing is marked in the last one: what backward marks ask
 --   Prepared r w v                the memory w became v, which is ready; later bytes are as before
 --   AllMarked g r w v             the memory w became v: the last two squares hold forward marks and backward marks, and all else is as
 --                                 before
@@ -19,17 +21,18 @@
 --   ComparedAgain g r o p w v     so it is, and the memory is as it was
 use Rattle.std.specs.Prelude.{◌≡◌, List, ℕ, ◌+◌, ◌*◌, ◌≤◌, ◌<◌, length, get_or, take}
 use Rattle.el.specs.Comparison.{IsByte}
-use Rattle.release.specs.Files.{names_of, axioms_of}
+use Rattle.release.specs.Files.{names_of, content_of}
 use Rattle.release.specs.Tables.{Release}
 use Rattle.signature.specs.Bytes.{signature_fault, signature_of}
 use Rattle.signature.specs.declared.lent.LentSignature.{LentSignature}
 use Rattle.marks.specs.declared.Square.{Square}
-use Rattle.marks.specs.Squares.{span, behind}
+use Rattle.marks.specs.Squares.{span, behind, Unmarked}
 use Rattle.marks.specs.Inclusions.{Turned}
 use Rattle.marks.specs.Memory.{size}
 use Rattle.classification.specs.Inclusions.{Inclusions}
 use Rattle.layout.specs.declared.Layout.{Layout}
 use Rattle.layout.specs.declared.Given as layout
+use Rattle.layout.specs.declared.edges.Position.{Position}
 use Rattle.layout.specs.Tables.{Rowed}
 use Rattle.layout.specs.Findings.{Found}
 use Rattle.comparison.specs.declared.Releases.{Releases}
@@ -55,9 +58,9 @@ pub record Handable (g : List ℕ) (r : Releases) : Type 0 where
   pub second : Rowed r.names r.second.table.now
   pub signature : signature_fault r.names r.roles g ≡ 0
 
-pub record PutBy (g : List ℕ) (r : Releases) (l : Layout) (h : layout.Given) : Type 0 where
+pub record PutBy (p : Position) (g : List ℕ) (r : Releases) (l : Layout) (h : layout.Given) : Type 0 where
   pub names : h.chosen_names.now ≡ take r.names g
-  pub found : Found g r.first.table.now r.names r.roles h.edges.now
+  pub found : Found p g r.first.table.now r.second.table.now r.names r.roles h.edges.now
   pub first : h.first ≡ r.first
   pub second : h.second ≡ r.second
   pub layout : h.layout ≡ l
@@ -93,6 +96,11 @@ pub record Ready (r : Releases) (v : List ℕ) : Type 0 where
   pub turned : 1 ≤ r.names → Turned (square_at r.names (size r.names)) v (behind (square_at r.names (size r.names)) 1) v
   pub zero : (i : ℕ) → 2 * size r.names ≤ i → i < 4 * size r.names → get_or v i 0 ≡ 0
 
+pub record BackwardReady (r : Releases) (v : List ℕ) : Type 0 where
+  pub first : Inclusions r.first.file.now (square_at r.names 0) v
+  pub second : Inclusions r.second.file.now (square_at r.names (size r.names)) v
+  pub free : Unmarked (square_at r.names (3 * size r.names)) v
+
 pub record Prepared (r : Releases) (w v : List ℕ) : Type 0 where
   pub long : length v ≡ length w
   pub past : (i : ℕ) → 4 * size r.names ≤ i → get_or v i 0 ≡ get_or w i 0
@@ -113,7 +121,7 @@ pub record ZeroedBetween (a b : ℕ) (w v : List ℕ) : Type 0 where
 
 pub record Reported (g : List ℕ) (r : Releases) (o p : List ℕ) : Type 0 where
   pub long : length p ≡ length o
-  pub byte : (a : ℕ) → a < r.names → IsByte (signature_of r.names r.roles g) (axioms_of r.first.file.now) (axioms_of r.second.file.now) a (get_or p a 0)
+  pub byte : (a : ℕ) → a < r.names → IsByte (signature_of r.names r.roles g) (content_of r.first.file.now) (content_of r.second.file.now) a (get_or p a 0)
   pub rest : (i : ℕ) → r.names ≤ i → get_or p i 0 ≡ get_or o i 0
 
 pub record Marking (g : List ℕ) (r : Releases) (o p w v : List ℕ) : Type 0 where

@@ -2,7 +2,7 @@
 #![tactic(auto)]
 
 ghost use Rattle.std.specs.Prelude.{◌≤◌};
-ghost use Rattle.release.specs.Files.{most_names};
+ghost use Rattle.release.specs.Files.{most_names, most_roles};
 
 use crate::marking::unmark;
 use crate::result::write_bytes;
@@ -22,6 +22,7 @@ pub struct Releases<'a> {
     pub names: usize,
     pub roles: usize,
     pub ghost few: { names ≤ most_names },
+    pub ghost few_roles: { roles ≤ most_roles },
 }
 
 impl<'a> Releases<'a> {

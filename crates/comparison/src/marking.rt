@@ -2,13 +2,16 @@
 ghost use Rattle.std.specs.Prelude.{◌≡◌, ◌*◌, ◌≤◌, length};
 ghost use Rattle.signature.specs.Bytes.{signature_fault};
 ghost use Rattle.marks.specs.Squares.{most_cells};
-ghost use Rattle.comparison.specs.Compared.{forward_layout, IsLent, Handable, PutBy, Given, Ready, AllMarked, ZeroedBetween};
+ghost use Rattle.forward.specs.Forward.{Forwarded};
+ghost use Rattle.backward.specs.Backward.{Backwarded};
+ghost use Rattle.comparison.specs.Compared.{forward_layout, backward_layout, IsLent, Handable, PutBy, Given, Ready, BackwardReady, AllMarked, ZeroedBetween};
 
 use crate::Releases;
 use backward::mark_lost_below;
 use forward::mark_lost_above;
-use layout::edges::find_edges;
+use layout::edges::{Position, find_edges};
 use release::Release;
+use release::roles::RoleSet;
 use signature::LentSignature;
 
 impl<'a> Releases<'a> {
@@ -24,13 +27,25 @@ impl<'a> Releases<'a> {
         }
     }
 
-    // What marks are put by, forward marks here: whether each name has an edge with a role of the signature is found, and lent for that.
-    pub fn given(self, signature: &'a [u8], edges: &'a mut [bool]) -> layout::Given<'a>
+    // What marks are put by, with the layout of forward marks: with which roles of the signature each name has an edge is found, and lent for
+    // that. Forward marks are put by the roles above its own, backward marks by those below.
+    pub fn given(
+        self,
+        signature: &'a [u8],
+        position: Position,
+        edges: &'a mut [RoleSet],
+    ) -> layout::Given<'a>
         requires ranged { Handable signature.now self }
         requires names_in_bounds { self.names ≤ length edges.old }
-        ensures { PutBy signature.now self.entry (forward_layout self.entry) result }
+        ensures { PutBy position signature.now self.entry (forward_layout self.entry) result }
     {
-        find_edges(&self.lend(signature), &self.first, edges);
+        find_edges(
+            &self.lend(signature),
+            &self.first,
+            &self.second,
+            position,
+            edges,
+        );
         layout::Given {
             chosen_names: &signature[..self.names],
             edges,
@@ -40,18 +55,41 @@ impl<'a> Releases<'a> {
         }
     }
 
-    // Fills the last two squares: the forward marks and the backward marks. The edges are found once, for both.
+    // Fills the third square: the forward marks. Never inlined, nor is the next function: what each of them keeps need not stand on the stack
+    // together.
+    #[inline(never)]
+    fn mark_above(&self, signature: &[u8], work: &mut [u8])
+        requires given { Given signature.now self.now work.old }
+        requires ready { Ready self.now work.old }
+        ensures { Forwarded signature.now self.now.first.file.now self.now.second.file.now (forward_layout self.now) work.old work.new }
+    {
+        // an array, since there is no heap; so it is below
+        let mut edges = [RoleSet::NONE; Release::NAMES];
+        let given = self.given(signature, Position::Above, &mut edges);
+        mark_lost_above(&given, work);
+    }
+
+    // Fills the last square: the backward marks.
+    #[inline(never)]
+    fn mark_below(&self, signature: &[u8], work: &mut [u8])
+        requires given { Given signature.now self.now work.old }
+        requires ready { BackwardReady self.now work.old }
+        ensures { Backwarded signature.now self.now.first.file.now self.now.second.file.now (backward_layout self.now) work.old work.new }
+    {
+        let mut edges = [RoleSet::NONE; Release::NAMES];
+        let mut given = self.given(signature, Position::Below, &mut edges);
+        given.layout = self.backward_layout();
+        mark_lost_below(&given, work);
+    }
+
+    // Fills both.
     pub fn mark(&self, signature: &[u8], work: &mut [u8])
         requires given { Given signature.now self.now work.old }
         requires ready { Ready self.now work.old }
         ensures { AllMarked signature.now self.now work.old work.new }
     {
-        // an array, since there is no heap
-        let mut edges = [false; Release::NAMES];
-        let mut given = self.given(signature, &mut edges);
-        mark_lost_above(&given, work);
-        given.layout = self.backward_layout();
-        mark_lost_below(&given, work);
+        self.mark_above(signature, work);
+        self.mark_below(signature, work);
     }
 }
 

@@ -11,7 +11,7 @@ lend-requires c = c.requires.ranged.signature
 pub find_edges-requires : goal.find_edges-requires
 find_edges-requires c =
     let lent = c.lend.ensures in
-    record { rowed = rw lent.names c.requires.ranged.first; names_in_bounds = rw lent.names c.requires.names_in_bounds }
+    record { rowed = rw lent.names c.requires.ranged.first; names_in_bounds = rw lent.names c.requires.names_in_bounds; few = rw lent.roles c.args.self.few_roles }
 
 pub slice_bounds-result-end : goal.slice_bounds-result-end
 slice_bounds-result-end c = simp length-take (omega (arith, signature_long _ _ _ c.requires.ranged.signature))
