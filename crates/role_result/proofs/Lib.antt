@@ -1,0 +1,3 @@
+-- Laws of the role result.
+pub mod Places
+pub mod Pairs
