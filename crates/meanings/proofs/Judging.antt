@@ -18,7 +18,7 @@ use Rattle.release.proofs.Refusing.{is_refused, is_accepted}
 use Rattle.release.specs.Tables.{Release, ReleaseRead}
 use Rattle.release.specs.declared.Counts.{Counts}
 use Rattle.release.specs.declared.refusals.FileRefusal.{FileRefusal}
-use Rattle.release.specs.declared.table.Row as table
+use Rattle.release.specs.declared.table.Table.{Table}
 use Rattle.release.proofs.Checks.{is_release}
 use Rattle.signature.specs.Bytes.{signature_fault}
 use Rattle.meanings.specs.declared.Compared.{Compared}
@@ -94,11 +94,11 @@ module _ {one two : Result Counts FileRefusal} where
       counts_same n m = rw (read, also, agreed) (simp (same_counts, eq-eqb _ _ n, eq-eqb _ _ m))
 
 -- releases that were read: accepted ones are small, and where the two share their counts, both are accepted
-pub limited : {s : List ℕ} {a : List table.Row} (r : Result Counts FileRefusal) → ReleaseRead s a r → IfOk r (λ c. (c.names ≤ most_names) × (c.roles ≤ most_roles))
+pub limited : {s : List ℕ} {a : Table} (r : Result Counts FileRefusal) → ReleaseRead s a r → IfOk r (λ c. (c.names ≤ most_names) × (c.roles ≤ most_roles))
 limited {s} (Ok x) read = limits s x read.answer
 limited (Err e) read = tt
 
-pub both_read : {s t : List ℕ} {a b : List table.Row} {one two : Result Counts FileRefusal} {r : Result Compared CompareRefusal} → ReleaseRead s a one → ReleaseRead t b two
+pub both_read : {s t : List ℕ} {a b : Table} {one two : Result Counts FileRefusal} {r : Result Compared CompareRefusal} → ReleaseRead s a one → ReleaseRead t b two
     → told compare_refusal r ≡ agreed (told file_refusal one) (told file_refusal two) → BothRead s t a b r
 unfolding agreed
 both_read {s} {t} {a} {b} {one} {two} {r} first second is = record {
@@ -117,42 +117,51 @@ both_read {s} {t} {a} {b} {one} {two} {r} first second is = record {
     accepted_second (Err x) (Err y) e read = absurd (cc)
 
 -- what is lent, where it is refused and where it is enough
-pub record LentEnough (g : List ℕ) (o w : ℕ) (c : Compared) : Type 0 where
+pub record LentEnough (g : List ℕ) (o p w : ℕ) (c : Compared) : Type 0 where
   pub signature : signature_fault c.names c.roles g ≡ 0
   pub result : c.names ≤ o
+  pub role_result : c.roles * c.roles ≤ p
   pub work : work_length c.names ≤ w
 
-pub lent_enough : (g : List ℕ) (o w : ℕ) (d c : Compared) → lent g o w d ≡ Ok c → (d ≡ c) × LentEnough g o w d
+pub lent_enough : (g : List ℕ) (o p w : ℕ) (d c : Compared) → lent g o p w d ≡ Ok c → (d ≡ c) × LentEnough g o p w d
 unfolding lent
-lent_enough g o w d c h = by_tests (eqb (signature_fault d.names d.roles g) 0) (leb d.names o) (leb (work_length d.names) w) refl refl refl h
+lent_enough g o p w d c h =
+    by_tests (eqb (signature_fault d.names d.roles g) 0) (leb d.names o) (leb (d.roles * d.roles) p) (leb (work_length d.names) w) refl refl refl refl h
   where
-    by_tests : (q u v : Bool) → eqb (signature_fault d.names d.roles g) 0 ≡ q → leb d.names o ≡ u → leb (work_length d.names) w ≡ v
-        → pick q (pick u (pick v (Ok d) (refused 32 0)) (refused 31 0)) (refused (signature_fault d.names d.roles g) 0) ≡ Ok c → (d ≡ c) × LentEnough g o w d
-    by_tests false u v f i j z = absurd (cc)
-    by_tests true false v f i j z = absurd (cc)
-    by_tests true true false f i j z = absurd (cc)
-    by_tests true true true f i j z = let y : d ≡ c = cc in (y, record { signature = eqb-true _ _ f; result = leb-true _ _ i; work = leb-true _ _ j })
+    by_tests : (q u x v : Bool) → eqb (signature_fault d.names d.roles g) 0 ≡ q → leb d.names o ≡ u → leb (d.roles * d.roles) p ≡ x → leb (work_length d.names) w ≡ v
+        → pick q (pick u (pick x (pick v (Ok d) (refused 32 0)) (refused 50 0)) (refused 31 0)) (refused (signature_fault d.names d.roles g) 0) ≡ Ok c
+        → (d ≡ c) × LentEnough g o p w d
+    by_tests false u x v f i k j z = absurd (cc)
+    by_tests true false x v f i k j z = absurd (cc)
+    by_tests true true false v f i k j z = absurd (cc)
+    by_tests true true true false f i k j z = absurd (cc)
+    by_tests true true true true f i k j z =
+        let y : d ≡ c = cc in (y, record { signature = eqb-true _ _ f; result = leb-true _ _ i; role_result = leb-true _ _ k; work = leb-true _ _ j })
 
 -- the signature's test, of numbers that are those of the counts
 pub signature_accepted : {n m names roles : ℕ} (g : List ℕ) → names ≡ n → roles ≡ m → Ok (tt {0}) ≡ answer 0 (signature_fault names roles g) (tt {0}) → signature_fault n m g ≡ 0
 signature_accepted {names = names} {roles = roles} g e f h = rw (e, f) at (is_accepted 0 (signature_fault names roles g) (tt {0}) (tt {0}) h).0
 
-module _ (g : List ℕ) (o w : ℕ) (c : Compared) where
-  pub signature_refused : {names roles : ℕ} (n : Numbers) → names ≡ c.names → roles ≡ c.roles → Err n ≡ answer 0 (signature_fault names roles g) (tt {0}) → Err n ≡ lent g o w c
+module _ (g : List ℕ) (o p w : ℕ) (c : Compared) where
+  pub signature_refused : {names roles : ℕ} (n : Numbers) → names ≡ c.names → roles ≡ c.roles → Err n ≡ answer 0 (signature_fault names roles g) (tt {0}) → Err n ≡ lent g o p w c
   unfolding lent
   signature_refused n e f h =
       let r = is_refused 0 (signature_fault c.names c.roles g) (tt {0}) n (rw (e, f) at h) in
       rw r.0 (simp (lent, ne_eqb (signature_fault c.names c.roles g) 0 (λ z. omega (arith, r.1))))
 
   module _ (none : signature_fault c.names c.roles g ≡ 0) where
-    pub result_short : o < c.names → refused 31 0 ≡ lent g o w c
+    pub result_short : o < c.names → refused 31 0 ≡ lent g o p w c
     unfolding lent
     result_short l = simp (lent, none, lt-leb _ _ l)
 
-    pub work_short : c.names ≤ o → w < work_length c.names → refused 32 0 ≡ lent g o w c
+    pub role_result_short : c.names ≤ o → p < c.roles * c.roles → refused 50 0 ≡ lent g o p w c
     unfolding lent
-    work_short long l = simp (lent, none, le-leb _ _ long, lt-leb _ _ l)
+    role_result_short long l = simp (lent, none, le-leb _ _ long, lt-leb _ _ l)
 
-    pub accepted : c.names ≤ o → work_length c.names ≤ w → Ok c ≡ lent g o w c
+    pub work_short : c.names ≤ o → c.roles * c.roles ≤ p → w < work_length c.names → refused 32 0 ≡ lent g o p w c
     unfolding lent
-    accepted long l = simp (lent, none, le-leb _ _ long, le-leb _ _ l)
+    work_short long squares l = simp (lent, none, le-leb _ _ long, le-leb _ _ squares, lt-leb _ _ l)
+
+    pub accepted : c.names ≤ o → c.roles * c.roles ≤ p → work_length c.names ≤ w → Ok c ≡ lent g o p w c
+    unfolding lent
+    accepted long squares l = simp (lent, none, le-leb _ _ long, le-leb _ _ squares, le-leb _ _ l)

@@ -5,20 +5,23 @@
 --   not_read, not_lent, given, compares   the promise, where it is refused and where it is not
 use mathlib.Core.Path.{◌≡◌, refl, sym, ap₂, ◌∙◌}
 use mathlib.Core.List.{List, [], ◌∷◌, ◌++◌}
-use Prim.Native.Nat.{ℕ, zero, suc, ◌+◌, ◌≤◌, ◌<◌}
+use Prim.Native.Nat.{ℕ, zero, suc, ◌+◌, ◌*◌, ◌≤◌, ◌<◌}
 use native.Mathlib.Omega.{arith}
 use lib.ListN.{length, get_or, take, drop, replicate, length-take, length-drop}
 use lib.Seq.{ext_get_or, get_or-take, get_or-drop}
 use Rattle.std.specs.Prelude.{Result, Ok, Err}
-use Rattle.el.specs.Comparison.{AreBytes}
-use Rattle.release.specs.Files.{names_of, roles_of, axioms_of, most_names, most_roles, fault}
+use Rattle.el.specs.Comparison.{AreBytes, ArePairBytes}
+use Rattle.release.specs.Files.{names_of, roles_of, most_names, most_roles, fault, content_of}
 use Rattle.release.specs.Readings.{checked, counts_in}
 use Rattle.release.specs.Refusals.{Numbers, answer}
 use Rattle.release.proofs.Limits as limits
 use Rattle.signature.specs.Bytes.{signature_of}
+use Rattle.signature.specs.declared.lent.LentSignature.{LentSignature}
 use Rattle.marks.specs.Memory.{size}
 use Rattle.comparison.specs.Compared as C
 use Rattle.comparison.specs.declared.Releases.{Releases}
+use Rattle.role_result.specs.declared.RoleComparison.{RoleComparison}
+use Rattle.role_result.specs.Pairs.{BothRead as RolesRead, RolesReported}
 use Rattle.meanings.specs.declared.Compared.{Compared}
 use Rattle.meanings.specs.declared.refusals.CompareRefusal.{CompareRefusal}
 use Rattle.meanings.specs.Comparing.{work_length, agreed, lent, and_then, judged, comparison, Outcome, Says}
@@ -70,11 +73,11 @@ split (Ok d) h = (d, refl, h)
 split (Err k) h = absurd (cc)
 
 -- what is known of an accepted comparison
-pub known : (s t g : List ℕ) (o w : ℕ) (c : Compared) → comparison s t g o w ≡ Ok c → Agree s t c × LentEnough g o w c
+pub known : (s t g : List ℕ) (o p w : ℕ) (c : Compared) → comparison s t g o p w ≡ Ok c → Agree s t c × LentEnough g o p w c
 unfolding judged
-known s t g o w c h =
+known s t g o p w c h =
     let z = split (agreed (checked s) (checked t)) h in
-    let e = lent_enough g o w z.0 c z.2 in
+    let e = lent_enough g o p w z.0 c z.2 in
     rw (← e.0) (agree s t z.0 z.1, e.1)
 
 -- releases that were read, and work memory that is enough: what comparing them asks, and filling the rows of a sheet
@@ -92,22 +95,25 @@ module _ {s t : List ℕ} {c : Compared} {r : Releases} (read : AreRead s t c r)
     room = rw read.names lends;
   }
 
-module _ {s t : List ℕ} (g o w : List ℕ) where
-  refuses : {e : CompareRefusal} → Err (compare_refusal e) ≡ comparison s t g (length o) (length w) → Says s t g o o w w (Err e)
-  refuses is = record { answer = is; refused_result = λ z. refl; refused_work = λ z. refl; accepted = λ z. absurd (cc) }
+  pub roles_read : {x : RoleComparison} → x.first ≡ r.first → x.second ≡ r.second → RolesRead x
+  roles_read first second = record { first = rw (first, read.first_file) read.first; second = rw (second, read.second_file) read.second }
 
-  pub not_read : {e : CompareRefusal} → Err (compare_refusal e) ≡ agreed (checked s) (checked t) → Says s t g o o w w (Err e)
+module _ {s t : List ℕ} (g o p w : List ℕ) where
+  refuses : {e : CompareRefusal} → Err (compare_refusal e) ≡ comparison s t g (length o) (length p) (length w) → Says s t g o o p p w w (Err e)
+  refuses is = record { answer = is; refused_result = λ z. refl; refused_roles = λ z. refl; refused_work = λ z. refl; accepted = λ z. absurd (cc) }
+
+  pub not_read : {e : CompareRefusal} → Err (compare_refusal e) ≡ agreed (checked s) (checked t) → Says s t g o o p p w w (Err e)
   unfolding judged
   not_read is = refuses (rw (← is, judged) refl)
 
   module _ {c : Compared} {r : Releases} (read : AreRead s t c r) where
-    pub not_lent : {e : CompareRefusal} → Err (compare_refusal e) ≡ lent g (length o) (length w) c → Says s t g o o w w (Err e)
+    pub not_lent : {e : CompareRefusal} → Err (compare_refusal e) ≡ lent g (length o) (length p) (length w) c → Says s t g o o p p w w (Err e)
     unfolding judged
     not_lent is = refuses (rw (← read.counts, judged) is)
 
-    module _ {d : Compared} (lends : Ok d ≡ lent g (length o) (length w) c) where
-      enough : LentEnough g (length o) (length w) c
-      enough = (lent_enough g (length o) (length w) c d (sym lends)).1
+    module _ {d : Compared} (lends : Ok d ≡ lent g (length o) (length p) (length w) c) where
+      enough : LentEnough g (length o) (length p) (length w) c
+      enough = (lent_enough g (length o) (length p) (length w) c d (sym lends)).1
 
       pub names_in_bounds : r.names ≤ length o
       names_in_bounds = rw read.names enough.result
@@ -115,29 +121,48 @@ module _ {s t : List ℕ} (g o w : List ℕ) where
       pub given : C.Given g r w
       given = record { both = both_given read enough.work; signature = rw (read.names, read.roles) enough.signature }
 
+      -- what the role result asks
+      module _ (l : LentSignature) (is : C.IsLent g r l) where
+        pub role_room : l.roles * l.roles ≤ length p
+        role_room = rw (is.roles, read.roles) enough.role_result
+
       -- lists by their elements
-      module _ (p v : List ℕ) (long_p : length p ≡ length o) (long_v : length v ≡ length w) (done : C.Compared g r o p w v) where
-        bytes_are : AreBytes c.names (signature_of c.names c.roles g) (axioms_of s) (axioms_of t) (take c.names p)
+      module _ (q v : List ℕ) (long_q : length q ≡ length o) (long_v : length v ≡ length w) (done : C.Compared g r o q w v)
+          {x : RoleComparison} {z : List ℕ} (is : C.IsLent g r x.signature) (first : x.first ≡ r.first) (second : x.second ≡ r.second) (pairs : RolesReported x p z) where
+        bytes_are : AreBytes c.names (signature_of c.names c.roles g) (content_of s) (content_of t) (take c.names q)
         bytes_are = record {
           long = simp length-take (omega (arith, enough.result));
-          each = λ a l. rw (get_or-take c.names p a 0 l) (rw (read.names, read.roles, read.first_file, read.second_file) at (done.reported.byte a (rw read.names l)));
+          each = λ a l. rw (get_or-take c.names q a 0 l) (rw (read.names, read.roles, read.first_file, read.second_file) at (done.reported.byte a (rw read.names l)));
         }
 
-        rest_is : drop c.names p ≡ drop c.names o
-        rest_is = ext_get_or 0 _ _ (simp (length-drop, long_p)) (λ i l. get_or-drop c.names p i 0 ∙ (done.reported.rest (c.names + i) (omega (arith, read.names)) ∙ sym (get_or-drop c.names o i 0)))
+        rest_is : drop c.names q ≡ drop c.names o
+        rest_is = ext_get_or 0 _ _ (simp (length-drop, long_q)) (λ i l. get_or-drop c.names q i 0 ∙ (done.reported.rest (c.names + i) (omega (arith, read.names)) ∙ sym (get_or-drop c.names o i 0)))
 
-        outcome : Outcome s t g o p w v
+        roles_is : x.signature.roles ≡ c.roles
+        roles_is = is.roles ∙ read.roles
+
+        pairs_are : ArePairBytes c.roles (signature_of c.names c.roles g) (content_of s) (content_of t) (take (c.roles * c.roles) z)
+        pairs_are = rw (roles_is, is.bytes, is.names, read.names, first, second, read.first_file, read.second_file) at pairs.bytes
+
+        outcome : Outcome s t g o q p z w v
         unfolding size
         outcome =
             let k = both_agree read in
             let work_is = cleared (work_length c.names) v w long_v enough.work (rw read.names at done.zero) (rw read.names at done.past) in
-            record { bytes = rw (k.first_names, k.first_roles) at bytes_are; past = rw k.first_names at rest_is; work = rw k.first_names at work_is }
+            record {
+              bytes = rw (k.first_names, k.first_roles) at bytes_are;
+              past = rw k.first_names at rest_is;
+              role_bytes = rw (k.first_names, k.first_roles) at pairs_are;
+              role_past = rw (roles_is, k.first_roles) at pairs.past;
+              work = rw k.first_names at work_is;
+            }
 
-        pub compares : Says s t g o p w v (Ok d)
+        pub compares : Says s t g o q p z w v (Ok d)
         unfolding judged
         compares = record {
           answer = rw (← read.counts, judged) lends;
           refused_result = λ z. absurd (cc);
+          refused_roles = λ z. absurd (cc);
           refused_work = λ z. absurd (cc);
           accepted = λ _. outcome;
         }

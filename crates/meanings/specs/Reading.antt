@@ -6,14 +6,14 @@ use Rattle.std.specs.Prelude.{◌≡◌, List, ℕ, Result, Ok, Err}
 use Rattle.release.specs.Readings.{checked}
 use Rattle.release.specs.Refusals.{told}
 use Rattle.release.specs.Tables.{Release}
-use Rattle.release.specs.declared.table.Row as table
+use Rattle.release.specs.declared.table.Table.{Table}
 use Rattle.comparison.specs.declared.Releases.{Releases}
 use Rattle.meanings.specs.declared.Compared.{Compared}
 use Rattle.meanings.specs.declared.refusals.CompareRefusal.{CompareRefusal}
 use Rattle.meanings.specs.Comparing.{agreed}
 use Rattle.meanings.specs.Refusals.{compare_refusal}
 
-pub record BothRead (s t : List ℕ) (a b : List table.Row) (r : Result Compared CompareRefusal) : Type 0 where
+pub record BothRead (s t : List ℕ) (a b : Table) (r : Result Compared CompareRefusal) : Type 0 where
   pub answer : told compare_refusal r ≡ agreed (checked s) (checked t)
   pub first : {c : Compared} → r ≡ Ok c → Release s a
   pub second : {c : Compared} → r ≡ Ok c → Release t b

@@ -11,9 +11,10 @@ ghost use Rattle.meanings.specs.Reading.{BothRead, ReleasesRead};
 
 pub use crate::refusals::CompareRefusal;
 use comparison::Releases;
-use release::table::{Row, Table};
+use release::table::Table;
 use release::terminology::Terminology;
-use release::{Counts, FileRefusal, read_release};
+use release::{Counts, FileRefusal, Release, read_release};
+use role_result::RoleComparison;
 use signature::signature_fault;
 
 mod refusals;
@@ -23,6 +24,11 @@ mod refusals;
 pub struct Compared {
     pub names: u16,
     pub roles: u8,
+}
+
+impl Compared {
+    // As many bytes as the role result of any release needs.
+    pub const ROLE_RESULT: usize = Release::ROLES * Release::ROLES;
 }
 
 // Whether work memory is shorter than a comparison of releases with this many names needs.
@@ -58,8 +64,8 @@ pub fn agree(
 pub fn read_both(
     first: &[u8],
     second: &[u8],
-    first_table: &mut [Row],
-    second_table: &mut [Row],
+    first_table: &mut Table,
+    second_table: &mut Table,
 ) -> Result<Compared, CompareRefusal>
     requires first_blank { Blank first_table.old }
     requires second_blank { Blank second_table.old }
@@ -74,8 +80,8 @@ pub fn read_both(
 pub fn read_releases<'a>(
     first: &'a [u8],
     second: &'a [u8],
-    first_table: &'a mut [Row],
-    second_table: &'a mut [Row],
+    first_table: &'a mut Table,
+    second_table: &'a mut Table,
 ) -> Result<(Compared, Releases<'a>), CompareRefusal>
     requires first_blank { Blank first_table.old }
     requires second_blank { Blank second_table.old }
@@ -97,20 +103,25 @@ pub fn read_releases<'a>(
     Ok((counts, releases))
 }
 
-// The counts, if the signature is one and the result and the work memory are long enough.
+// The counts, if the signature is one and the result, the role result and the work memory are long enough.
 fn judge(
     counts: Compared,
     signature: &[u8],
     result_length: usize,
+    role_result_length: usize,
     work_length: usize,
 ) -> Result<Compared, CompareRefusal>
     requires { counts.names ≤ most_names }
-    ensures { told compare_refusal result ≡ lent signature.now result_length work_length counts }
+    ensures { told compare_refusal result ≡ lent signature.now result_length role_result_length work_length counts }
 {
     let names = usize::from(counts.names);
-    signature_fault(signature, names, usize::from(counts.roles))?;
+    let roles = usize::from(counts.roles);
+    signature_fault(signature, names, roles)?;
     if result_length < names {
         return Err(CompareRefusal::ShortResult);
+    }
+    if role_result_length < roles * roles {
+        return Err(CompareRefusal::ShortRoleResult);
     }
     if lacks_work(work_length, names) {
         return Err(CompareRefusal::ShortWork);
@@ -118,21 +129,35 @@ fn judge(
     Ok(counts)
 }
 
-// Compares two releases over a signature: the byte of each name in the first result bytes, or the refusal, which changes nothing.
+// Compares two releases over a signature: the byte of each name in the first result bytes and that of each two roles in the first bytes of the
+// role result, or the refusal, which changes nothing.
 pub fn compare_releases(
     first: &[u8],
     second: &[u8],
     signature: &[u8],
     result_bytes: &mut [u8],
+    role_result: &mut [u8],
     work: &mut [u8],
 ) -> Result<Compared, CompareRefusal>
-    ensures { Says first.now second.now signature.now result_bytes.old result_bytes.new work.old work.new result }
+    ensures { Says first.now second.now signature.now result_bytes.old result_bytes.new role_result.old role_result.new work.old work.new result }
 {
     // Local arrays, since there is no heap.
-    let mut first_table = [Row::BLANK; Table::LENGTH];
-    let mut second_table = [Row::BLANK; Table::LENGTH];
+    let mut first_table = Table::BLANK;
+    let mut second_table = Table::BLANK;
     let (counts, releases) = read_releases(first, second, &mut first_table, &mut second_table)?;
-    let counts = judge(counts, signature, result_bytes.len(), work.len())?;
+    let counts = judge(
+        counts,
+        signature,
+        result_bytes.len(),
+        role_result.len(),
+        work.len(),
+    )?;
     releases.compare_tables(signature, result_bytes, work);
+    let roles = RoleComparison {
+        signature: releases.lend(signature),
+        first: releases.first,
+        second: releases.second,
+    };
+    roles.write_role_result(role_result);
     Ok(counts)
 }

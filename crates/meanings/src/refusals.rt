@@ -15,6 +15,7 @@ pub enum CompareRefusal {
     DifferentCounts,
     Signature(SignatureRefusal),
     ShortResult,
+    ShortRoleResult,
     ShortWork,
 }
 
@@ -27,6 +28,7 @@ impl Refusal for CompareRefusal {
             CompareRefusal::DifferentCounts => 16,
             CompareRefusal::Signature(refusal) => refusal.number(),
             CompareRefusal::ShortResult => 31,
+            CompareRefusal::ShortRoleResult => 50,
             CompareRefusal::ShortWork => 32,
         }
     }
