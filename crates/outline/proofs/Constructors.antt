@@ -32,13 +32,13 @@ pub begun : {w : ℕ} {c : Concept} {s t : List ℕ} → Spelled w c s t → Beg
 begun (is_top {t = u}) = record { first = Top; after = u; is = refl }
 begun {w} (is_name {s = u} long is after) = record { first = Name (number w u); after = drop w u; is = name_split w u long }
 begun (is_both {s = u} one_half other_half) = record { first = Conjunction; after = u; is = refl }
-begun (is_some {r = r} {s = u} filler) = record { first = Restriction r; after = u; is = refl }
+begun (is_some {r = r} {s = u} filler) = record { first = Restriction (record { 0 = r }); after = u; is = refl }
 
 pub data Splits (w : ℕ) : Constructor → List ℕ → List ℕ → Type 0 where
   at_top : {t : List ℕ} → Splits w Top (0 ∷ t) t
   at_name : {s : List ℕ} → w ≤ length s → Splits w (Name (number w s)) (1 ∷ s) (drop w s)
   at_both : {t : List ℕ} → Splits w Conjunction (2 ∷ t) t
-  at_some : {r : ℕ} {t : List ℕ} → Splits w (Restriction r) (3 ∷ (r ∷ t)) t
+  at_some : {r : ℕ} {t : List ℕ} → Splits w (Restriction (record { 0 = r })) (3 ∷ (r ∷ t)) t
 
 pub record SameSplit (k j : Constructor) (t u : List ℕ) : Type 0 where
   pub first : k ≡ j

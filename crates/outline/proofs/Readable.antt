@@ -58,7 +58,7 @@ module _ {w n m : ℕ} where
   first_of (more {p = p} (is_some {r = q} {c = c} {s = u} filler) within r) h =
       let y : suc p - 1 + 1 ≡ suc p = omega arith in
       record {
-        first = Restriction q;
+        first = Restriction (record { 0 = q });
         after = u;
         is = refl;
         known = and_left (ltb q m) (is_within n m c) within;

@@ -20,7 +20,7 @@ use Rattle.std.specs.Prelude.{Option, Some, None, IsSome}
 use Rattle.std.specs.Borrow.{Bor}
 use Rattle.release.specs.Versions.{width}
 use Rattle.release.specs.declared.number.Version.{Version}
-use Rattle.release.specs.declared.number.Version.TheVariants.{One, Two}
+use Rattle.release.specs.declared.number.Version.TheVariants.{One, Two, Three}
 use Rattle.concept.specs.Bytes.{number, Spelled, is_top, is_name, is_both, is_some, is_within, IsTextOf}
 use Rattle.outline.specs.declared.Atom.{Atom}
 use Rattle.outline.specs.declared.Constructor.{Constructor}
@@ -85,7 +85,7 @@ abbrev pub atoms_by : Constructor → ℕ → ℕ → ℕ → List Atom → List
 atoms_by Top owner roots count atoms = atoms
 atoms_by (Name x) owner roots count atoms = set atoms count (named x owner)
 atoms_by Conjunction owner roots count atoms = atoms
-atoms_by (Restriction r) owner roots count atoms = set atoms count (restricted r owner roots)
+atoms_by (Restriction r) owner roots count atoms = set atoms count (restricted r.0 owner roots)
 
 record Counted (k : Constructor) (roots count : ℕ) : Type 0 where
   more : count_by k count ≡ count + atoms_of k
@@ -160,7 +160,7 @@ module _ {w n m : ℕ} {c : Concept} {r : List ℕ} {roots count : ℕ} {owners 
         written)
     -- ∃: an atom, and its filler is pending, a new root
     read (state (onto {i = i} e st) text (one {o = o} {ps = ps} (is_some {r = role} {c = d} {s = u} filler) within rest) below reads written) p h =
-        let same : SameSplit k (Restriction role) t u = same_split w (3 ∷ (role ∷ u)) (rw text at first) refl in
+        let same : SameSplit k (Restriction (record { 0 = role })) t u = same_split w (3 ∷ (role ∷ u)) (rw text at first) refl in
         let z : suc i - 1 ≡ i = omega arith in
         let x : roots ≡ suc (roots - 1) = omega arith in
         rw (same.first, z, e, add-one i) (
@@ -175,6 +175,7 @@ module _ {w n m : ℕ} {c : Concept} {r : List ℕ} {roots count : ℕ} {owners 
 pub some_width : (v : Version) → 1 ≤ width v
 some_width One = omega arith
 some_width Two = omega arith
+some_width Three = omega arith
 
 split_in : (w : ℕ) (s : List ℕ) (o : Option (Constructor × Bor (List ℕ))) → SplitAs w s o → (split w s ≡ None → ⊥) → IsSome o
 split_in w s (Some p) is not_none = refl
@@ -237,5 +238,5 @@ ends {w} {r = r} {roots = roots} {count = count} {owners = owners} {atoms = atom
             rooted = written.rooted;
             later = written.later;
           };
-          means = λ al. same_chain same_without_top (reads_mean all_read (omega arith, tt) 0 (omega arith));
+          means = λ _. same_chain same_without_top (reads_mean all_read (omega arith, tt) 0 (omega arith));
         }

@@ -11,7 +11,7 @@
 use Rattle.std.specs.Prelude.{◌≡◌, List, [], ◌∷◌, Option, None, Some, ℕ, zero, suc, MatchOption, ◌≤◌, ◌<◌, eqb, length, get_or, drop}
 use Rattle.el.specs.Lists.{pick}
 use Rattle.el.specs.Concepts.{Concept, top, name, both, some}
-use Rattle.el.specs.Axioms.{Axiom}
+use Rattle.el.specs.Axioms.{Terminology}
 use Rattle.el.specs.Derivability.{Derives}
 use Rattle.concept.specs.Bytes.{number, IsTextOf}
 use Rattle.outline.specs.declared.Atom.{Atom}
@@ -24,14 +24,14 @@ abbrev pub named : ℕ → ℕ → Atom
 named x owner = record { owner = owner; conjunct = Name x }
 
 abbrev pub restricted : ℕ → ℕ → ℕ → Atom
-restricted r owner k = record { owner = owner; conjunct = Restriction r k }
+restricted r owner k = record { owner = owner; conjunct = Restriction (record { 0 = r }) k }
 
 abbrev pub blank : Atom
 blank = named 0 0
 
 abbrev pub value_in : Conjunct → ℕ
 value_in (Name x) = x
-value_in (Restriction r k) = r
+value_in (Restriction r k) = r.0
 
 abbrev pub value_of : Atom → ℕ
 value_of a = value_in a.conjunct
@@ -109,13 +109,13 @@ pub record Shape (n : ℕ) (o : Outline) : Type 0 where
   pub later : (i j : ℕ) → i < o.extent.atoms → j ≤ i → 0 < child_at o.atoms i → owner_at o.atoms j < child_at o.atoms i
 
 -- two concepts below each other
-pub record Same (al : List Axiom) (c d : Concept) : Type 0 where
-  pub to : Derives al c d
-  pub from : Derives al d c
+pub record Same (t : Terminology) (c d : Concept) : Type 0 where
+  pub to : Derives t c d
+  pub from : Derives t d c
 
 pub record Outlined (n : ℕ) (c : Concept) (o : Outline) : Type 0 where
   pub shape : Shape n o
-  pub means : (al : List Axiom) → Same al c (root_of (written o) 0)
+  pub means : (t : Terminology) → Same t c (root_of (written o) 0)
 
 -- what outlining asks: the text of a concept
 pub record Outlinable (w : ℕ) (s : List ℕ) : Type 0 where

@@ -27,14 +27,14 @@ abbrev pub is_known : ℕ → ℕ → Constructor → Bool
 is_known n m Top = true
 is_known n m (Name x) = ltb x n
 is_known n m Conjunction = true
-is_known n m (Restriction r) = ltb r m
+is_known n m (Restriction r) = ltb r.0 m
 
 abbrev pub found : Constructor → List ℕ → Option (Constructor × List ℕ)
 found k s = Some (k, s)
 
 abbrev pub split_role : List ℕ → Option (Constructor × List ℕ)
 split_role [] = None
-split_role (r ∷ s) = found (Restriction r) s
+split_role (r ∷ s) = found (Restriction (record { 0 = r })) s
 
 -- by the first byte
 abbrev pub split_by : ℕ → ℕ → List ℕ → Option (Constructor × List ℕ)

@@ -10,13 +10,14 @@ ghost use Rattle.outline.specs.Atoms.{BeginsWith, value_of, child_of, ChildGiven
 ghost use Rattle.outline.specs.Constructors.{arity, is_known, SplitAs};
 
 use concept::LONGEST;
+use release::RoleName;
 use release::number::Version;
 
 // A name, or an ∃ with the root that is its filler. A role is one byte, so that an atom takes six bytes and an outline 768 of a stack: there is no heap.
 #[derive(Clone, Copy, Debug, PartialEq, Eq)]
 pub enum Conjunct {
     Name(u16),
-    Restriction { role: u8, filler: u16 },
+    Restriction { role: RoleName, filler: u16 },
 }
 
 // A conjunct, and the root that it is one of.
@@ -38,7 +39,7 @@ impl Atom {
     {
         match self.conjunct {
             Conjunct::Name(name) => usize::from(name),
-            Conjunct::Restriction { role, .. } => usize::from(role),
+            Conjunct::Restriction { role, .. } => usize::from(role.0),
         }
     }
 
@@ -92,7 +93,7 @@ enum Constructor {
     Top,
     Name(u16),
     Conjunction,
-    Restriction(u8),
+    Restriction(RoleName),
 }
 
 impl Constructor {
@@ -113,7 +114,7 @@ impl Constructor {
     {
         match self {
             Constructor::Name(name) => usize::from(name) < names,
-            Constructor::Restriction(role) => usize::from(role) < roles,
+            Constructor::Restriction(role) => usize::from(role.0) < roles,
             Constructor::Top | Constructor::Conjunction => true,
         }
     }
@@ -130,7 +131,7 @@ fn split_constructor(bytes: &[u8], version: Version) -> Option<(Constructor, &[u
             Some((Constructor::Name(name), rest))
         }
         [2, rest @ ..] => Some((Constructor::Conjunction, rest)),
-        [3, role, rest @ ..] => Some((Constructor::Restriction(*role), rest)),
+        [3, role, rest @ ..] => Some((Constructor::Restriction(RoleName(*role)), rest)),
         _ => None,
     }
 }

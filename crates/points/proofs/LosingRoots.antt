@@ -1,6 +1,8 @@
 -- The roots that a row loses: what its loops keep, and one law for each turn.
---   reaching_..                               the line of the roots of which an atom reaches, atom by atom
---   lost_under_name, lost_under_restriction   the roots that do not lie below an atom, by its form
+--   other_role, by_root     whether an ∃ of C lies below one of D
+--   same_atom               an atom of a loop over the atoms that are written
+--   reaching_..             the line of the roots of which an atom reaches, atom by atom
+--   lost_outside            the row that lost the roots outside that line
 use mathlib.Core.Path.{◌≡◌, sym, ap, ◌∙◌}
 use mathlib.Core.List.{List}
 use mathlib.Core.Logic.{inl, inr}
@@ -10,19 +12,41 @@ use native.Mathlib.Omega.{arith}
 use native.Mathlib.Decide.{ℕ_discrete}
 use lib.ListN.{length, get_or, take}
 use lib.Seq.{get_or-take, length-take-le}
-use Rattle.el.proofs.Tests.{Tells}
-use Rattle.marks.specs.Lines.{Has, Empty, Added}
+use Rattle.std.specs.Prelude.{not}
+use Rattle.el.proofs.Tests.{Tells, never, not_both, tells_as, tells_not}
+use Rattle.release.specs.Tables.{serves_at}
+use Rattle.release.specs.declared.RoleName.{RoleName}
+use Rattle.marks.specs.Lines.{Has, Added}
 use Rattle.marks.proofs.Squares.{refuted}
 use Rattle.outline.specs.declared.Atom.{Atom}
+use Rattle.outline.specs.declared.Conjunct.TheVariants as conjunct
 use Rattle.outline.specs.declared.Outline.{Outline}
-use Rattle.outline.specs.Atoms.{blank, atom_at, owner_at}
+use Rattle.outline.specs.Atoms.{Rooted, blank, atom_at, owner_at}
 use Rattle.points.specs.declared.Grid.{Grid}
 use Rattle.points.specs.declared.Pairs.{Pairs}
 use Rattle.points.specs.declared.Classified.{Classified}
 use Rattle.points.specs.declared.Restriction.{Restriction}
-use Rattle.points.specs.Grids.{most_roots, root_bytes, Adds}
-use Rattle.points.specs.Roots.{AtomReaches, RootReaches, Reaching, LostNotReaching}
+use Rattle.points.specs.Above.{table_in}
+use Rattle.points.specs.Grids.{Pair, most_roots, Adds}
+use Rattle.points.specs.Roots.{AtomReaches, name_reaches, some_reaches, RootReaches, Reaching, LostNotReaching}
 use Rattle.points.proofs.Grids.{adds_as}
+use Rattle.points.proofs.Raising.{has_root}
+
+-- whether an ∃ of C lies below one of D
+module _ {g : Classified} {e : Atom} {role : RoleName} {k : ℕ} (is : e.conjunct ≡ conjunct.Restriction role k) (rooted : Rooted e) {ln : Grid} {l : Pairs} {r j : ℕ} where
+  pub other_role : serves_at (table_in g) role.0 r ≡ false → Tells false (AtomReaches g e ln l r j)
+  other_role missed = never by_form
+    where
+      by_form : AtomReaches g e ln l r j → ⊥
+      by_form (name_reaches c m) = omega (arith, has_root e is rooted)
+      by_form (some_reaches c s m) = not_both (rw is at s) missed
+
+  pub by_root : {z : Bool} → serves_at (table_in g) role.0 r ≡ true → Tells z (Pair l j k) → Tells (not z) (AtomReaches g e ln l r j)
+  by_root serves tells = tells_as (λ kept. some_reaches (has_root e is rooted) (rw is serves) (rw is kept)) by_form (tells_not tells)
+    where
+      by_form : AtomReaches g e ln l r j → Pair l j k → ⊥
+      by_form (name_reaches c m) = absurd (omega (arith, has_root e is rooted))
+      by_form (some_reaches c s m) = rw is at m
 
 -- an atom of a loop over the atoms that are written
 pub same_atom : (o : Outline) {s : List Atom} {i : ℕ} → o.extent.atoms ≤ length o.atoms → s ≡ take o.extent.atoms o.atoms → i < length s
@@ -31,45 +55,35 @@ same_atom o {s} {i} inside is h =
     let there : i < o.extent.atoms = omega (arith, h, ap length is, length-take-le o.extent.atoms o.atoms inside) in
     (there, rw is (get_or-take _ _ i blank there))
 
-module _ {g : Classified} {o : Outline} {ln : Grid} {l : Pairs} {r j : ℕ} where
-  pub reaching_none : {v : List ℕ} → root_bytes ≤ length v → Empty v → Reaching g o 0 ln l r j v
-  reaching_none long empty = record { long = long; sound = λ k h. absurd (empty.none k h); complete = λ i h m. absurd (omega arith) }
+module _ {g : Classified} {o : Outline} {ln : Grid} {l : Pairs} {r j e : ℕ} {v : List ℕ} (before : Reaching g o e ln l r j v) {x : Atom} (is : x ≡ atom_at o.atoms e) where
+  pub reaching_not : {z : Bool} → Tells z (AtomReaches g x ln l r j) → z ≡ false → Reaching g o (e + 1) ln l r j v
+  reaching_not tells z = record { long = before.long; sound = before.sound; complete = λ i h m. by_place i h m (ℕ_discrete i e) }
+    where
+      by_place : (i : ℕ) → i < e + 1 → AtomReaches g (atom_at o.atoms i) ln l r j → Dec (i ≡ e) → Has v (owner_at o.atoms i)
+      by_place i h m (yes y) = absurd (refuted tells z (rw (y, ← is) at m))
+      by_place i h m (no y) = before.complete i (omega arith) m
 
-  module _ {e : ℕ} {v : List ℕ} (before : Reaching g o e ln l r j v) {x : Atom} (is : x ≡ atom_at o.atoms e) where
-    own : x.owner ≡ owner_at o.atoms e
-    own = ap (λ (a : Atom). a.owner) is
+  pub reaching_more : {u : List ℕ} {z : Bool} → e < o.extent.atoms → Tells z (AtomReaches g x ln l r j) → z ≡ true → Added x.owner v u → Reaching g o (e + 1) ln l r j u
+  reaching_more {u} inside tells z added = record {
+    long = omega (arith, before.long, added.long);
+    sound = λ b h. elim (added.only b h) [
+      | inl y ↦ before.sound b y
+      | inr y ↦ record { by = e; is_atom = inside; owner = sym own ∙ sym y; reaches = rw (← is) (tells.sound z) }
+    ];
+    complete = λ i h m. by_place i h m (ℕ_discrete i e);
+  }
+    where
+      own : x.owner ≡ owner_at o.atoms e
+      own = ap (λ (a : Atom). a.owner) is
 
-    passed : (AtomReaches g x ln l r j → Has v x.owner) → Reaching g o (e + 1) ln l r j v
-    passed f = record { long = before.long; sound = before.sound; complete = λ i h m. by_place i h m (ℕ_discrete i e) }
-      where
-        by_place : (i : ℕ) → i < e + 1 → AtomReaches g (atom_at o.atoms i) ln l r j → Dec (i ≡ e) → Has v (owner_at o.atoms i)
-        by_place i h m (yes z) = rw (z, ← own) (f (rw (z, ← is) at m))
-        by_place i h m (no z) = before.complete i (omega arith) m
-
-    pub reaching_had : {z : Bool} → Tells z (Has v x.owner) → z ≡ true → Reaching g o (e + 1) ln l r j v
-    reaching_had tells z = passed (λ m. tells.sound z)
-
-    pub reaching_not : {z : Bool} → Tells z (AtomReaches g x ln l r j) → z ≡ false → Reaching g o (e + 1) ln l r j v
-    reaching_not tells z = passed (λ m. absurd (refuted tells z m))
-
-    pub reaching_more : {u : List ℕ} {z : Bool} → e < o.extent.atoms → Tells z (AtomReaches g x ln l r j) → z ≡ true → Added x.owner v u → Reaching g o (e + 1) ln l r j u
-    reaching_more {u} inside tells z added = record {
-      long = omega (arith, before.long, added.long);
-      sound = λ b h. elim (added.only b h) [
-        | inl y ↦ before.sound b y
-        | inr y ↦ record { by = e; is_atom = inside; owner = sym own ∙ sym y; reaches = rw (← is) (tells.sound z) }
-      ];
-      complete = λ i h m. by_place i h m (ℕ_discrete i e);
-    }
-      where
-        by_place : (i : ℕ) → i < e + 1 → AtomReaches g (atom_at o.atoms i) ln l r j → Dec (i ≡ e) → Has u (owner_at o.atoms i)
-        by_place i h m (yes y) = rw (y, ← own) added.there
-        by_place i h m (no y) = added.stays _ (before.complete i (omega arith) m)
+      by_place : (i : ℕ) → i < e + 1 → AtomReaches g (atom_at o.atoms i) ln l r j → Dec (i ≡ e) → Has u (owner_at o.atoms i)
+      by_place i h m (yes y) = rw (y, ← own) added.there
+      by_place i h m (no y) = added.stays _ (before.complete i (omega arith) m)
 
 -- the line of all atoms, and the row that lost what is outside
-pub lost_outside : {g : Classified} {o : Outline} {x : Restriction} {row : ℕ} {l m : Pairs} {v : List ℕ} → Reaching g o o.extent.atoms x.lost.now l x.role x.root v
+pub lost_outside : {g : Classified} {o : Outline} {x : Restriction} {row : ℕ} {l m : Pairs} {v : List ℕ} → Reaching g o o.extent.atoms x.lost.now l x.role.0 x.root v
     → Adds most_roots row most_roots (λ k. Has v k → ⊥) (Has v) l.rows m.rows → LostNotReaching g o row x l m
 lost_outside {g} {o} {x} {row} {l} {m} {v} reaching adds = record { adds = adds_as (λ k n h. n (back k h)) (λ k h. reaching.sound k h) adds }
   where
-    back : (k : ℕ) → RootReaches g o x.lost.now l k x.role x.root → Has v k
+    back : (k : ℕ) → RootReaches g o x.lost.now l k x.role.0 x.root → Has v k
     back k h = rw h.owner at (reaching.complete h.by h.is_atom h.reaches)

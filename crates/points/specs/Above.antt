@@ -6,9 +6,9 @@
 --   RootBelow g a k y            root k lies below the node y: ⊤; all its conjuncts are set; or it is
 --   AtomBelow g b a y            the atom b lies below the name y, which is not defined by a conjunction
 --   Risen g b a c                the row of b's owner gained the names that lie above b: the grid a became c
-use Rattle.std.specs.Prelude.{◌≡◌, List, ℕ, ◌<◌}
-use Rattle.release.specs.Tables.{kind_at, role_at, filler_at, count_at, part_at, Shaped}
-use Rattle.release.specs.declared.table.Row as table
+use Rattle.std.specs.Prelude.{◌≡◌, true, List, ℕ, ◌<◌}
+use Rattle.release.specs.Tables.{kind_at, role_at, filler_at, serves_at, count_at, part_at, Shaped}
+use Rattle.release.specs.declared.table.Table.{Table}
 use Rattle.marks.specs.Squares.{Room, Marked}
 use Rattle.outline.specs.declared.Atom.{Atom}
 use Rattle.outline.specs.Atoms.{child_number, value_of, Rooted}
@@ -19,7 +19,7 @@ use Rattle.points.specs.Grids.{most_roots, most_nodes, Set, Adds}
 abbrev pub file_in : Classified → List ℕ
 file_in g = g.terminology.file.now
 
-abbrev pub table_in : Classified → List table.Row
+abbrev pub table_in : Classified → Table
 table_in g = g.terminology.table.now
 
 abbrev pub Includes : Classified → ℕ → ℕ → Type 0
@@ -39,7 +39,8 @@ pub data RootBelow (g : Classified) (a : Grid) (k y : ℕ) : Type 0 where
 
 pub data AtomBelow (g : Classified) (b : Atom) (a : Grid) (y : ℕ) : Type 0 where
   name_below : (kind_at (table_in g) y ≡ 2 → ⊥) → child_number b ≡ 0 → Includes g (value_of b) y → AtomBelow g b a y
-  some_below : kind_at (table_in g) y ≡ 4 → 0 < child_number b → role_at (table_in g) y ≡ value_of b → RootBelow g a (child_number b) (filler_at (table_in g) y) → AtomBelow g b a y
+  some_below : kind_at (table_in g) y ≡ 4 → 0 < child_number b → serves_at (table_in g) (value_of b) (role_at (table_in g) y) ≡ true
+      → RootBelow g a (child_number b) (filler_at (table_in g) y) → AtomBelow g b a y
 
 pub record InRow (g : Classified) (k y : ℕ) : Type 0 where
   pub ranges : Ranges g

@@ -1,6 +1,7 @@
 -- The roots of a concept C that lie below an atom of a concept D, by what the rows of the atom's child have lost. The release and the square of the
 -- inclusions between its nodes are g; c is C, its outline with the rows above its roots.
---   AtomReaches g e ln l r j        the atom e of C lies below ∃r over root j of D: as a name, or by a root that row j of l has not lost
+--   AtomReaches g e ln l r j        the atom e of C lies below ∃r over root j of D: as a name, or as an ∃ of a role that serves for r over a root that row
+--                                   j of l has not lost
 --   RootReaches g o ln l k r j      an atom of root k does, by the outline o of C
 --   Reaching g o e ln l r j v       the line v has just roots of which an atom does, and all those of which one of the first e atoms does
 --   UnderName g c b k               root k of C lies below the atom b of D, where that is a name
@@ -9,7 +10,8 @@
 --   LostNotReaching g o k x l v     row k lost the roots that do not lie below the ∃ x
 --   NamesLost g c b l v             the row of b's owner lost the roots that do not lie below b, where it is a name: the grid l became v
 --   RootsLost g o b ln l v          and where it is an ∃
-use Rattle.std.specs.Prelude.{◌≡◌, List, ℕ, ◌≤◌, ◌<◌, length}
+use Rattle.std.specs.Prelude.{◌≡◌, true, List, ℕ, ◌≤◌, ◌<◌, length}
+use Rattle.release.specs.Tables.{serves_at}
 use Rattle.marks.specs.Lines.{Has}
 use Rattle.outline.specs.declared.Atom.{Atom}
 use Rattle.outline.specs.declared.Outline.{Outline}
@@ -20,7 +22,7 @@ use Rattle.points.specs.declared.Classified.{Classified}
 use Rattle.points.specs.declared.Subsumee.{Subsumee}
 use Rattle.points.specs.declared.Restriction.{Restriction}
 use Rattle.points.specs.Grids.{most_roots, root_bytes, Pair, Adds}
-use Rattle.points.specs.Above.{Ranges, RootBelow, ValueInRange, InRange}
+use Rattle.points.specs.Above.{table_in, Ranges, RootBelow, ValueInRange, InRange}
 use Rattle.points.specs.Nodes.{Inclusive, NodeReaches}
 
 abbrev pub outline_of : Subsumee → Outline
@@ -28,7 +30,7 @@ outline_of c = c.outline.now
 
 pub data AtomReaches (g : Classified) (e : Atom) (ln : Grid) (l : Pairs) (r j : ℕ) : Type 0 where
   name_reaches : child_number e ≡ 0 → NodeReaches g ln (value_of e) r j → AtomReaches g e ln l r j
-  some_reaches : 0 < child_number e → value_of e ≡ r → (Pair l j (child_number e) → ⊥) → AtomReaches g e ln l r j
+  some_reaches : 0 < child_number e → serves_at (table_in g) (value_of e) r ≡ true → (Pair l j (child_number e) → ⊥) → AtomReaches g e ln l r j
 
 pub record RootReaches (g : Classified) (o : Outline) (ln : Grid) (l : Pairs) (k r j : ℕ) : Type 0 where
   pub by : ℕ
@@ -86,7 +88,7 @@ pub record LostNotBelow (g : Classified) (c : Subsumee) (row y : ℕ) (l v : Pai
   pub adds : Adds most_roots row (outline_of c).extent.roots (λ k. RootBelow g c.above.now k y → ⊥) (λ k. RootBelow g c.above.now k y) l.rows v.rows
 
 pub record LostNotReaching (g : Classified) (o : Outline) (row : ℕ) (x : Restriction) (l v : Pairs) : Type 0 where
-  pub adds : Adds most_roots row most_roots (λ k. RootReaches g o x.lost.now l k x.role x.root → ⊥) (λ k. RootReaches g o x.lost.now l k x.role x.root) l.rows v.rows
+  pub adds : Adds most_roots row most_roots (λ k. RootReaches g o x.lost.now l k x.role.0 x.root → ⊥) (λ k. RootReaches g o x.lost.now l k x.role.0 x.root) l.rows v.rows
 
 pub record NamesLost (g : Classified) (c : Subsumee) (b : Atom) (l v : Pairs) : Type 0 where
   pub adds : Adds most_roots b.owner (outline_of c).extent.roots (λ k. UnderName g c b k → ⊥) (UnderName g c b) l.rows v.rows

@@ -49,8 +49,7 @@ impl Classified<'_> {
                 if !self.terminology.has_kind(name, Kind::DefinedRestriction) {
                     return false;
                 }
-                let same_role = self.terminology.role(name) == usize::from(role);
-                if !same_role {
+                if !self.terminology.serves(role, self.terminology.role(name)) {
                     return false;
                 }
                 let node = self.terminology.filler(name);

@@ -11,6 +11,7 @@ ghost use Rattle.points.specs.Nodes.{RestrictionOf};
 
 use marks::{Square, line};
 use outline::{Atom, Outline};
+use release::RoleName;
 use release::terminology::Terminology;
 
 pub mod above;
@@ -123,7 +124,7 @@ pub struct Subsumer<'a> {
 // node lies below the ∃.
 #[derive(Clone, Copy, Debug, PartialEq, Eq)]
 pub struct Restriction<'a> {
-    pub role: usize,
+    pub role: RoleName,
     pub root: usize,
     pub lost: &'a Grid,
     pub idle: &'a [u8],
@@ -131,12 +132,12 @@ pub struct Restriction<'a> {
 
 impl<'a> Subsumer<'a> {
     // The ∃ that the atom is, by its role and its filler.
-    fn restriction(&self, role: u8, filler: u16) -> Restriction<'a>
+    fn restriction(&self, role: RoleName, filler: u16) -> Restriction<'a>
         requires { self.now.atom.conjunct ≡ conjunct.Restriction role filler }
         ensures { RestrictionOf self.now (Some result) }
     {
         Restriction {
-            role: usize::from(role),
+            role,
             root: usize::from(filler),
             lost: self.lost,
             idle: self.idle,

@@ -5,21 +5,22 @@ ghost use Rattle.release.specs.Files.{restricts};
 ghost use Rattle.release.specs.Tables.{kind_at, filler_at, HasRow};
 ghost use Rattle.outline.specs.Atoms.{child_number};
 ghost use Rattle.points.specs.Above.{table_in};
-ghost use Rattle.points.specs.Nodes.{Serves, Idle, IdleOf, IdleBy, IdleFor, NodeReaches, NodeBelow, Ranged, FromNode, OfAtom, NodesLost};
+ghost use Rattle.points.specs.Nodes.{AxiomReaches, Idle, IdleOf, IdleBy, IdleFor, NodeReaches, NodeBelow, Ranged, FromNode, OfAtom, NodesLost};
 ghost use Rattle.points.specs.Grids.{most_roots, most_nodes};
 ghost use Rattle.marks.specs.Lines.{Spans, Empty};
 
 use crate::{Classified, Grid, Restriction, Subsumer};
 use marks::line;
 use outline::{Atom, Conjunct};
+use release::RoleName;
 
 impl Classified<'_> {
-    // Whether a name has an axiom ∃ of the role whose filler the row of the root has not lost.
-    fn serves(&self, lost: &Grid, role: usize, root: usize, name: usize) -> bool
-        requires has_row { HasRow (table_in self.now) name
+    // Whether the axiom of a name is an ∃ of a role that serves for the one asked, and the row of the root has not lost its filler.
+    fn axiom_reaches(&self, lost: &Grid, role: RoleName, root: usize, name: usize) -> bool
+        requires has_row { HasRow name
             × (restricts (kind_at (table_in self.now) name) ≡ true → filler_at (table_in self.now) name < most_nodes) }
         requires root_lt_most_roots { root < most_roots }
-        ensures { Tells result (Serves self.now lost.now role root name) }
+        ensures { Tells result (AxiomReaches self.now lost.now role.0 root name) }
     {
         let Some(filler) = self.terminology.successor(name, role) else {
             return false;
@@ -27,15 +28,15 @@ impl Classified<'_> {
         !lost.has(root, filler)
     }
 
-    // Adds to the line the names that do not serve: no node lies below ∃ of the role over the root by one of them. Names are numbers here, which no
-    // slice holds.
-    fn find_idle(&self, lost: &Grid, idle: &mut [u8], role: usize, root: usize)
+    // Adds to the line the names whose axioms do not reach: no node lies below ∃ of the role over the root by one of them. Names are numbers here,
+    // which no slice holds.
+    fn find_idle(&self, lost: &Grid, idle: &mut [u8], role: RoleName, root: usize)
         requires ranged { Ranged self.now }
         requires spans { Spans self.now.square.names idle.old × Empty idle.old × (root < most_roots) }
-        ensures { Idle self.now lost.now role root idle.new }
+        ensures { Idle self.now lost.now role.0 root idle.new }
     {
         for name in 0..self.square.names {
-            if !self.serves(lost, role, root, name) {
+            if !self.axiom_reaches(lost, role, root, name) {
                 line::add(idle, name);
             }
         }
@@ -49,7 +50,7 @@ impl Classified<'_> {
         ensures { IdleOf self.now lost.now atom idle.new }
     {
         if let Conjunct::Restriction { role, filler } = atom.conjunct {
-            self.find_idle(lost, idle, usize::from(role), usize::from(filler));
+            self.find_idle(lost, idle, role, usize::from(filler));
         }
     }
 
@@ -57,7 +58,7 @@ impl Classified<'_> {
     pub fn node_reaches(&self, restriction: &Restriction, node: usize) -> bool
         requires from_node { FromNode self.now node restriction.now.root }
         requires idle { IdleFor self.now restriction.now }
-        ensures { Tells result (NodeReaches self.now restriction.now.lost.now node restriction.now.role restriction.now.root) }
+        ensures { Tells result (NodeReaches self.now restriction.now.lost.now node restriction.now.role.0 restriction.now.root) }
     {
         // a loop, not `any`: of an iterator of its own a proof by `any` asks laws of its runs, as release has them for conjuncts, for this one place
         for name in self.square.outside(self.work, node, restriction.idle) {
@@ -65,7 +66,7 @@ impl Classified<'_> {
             if name == self.square.names {
                 return false;
             }
-            if self.serves(restriction.lost, restriction.role, restriction.root, name) {
+            if self.axiom_reaches(restriction.lost, restriction.role, restriction.root, name) {
                 return true;
             }
         }

@@ -14,18 +14,18 @@ use marks::line::Line;
 use outline::{Atom, Conjunct, Outline};
 
 impl Classified<'_> {
-    // Whether an atom of C lies below an ∃ of D: a name that does, or an ∃ of the role over a root that the row of D's root has not lost. `lost` is the
-    // grid of roots, and the restriction has that of nodes.
+    // Whether an atom of C lies below an ∃ of D: a name that does, or an ∃ of a role that serves over a root that the row of D's root has not lost.
+    // `lost` is the grid of roots, and the restriction has that of nodes.
     fn atom_reaches(&self, atom: Atom, restriction: &Restriction, lost: &Pairs) -> bool
         requires from_root { FromRoot self.now atom restriction.now.root }
         requires idle { IdleFor self.now restriction.now }
-        ensures { Tells result (AtomReaches self.now atom restriction.now.lost.now lost.now restriction.now.role restriction.now.root) }
+        ensures { Tells result (AtomReaches self.now atom restriction.now.lost.now lost.now restriction.now.role.0 restriction.now.root) }
     {
         match atom.conjunct {
             Conjunct::Name(name) => self.node_reaches(restriction, usize::from(name)),
             Conjunct::Restriction { role, filler } => {
-                let same_role = usize::from(role) == restriction.role;
-                same_role && !lost.has(restriction.root, usize::from(filler))
+                self.terminology.serves(role, restriction.role)
+                    && !lost.has(restriction.root, usize::from(filler))
             }
         }
     }
@@ -41,7 +41,7 @@ impl Classified<'_> {
         requires from_roots { FromRoots self.now outline.now restriction.now.root }
         requires idle { IdleFor self.now restriction.now }
         requires reaching { (root_bytes ≤ length reaching.old) × Empty reaching.old }
-        ensures { Reaching self.now outline.now outline.now.extent.atoms restriction.now.lost.now lost.now restriction.now.role restriction.now.root reaching.new }
+        ensures { Reaching self.now outline.now outline.now.extent.atoms restriction.now.lost.now lost.now restriction.now.role.0 restriction.now.root reaching.new }
     {
         for atom in outline.atoms() {
             if self.atom_reaches(*atom, restriction, lost) {

@@ -15,7 +15,7 @@ use Rattle.release.specs.Files.{fault, first_of, header_length, width_of, names_
 use Rattle.release.specs.Readings.{checked, counts_in}
 use Rattle.release.specs.Refusals.{Numbers, file_number, file_refusal}
 use Rattle.release.specs.Tables.{HasHeader, ReleaseRead}
-use Rattle.release.specs.declared.table.Row as table
+use Rattle.release.specs.declared.table.Table.{Table}
 use Rattle.release.specs.declared.terminology.Terminology.{Terminology}
 use Rattle.release.specs.declared.Counts.{Counts}
 use Rattle.release.specs.declared.refusals.FileRefusal.{FileRefusal}
@@ -51,7 +51,7 @@ module _ {x : Terminology} {c d w : List ℕ} (given : ToAnswer x c d w) where
   pub few_of : {n : ℕ} → n ≡ names_of x.file.now → n < most_nodes
   few_of e = omega (arith, few)
 
-  long_header : header_length (width_of x.file.now) ≤ length x.file.now
+  long_header : header_length (width_of x.file.now) false ≤ length x.file.now
   long_header = (header_sound x.file.now (linked.no_header_fault x.file.now given.release.accepted)).long
 
   pub three : 3 < length x.file.now
@@ -127,7 +127,7 @@ module _ (s c d w : List ℕ) where
     cleared = λ h. absurd (omega arith);
   }
 
-  pub refuses_release : {t : List table.Row} {k : FileRefusal} → ReleaseRead s t (Err k) → AskedAs s c d w w (Err (refusals.Release k))
+  pub refuses_release : {t : Table} {k : FileRefusal} → ReleaseRead s t (Err k) → AskedAs s c d w w (Err (refusals.Release k))
   unfolding checked refusal_number refusal_side
   refuses_release {k = k} read =
       let refused = is_refused 1 (fault s) (counts_in s) (file_refusal k) read.answer in
@@ -135,7 +135,7 @@ module _ (s c d w : List ℕ) where
       refused_as (refusals.Release k) (omega (arith, refused.1)) (first_positive (fault s) _ refused.1 ∙ sym number) (rw (ne_eqb (fault s) 0 (λ z. omega (arith, refused.1))))
 
 -- an accepted release
-module _ {s : List ℕ} {t : List table.Row} {counts : Counts} (read : ReleaseRead s t (Ok counts)) where
+module _ {s : List ℕ} {t : Table} {counts : Counts} (read : ReleaseRead s t (Ok counts)) where
   ok : fault s ≡ 0
   ok = (is_release read).accepted
 

@@ -2,18 +2,18 @@
 --   reach_sound, reach_complete       a node lies below ∃r over a root by that root's row exactly where it does
 --   node_below_sound, -complete       a node lies below an atom by the row of its child exactly where it does
 -- Not here: the roots of C below an atom (BelowRoots).
-use mathlib.Core.Path.{◌≡◌, refl, sym, ◌∙◌}
-use mathlib.Core.List.{List}
+use mathlib.Core.Path.{◌≡◌, refl}
 use Prim.Native.Nat.{ℕ, suc, ◌≤◌, ◌<◌}
 use native.Mathlib.Omega.{arith}
 use native.Mathlib.Decide.{ℕ_discrete}
 use Rattle.el.specs.Concepts.{Concept, name, some, Node, everything, named, concept_of}
-use Rattle.el.specs.Axioms.{Axiom, filler_of}
-use Rattle.el.specs.Derivability.{Derives, under}
+use Rattle.el.specs.Axioms.{role_of, filler_of}
+use Rattle.el.specs.Derivability.{Derives, Under, under}
 use Rattle.el.proofs.Derivations.{◌▹◌, Restricts, to_filler}
 use Rattle.el.proofs.CanonicalModel.{Within, Edge, written, implied, inversion}
 use Rattle.release.specs.Files.{restricts}
 use Rattle.release.specs.Tables.{filler_at}
+use Rattle.release.proofs.Linked.{tells_serves_at}
 use Rattle.classification.specs.Inclusions.{node_at}
 use Rattle.classification.proofs.AxiomRows as rows
 use Rattle.outline.specs.declared.Atom.{Atom}
@@ -23,7 +23,7 @@ use Rattle.points.specs.declared.Classified.{Classified}
 use Rattle.points.specs.Grids.{most_nodes}
 use Rattle.points.specs.Above.{table_in}
 use Rattle.points.specs.Nodes.{NodeReaches, NodeBelow, below_name, below_some}
-use Rattle.question.specs.Evaluation.{World, axioms_in, KeptRow, node_point}
+use Rattle.question.specs.Evaluation.{World, content_in, KeptRow, node_point}
 use Rattle.question.proofs.Worlds.{Found, row_of, marked_below, below_marked, filler_node_lem, filler_small}
 use Rattle.question.proofs.AboveRoots.{some_atom}
 
@@ -33,28 +33,26 @@ no_some_within (named y) w = elim w [ ]
 
 -- nodes
 module _ {g : Classified} (world : World g) where
-  abbrev al : List Axiom
-  al = axioms_in g
-
   abbrev n : ℕ
   n = g.square.names
 
-  module _ {l : Grid} {j : ℕ} {d : Concept} (row : KeptRow most_nodes (axioms_in g) (node_point n) (suc n) l.rows j d) where
-    pub reach_sound : (x r : ℕ) → x ≤ n → NodeReaches g l x r j → Derives (axioms_in g) (node_point n x) (some r d)
+  module _ {l : Grid} {j : ℕ} {d : Concept} (row : KeptRow most_nodes (content_in g) (node_point n) (suc n) l.rows j d) where
+    pub reach_sound : (x r : ℕ) → x ≤ n → NodeReaches g l x r j → Derives (content_in g) (node_point n x) (some r d)
     reach_sound x r h reaches =
-        let leads = reaches.leads in
-        let f = rows.restricted world.release world.names reaches.by reaches.is_name leads.is_restriction in
-        let k = rows.is_restriction f leads.is_restriction in
-        let restricts : Restricts f.it r (concept_of (filler_of f.it)) = record { is_restriction = k; role = sym (rows.role_is f k) ∙ leads.role; filler = refl } in
-        let below : Derives al (node_point n x) (name f.it.left) = rw f.left (marked_below world x reaches.by h reaches.is_name leads.above) in
-        let filler = rw (filler_node_lem world f k) at (row.kept (filler_at (table_in g) reaches.by) (omega (arith, filler_small world reaches.by reaches.is_name leads.is_restriction)) leads.kept) in
+        let own = reaches.leads.reaches in
+        let f = rows.restricted world.release world.names reaches.by reaches.is_name own.is_restriction in
+        let k = rows.is_restriction f own.is_restriction in
+        let role : Under (content_in g).roles (role_of f.it) r = (tells_serves_at world.release _ _).sound (rw (← rows.role_is f k) own.role) in
+        let restricts : Restricts (content_in g) f.it r (concept_of (filler_of f.it)) = record { is_restriction = k; role = role; filler = refl } in
+        let below : Derives (content_in g) (node_point n x) (name f.it.left) = rw f.left (marked_below world x reaches.by h reaches.is_name reaches.leads.above) in
+        let filler = rw (filler_node_lem world f k) at (row.kept (filler_at (table_in g) reaches.by) (omega (arith, filler_small world reaches.by reaches.is_name own.is_restriction)) own.kept) in
         below ▹ to_filler f.member restricts ▹ under filler
 
-    pub reach_complete : (x r : ℕ) → x ≤ n → Derives (axioms_in g) (node_point n x) (some r d) → NodeReaches g l x r j
+    pub reach_complete : (x r : ℕ) → x ≤ n → Derives (content_in g) (node_point n x) (some r d) → NodeReaches g l x r j
     reach_complete x r h p = let step = inversion p in by_edge step.to step.by_edge step.then
       where
-        by_edge : (e : Concept) → Edge (axioms_in g) r (node_point n x) e → Derives (axioms_in g) e d → NodeReaches g l x r j
-        by_edge e (written within) p = absurd (no_some_within (node_at n x) within)
+        by_edge : (e : Concept) → Edge (content_in g) r (node_point n x) e → Derives (content_in g) e d → NodeReaches g l x r j
+        by_edge e (written within widens) p = absurd (no_some_within (node_at n x) within)
         by_edge e (implied {a = a} a_in restricts above) p =
             let f : Found g a.left = row_of world a_in in
             let k = restricts.is_restriction in
@@ -65,20 +63,22 @@ module _ {g : Classified} (world : World g) where
               by = a.left;
               is_name = is_name;
               leads = record {
-                is_restriction = kind;
-                role = rows.role_is f k ∙ restricts.role;
                 above = below_marked world x a.left h is_name above;
-                kept = λ m. row.lost (filler_at (table_in g) a.left) (omega arith) m (rw (filler_node_lem world f k, restricts.filler) p);
+                reaches = record {
+                  is_restriction = kind;
+                  role = rw (rows.role_is f k) ((tells_serves_at world.release _ _).complete restricts.role);
+                  kept = λ m. row.lost (filler_at (table_in g) a.left) (omega arith) m (rw (filler_node_lem world f k, restricts.filler) p);
+                };
               };
             }
 
-  module _ {l : Grid} {b : Atom} {d : Concept} (row : 0 < child_number b → KeptRow most_nodes (axioms_in g) (node_point n) (suc n) l.rows (child_number b) d)
+  module _ {l : Grid} {b : Atom} {d : Concept} (row : 0 < child_number b → KeptRow most_nodes (content_in g) (node_point n) (suc n) l.rows (child_number b) d)
       (named_in : child_number b ≡ 0 → value_of b < n) (x : ℕ) (h : x ≤ n) where
-    pub node_below_sound : NodeBelow g b l x → Derives (axioms_in g) (node_point n x) (atom_concept (child_number b) (value_of b) d)
+    pub node_below_sound : NodeBelow g b l x → Derives (content_in g) (node_point n x) (atom_concept (child_number b) (value_of b) d)
     node_below_sound (below_name k m) = rw k (marked_below world x (value_of b) h (named_in k) m)
     node_below_sound (below_some k m) = rw (some_atom {r = value_of b} {d = d} (child_number b) k) (reach_sound (row k) x (value_of b) h m)
 
-    pub node_below_complete : Derives (axioms_in g) (node_point n x) (atom_concept (child_number b) (value_of b) d) → NodeBelow g b l x
+    pub node_below_complete : Derives (content_in g) (node_point n x) (atom_concept (child_number b) (value_of b) d) → NodeBelow g b l x
     node_below_complete p = by_child (ℕ_discrete (child_number b) 0)
       where
         by_child : Dec (child_number b ≡ 0) → NodeBelow g b l x

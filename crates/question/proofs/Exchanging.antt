@@ -4,7 +4,7 @@ use mathlib.Core.Path.{◌≡◌}
 use mathlib.Core.List.{List}
 use Prim.Native.Nat.{ℕ}
 use Rattle.std.specs.Prelude.{Ok}
-use Rattle.release.specs.Files.{axioms_of}
+use Rattle.release.specs.Files.{content_of}
 use Rattle.release.proofs.Refusing.{is_accepted}
 use Rattle.demands.specs.Inputs.{concept_in}
 use Rattle.demands.specs.Lying.{Lies, exchanged}
@@ -14,7 +14,7 @@ use Rattle.question.specs.Positions.{position_number}
 use Rattle.question.specs.Asking.{AskedAs}
 
 -- what is answered where nothing is refused
-held : {s c d w v : List ℕ} {p : Position} → AskedAs s c d w v (Ok p) → Lies (axioms_of s) (concept_in s c) (concept_in s d) (position_number p)
+held : {s c d w v : List ℕ} {p : Position} → AskedAs s c d w v (Ok p) → Lies (content_of s) (concept_in s c) (concept_in s d) (position_number p)
 held {p = p} asked =
     let told = is_accepted _ _ asked.value p asked.answer in
     rw told.1 (asked.held told.0)

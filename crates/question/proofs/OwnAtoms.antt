@@ -9,9 +9,9 @@ use Prim.Native.Nat.{ℕ, zero, suc, ◌+◌, ◌-◌, ◌≤◌, ◌<◌}
 use native.Mathlib.Omega.{arith}
 use native.Mathlib.Decide.{ℕ_discrete, dec_lt}
 use Rattle.el.specs.Concepts.{Concept, some}
-use Rattle.el.specs.Axioms.{Axiom}
+use Rattle.el.specs.Axioms.{Terminology}
 use Rattle.el.specs.Derivability.{Derives, same, to_top, one, other, meet}
-use Rattle.el.specs.Terminologies.{Terminology}
+use Rattle.el.specs.Terminologies.{Normalised}
 use Rattle.el.proofs.Derivations.{◌▹◌}
 use Rattle.el.proofs.Terminologies.{top_below_some, both_below_some}
 use Rattle.outline.specs.declared.Atom.{Atom}
@@ -36,27 +36,27 @@ root_skips o k j (suc m) left apart =
     rw y (root_other o j (m + left) k (apart j (omega arith)) ∙ (root_skips o k (suc j) m left (λ i h. apart i (omega arith)) ∙ rw z))
 
 -- an atom of root k below ∃r.d, among those from j on
-pub record SomeAtom (al : List Axiom) (o : List Atom) (j left k r : ℕ) (d : Concept) : Type 0 where
+pub record SomeAtom (t : Terminology) (o : List Atom) (j left k r : ℕ) (d : Concept) : Type 0 where
   pub at : ℕ
   pub from : j ≤ at
   pub inside : at < j + left
   pub owner : owner_at o at ≡ k
-  pub below : Derives al (atom_up_to o (j + left) at) (some r d)
+  pub below : Derives t (atom_up_to o (j + left) at) (some r d)
 
-module _ {al : List Axiom} (o : List Atom) where
-  root_longer : (j left k : ℕ) → Derives al (root_of (atoms_from o j (suc left)) k) (root_of (atoms_from o (suc j) left) k)
+module _ {t : Terminology} (o : List Atom) where
+  root_longer : (j left k : ℕ) → Derives t (root_of (atoms_from o j (suc left)) k) (root_of (atoms_from o (suc j) left) k)
   root_longer j left k = by_owner (ℕ_discrete (owner_at o j) k)
     where
-      by_owner : Dec (owner_at o j ≡ k) → Derives al (root_of (atoms_from o j (suc left)) k) (root_of (atoms_from o (suc j) left) k)
+      by_owner : Dec (owner_at o j ≡ k) → Derives t (root_of (atoms_from o j (suc left)) k) (root_of (atoms_from o (suc j) left) k)
       by_owner (yes e) = rw (root_own o j left k e) other
       by_owner (no e) = rw (root_other o j left k e) same
 
-  own_atom : (j left i : ℕ) → j ≤ i → i < j + left → Derives al (root_of (atoms_from o j left) (owner_at o i)) (atom_up_to o (j + left) i)
+  own_atom : (j left i : ℕ) → j ≤ i → i < j + left → Derives t (root_of (atoms_from o j left) (owner_at o i)) (atom_up_to o (j + left) i)
   own_atom j zero i h l = absurd (omega arith)
   own_atom j (suc left) i h l = by_place (ℕ_discrete j i) (λ h l. own_atom (suc j) left i h l)
     where
-      by_place : Dec (j ≡ i) → (suc j ≤ i → i < suc j + left → Derives al (root_of (atoms_from o (suc j) left) (owner_at o i)) (atom_up_to o (suc j + left) i))
-          → Derives al (root_of (atoms_from o j (suc left)) (owner_at o i)) (atom_up_to o (j + suc left) i)
+      by_place : Dec (j ≡ i) → (suc j ≤ i → i < suc j + left → Derives t (root_of (atoms_from o (suc j) left) (owner_at o i)) (atom_up_to o (suc j + left) i))
+          → Derives t (root_of (atoms_from o j (suc left)) (owner_at o i)) (atom_up_to o (j + suc left) i)
       by_place (yes e) f =
           let z : j + suc left - suc j ≡ left = omega arith in
           rw (← e, z, root_own o j left (owner_at o j) refl) one
@@ -65,31 +65,32 @@ module _ {al : List Axiom} (o : List Atom) where
           root_longer j left (owner_at o i) ▹ rw z at (f (omega arith) (omega arith))
 
   -- what lies below each atom of a root lies below the root
-  below_all : (j left k : ℕ) {c : Concept} → ((i : ℕ) → j ≤ i → i < j + left → owner_at o i ≡ k → Derives al c (atom_up_to o (j + left) i)) → Derives al c (root_of (atoms_from o j left) k)
+  below_all : (j left k : ℕ) {c : Concept} → ((i : ℕ) → j ≤ i → i < j + left → owner_at o i ≡ k → Derives t c (atom_up_to o (j + left) i))
+      → Derives t c (root_of (atoms_from o j left) k)
   below_all j zero k f = rw (root_none o j k) to_top
   below_all j (suc left) k {c} f = by_owner (ℕ_discrete (owner_at o j) k) (below_all (suc j) left k further)
     where
-      further : (i : ℕ) → suc j ≤ i → i < suc j + left → owner_at o i ≡ k → Derives al c (atom_up_to o (suc j + left) i)
+      further : (i : ℕ) → suc j ≤ i → i < suc j + left → owner_at o i ≡ k → Derives t c (atom_up_to o (suc j + left) i)
       further i h l e =
           let z : suc j + left ≡ j + suc left = omega arith in
           rw z (f i (omega arith) (omega arith) e)
 
-      by_owner : Dec (owner_at o j ≡ k) → Derives al c (root_of (atoms_from o (suc j) left) k) → Derives al c (root_of (atoms_from o j (suc left)) k)
+      by_owner : Dec (owner_at o j ≡ k) → Derives t c (root_of (atoms_from o (suc j) left) k) → Derives t c (root_of (atoms_from o j (suc left)) k)
       by_owner (yes e) p =
           let z : j + suc left - suc j ≡ left = omega arith in
           rw (root_own o j left k e) (meet (rw z at (f j (omega arith) (omega arith) e)) p)
       by_owner (no e) p = rw (root_other o j left k e) p
 
-  pub some_atom_below : Terminology al → (j left k r : ℕ) (d : Concept) → Derives al (root_of (atoms_from o j left) k) (some r d) → SomeAtom al o j left k r d
+  pub some_atom_below : Normalised t → (j left k r : ℕ) (d : Concept) → Derives t (root_of (atoms_from o j left) k) (some r d) → SomeAtom t o j left k r d
   some_atom_below terms j zero k r d p = absurd (top_below_some terms (rw (root_none o j k) at p))
   some_atom_below terms j (suc left) k r d p = by_owner (ℕ_discrete (owner_at o j) k) (λ z. further (some_atom_below terms (suc j) left k r d z))
     where
-      further : SomeAtom al o (suc j) left k r d → SomeAtom al o j (suc left) k r d
+      further : SomeAtom t o (suc j) left k r d → SomeAtom t o j (suc left) k r d
       further s =
           let z : suc j + left ≡ j + suc left = omega arith in
           record { at = s.at; from = omega (arith, s.from); inside = omega (arith, s.inside); owner = s.owner; below = rw z at s.below }
 
-      by_owner : Dec (owner_at o j ≡ k) → (Derives al (root_of (atoms_from o (suc j) left) k) (some r d) → SomeAtom al o j (suc left) k r d) → SomeAtom al o j (suc left) k r d
+      by_owner : Dec (owner_at o j ≡ k) → (Derives t (root_of (atoms_from o (suc j) left) k) (some r d) → SomeAtom t o j (suc left) k r d) → SomeAtom t o j (suc left) k r d
       by_owner (yes e) f = elim ((both_below_some terms).0 (rw (root_own o j left k e) at p)) [
         | inl x ↦ (
             let z : j + suc left - suc j ≡ left = omega arith in
@@ -113,16 +114,16 @@ module _ {n : ℕ} {o : Outline} (shape : Shape n o) where
       by_child (yes e) = rw e
       by_child (no e) = ap (atom_concept (child_at o.atoms i) (value_at o.atoms i)) (child_whole i h (omega arith))
 
-  pub below_own_atom : {al : List Axiom} (i : ℕ) → i < o.extent.atoms
-      → Derives al (root_point o (owner_at o.atoms i)) (atom_in o i)
-  below_own_atom {al} i h =
+  pub below_own_atom : {t : Terminology} (i : ℕ) → i < o.extent.atoms
+      → Derives t (root_point o (owner_at o.atoms i)) (atom_in o i)
+  below_own_atom {t} i h =
       let z : 0 + o.extent.atoms ≡ o.extent.atoms = omega arith in
-      rw (z, atom_whole i h) at (own_atom {al = al} o.atoms 0 o.extent.atoms i (omega arith) (omega arith))
+      rw (z, atom_whole i h) at (own_atom {t = t} o.atoms 0 o.extent.atoms i (omega arith) (omega arith))
 
-  pub below_own_atoms : {al : List Axiom} (k : ℕ) {c : Concept} → ((i : ℕ) → i < o.extent.atoms → owner_at o.atoms i ≡ k → Derives al c (atom_in o i)) → Derives al c (root_point o k)
-  below_own_atoms {al} k {c} f =
+  pub below_own_atoms : {t : Terminology} (k : ℕ) {c : Concept} → ((i : ℕ) → i < o.extent.atoms → owner_at o.atoms i ≡ k → Derives t c (atom_in o i)) → Derives t c (root_point o k)
+  below_own_atoms {t} k {c} f =
       let z : 0 + o.extent.atoms ≡ o.extent.atoms = omega arith in
-      below_all {al = al} o.atoms 0 o.extent.atoms k (λ i h l e. let inside : i < o.extent.atoms = omega arith in rw (z, atom_whole i inside) (f i inside e))
+      below_all {t = t} o.atoms 0 o.extent.atoms k (λ i h l e. let inside : i < o.extent.atoms = omega arith in rw (z, atom_whole i inside) (f i inside e))
 
   -- the atoms of an ∃'s filler come after it
   pub child_later : (i : ℕ) → i < o.extent.atoms → 0 < child_at o.atoms i → (j : ℕ) → owner_at o.atoms j ≡ child_at o.atoms i → i < j

@@ -37,7 +37,7 @@ use Rattle.points.specs.Above as above
 use Rattle.points.specs.Nodes.{Inclusive, NodesLost}
 use Rattle.points.specs.Roots.{outline_of, UnderName, UnderSome, NamesLost, RootsLost}
 use Rattle.points.specs.Roots as roots
-use Rattle.question.specs.Evaluation.{World, axioms_in, Above, KeptRow, node_point, root_point, atom_in, Sifted, ToFill, ToSift, NamesSifted, ToLose, Lost}
+use Rattle.question.specs.Evaluation.{World, content_in, Above, KeptRow, node_point, root_point, atom_in, Sifted, ToFill, ToSift, ToLose, Lost}
 use Rattle.question.proofs.AboveRoots.{some_atom, above_none, above_more}
 use Rattle.question.proofs.BelowAtoms.{node_below_sound, node_below_complete}
 use Rattle.question.proofs.BelowRoots.{root_reaches_sound, root_reaches_complete, under_name_sound, under_name_complete}
@@ -49,7 +49,7 @@ module _ {g : Classified} (world : World g) where
   ranges = record { shaped = rows.ranges world.release world.names; few = world.few }
 
   inclusive : Inclusive g
-  inclusive = record { rows = ranges.shaped.rows; fillers = ranges.shaped.filler; few = world.few; room = world.room }
+  inclusive = record { fillers = ranges.shaped.filler; few = world.few; room = world.room }
 
   module _ {o : Outline} (shape : Shape g.square.names o) {i : ℕ} (h : i < o.extent.atoms) where
     in_range : InRange g.square.names (atom_at o.atoms i)
@@ -121,17 +121,17 @@ abbrev NameBefore : Outline → ℕ → ℕ → Type 0
 NameBefore o e j = (j < e) × (child_at o.atoms j ≡ 0)
 
 pub record Sifting (g : Classified) (c o : Outline) (e : ℕ) (l : Pairs) : Type 0 where
-  pub sifted : Sifted most_roots (axioms_in g) (root_point c) c.extent.roots l.rows o (NameBefore o e)
+  pub sifted : Sifted most_roots (content_in g) (root_point c) c.extent.roots l.rows o (NameBefore o e)
 
 module _ {g : Classified} {c : Subsumee} {o : Outline} {l : Pairs} (given : ToSift g c o l) where
   pub sift_start : Sifting g (outline_of c) o 0 l
   sift_start = record { sifted = sifted_none given.blank (λ i h done. omega (arith, done.0)) }
 
   module _ {e : ℕ} {x y : Pairs} (h : e < o.extent.atoms) (sifting : Sifting g (outline_of c) o e x) (lost : NamesLost g c (atom_at o.atoms e) x y) where
-    sound : child_at o.atoms e ≡ 0 → (k : ℕ) → k < (outline_of c).extent.roots → UnderName g c (atom_at o.atoms e) k → Derives (axioms_in g) (root_point (outline_of c) k) (atom_in o e)
+    sound : child_at o.atoms e ≡ 0 → (k : ℕ) → k < (outline_of c).extent.roots → UnderName g c (atom_at o.atoms e) k → Derives (content_in g) (root_point (outline_of c) k) (atom_in o e)
     sound z k m under = rw z (under_name_sound given.world (given.filled.above.row k (omega (arith, given.from.few))) (given.shape.named e h z) (under.below z))
 
-    complete : (k : ℕ) → k < (outline_of c).extent.roots → Derives (axioms_in g) (root_point (outline_of c) k) (atom_in o e) → UnderName g c (atom_at o.atoms e) k
+    complete : (k : ℕ) → k < (outline_of c).extent.roots → Derives (content_in g) (root_point (outline_of c) k) (atom_in o e) → UnderName g c (atom_at o.atoms e) k
     complete k m d = record { below = λ z. under_name_complete given.world (given.filled.above.row k (omega (arith, given.from.few))) (given.shape.named e h z) (rw z at d) }
 
     step : (j : ℕ) → NameBefore o (e + 1) j → NameBefore o e j ⊎ ((j ≡ e) × (child_at o.atoms e ≡ 0))
@@ -144,16 +144,13 @@ module _ {g : Classified} {c : Subsumee} {o : Outline} {l : Pairs} (given : ToSi
     pub sift_turn : Sifting g (outline_of c) o (e + 1) y
     sift_turn = record { sifted = sifted_more (omega arith) given.from.few given.shape h sound complete step sifting.sifted lost.adds }
 
-  pub sift_end : {e : ℕ} {x : Pairs} → o.extent.atoms ≤ e → Sifting g (outline_of c) o e x → NamesSifted g (outline_of c) o x
-  sift_end h sifting = record { sifted = record { lost = sifting.sifted.lost; kept = λ i x inside done m k. sifting.sifted.kept i x inside (omega arith, done) m k } }
-
 -- the rows of lost points; the names are done for the roots
 abbrev NameOrFrom : Outline → ℕ → ℕ → Type 0
 NameOrFrom o left j = (child_at o.atoms j ≡ 0) ⊎ (left ≤ j)
 
 pub record Losing (g : Classified) (c o : Outline) (left : ℕ) (ln : Grid) (l : Pairs) : Type 0 where
-  pub nodes : Sifted most_nodes (axioms_in g) (node_point g.square.names) (suc g.square.names) ln.rows o (λ j. left ≤ j)
-  pub roots : Sifted most_roots (axioms_in g) (root_point c) c.extent.roots l.rows o (NameOrFrom o left)
+  pub nodes : Sifted most_nodes (content_in g) (node_point g.square.names) (suc g.square.names) ln.rows o (λ j. left ≤ j)
+  pub roots : Sifted most_roots (content_in g) (root_point c) c.extent.roots l.rows o (NameOrFrom o left)
 
 module _ {g : Classified} {c o : Outline} {ln : Grid} {l : Pairs} (given : ToLose g c o ln l) where
   pub lose_start : Losing g c o o.extent.atoms ln l
@@ -176,10 +173,10 @@ module _ {g : Classified} {c o : Outline} {ln : Grid} {l : Pairs} (given : ToLos
     abbrev child : Concept
     child = root_point o (child_at o.atoms (left - 1))
 
-    nodes_row : 0 < child_at o.atoms (left - 1) → KeptRow most_nodes (axioms_in g) (node_point g.square.names) (suc g.square.names) xn.rows (child_at o.atoms (left - 1)) child
+    nodes_row : 0 < child_at o.atoms (left - 1) → KeptRow most_nodes (content_in g) (node_point g.square.names) (suc g.square.names) xn.rows (child_at o.atoms (left - 1)) child
     nodes_row z = sifted_row given.shape losing.nodes (child_at o.atoms (left - 1)) child_small (λ j m own. omega (arith, child_later given.shape (left - 1) inside z j own))
 
-    roots_row : 0 < child_at o.atoms (left - 1) → KeptRow most_roots (axioms_in g) (root_point c) c.extent.roots x.rows (child_at o.atoms (left - 1)) child
+    roots_row : 0 < child_at o.atoms (left - 1) → KeptRow most_roots (content_in g) (root_point c) c.extent.roots x.rows (child_at o.atoms (left - 1)) child
     roots_row z = sifted_row given.shape losing.roots (child_at o.atoms (left - 1)) child_small (λ j m own. inr (omega (arith, child_later given.shape (left - 1) inside z j own)))
 
     node_step : (j : ℕ) → left - 1 ≤ j → (left ≤ j) ⊎ ((j ≡ left - 1) × (0 < left))
@@ -200,10 +197,11 @@ module _ {g : Classified} {c o : Outline} {ln : Grid} {l : Pairs} (given : ToLos
         by_place m (yes z) (no y) = inr (z, (let some : 0 < child_at o.atoms j = omega arith in rw z at some))
         by_place m (no z) (no y) = inl (inr (omega arith))
 
-    root_sound : 0 < child_at o.atoms (left - 1) → (k : ℕ) → k < c.extent.roots → UnderSome g c (atom_at o.atoms (left - 1)) xn x k → Derives (axioms_in g) (root_point c k) (atom_in o (left - 1))
+    root_sound : 0 < child_at o.atoms (left - 1) → (k : ℕ) → k < c.extent.roots → UnderSome g c (atom_at o.atoms (left - 1)) xn x k
+        → Derives (content_in g) (root_point c k) (atom_in o (left - 1))
     root_sound z k m under = rw (some_atom {r = value_at o.atoms i} {d = child} (child_at o.atoms i) z) (root_reaches_sound given.world given.from (nodes_row z) (roots_row z) (under.reaches z))
 
-    root_complete : (k : ℕ) → k < c.extent.roots → Derives (axioms_in g) (root_point c k) (atom_in o (left - 1)) → UnderSome g c (atom_at o.atoms (left - 1)) xn x k
+    root_complete : (k : ℕ) → k < c.extent.roots → Derives (content_in g) (root_point c k) (atom_in o (left - 1)) → UnderSome g c (atom_at o.atoms (left - 1)) xn x k
     root_complete k m d = record {
       reaches = λ z. root_reaches_complete given.world given.from (nodes_row z) (roots_row z) k (value_at o.atoms i) (rw (some_atom {r = value_at o.atoms i} {d = child} (child_at o.atoms i) z) at d);
     }

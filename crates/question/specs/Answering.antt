@@ -2,7 +2,7 @@
 --   ToAnswer x c d w        what is asked to answer a question that nothing refuses, of the release and its table x
 --   Answered s c d w v r    the answer r of such a question, and the memory w that became v
 use Rattle.std.specs.Prelude.{◌≡◌, true, List, ℕ, ◌*◌, ◌≤◌, length}
-use Rattle.release.specs.Files.{names_of, axioms_of}
+use Rattle.release.specs.Files.{names_of, content_of}
 use Rattle.release.specs.Tables.{Release}
 use Rattle.release.specs.declared.terminology.Terminology.{Terminology}
 use Rattle.demands.specs.Inputs.{text_ok, concept_in}
@@ -19,5 +19,5 @@ pub record ToAnswer (x : Terminology) (c d w : List ℕ) : Type 0 where
   pub room : 4 * size (names_of x.file.now) ≤ length w
 
 pub record Answered (s c d w v : List ℕ) (r : Position) : Type 0 where
-  pub held : Lies (axioms_of s) (concept_in s c) (concept_in s d) (position_number r)
+  pub held : Lies (content_of s) (concept_in s c) (concept_in s d) (position_number r)
   pub cleared : Zeroed (4 * size (names_of s)) w v

@@ -4,7 +4,7 @@
 --   AskedAs s c d w v r        the answer r, and the memory w that became v
 use Rattle.std.specs.Prelude.{◌≡◌, Result, List, ℕ, ◌*◌, eqb, ltb, length}
 use Rattle.el.specs.Lists.{pick}
-use Rattle.release.specs.Files.{fault, first_of, names_of, axioms_of}
+use Rattle.release.specs.Files.{fault, first_of, names_of, content_of}
 use Rattle.release.specs.Refusals.{told, answer}
 use Rattle.demands.specs.Inputs.{text_ok, concept_in}
 use Rattle.demands.specs.Lying.{Lies}
@@ -25,5 +25,5 @@ pub record AskedAs (s c d w v : List ℕ) (r : Result Position AskRefusal) : Typ
   pub answer : told ask_refusal r ≡ answer (refusal_side s c d w) (refusal_number s c d w) value
   -- a refusal changes no byte
   pub unchanged : (refusal_number s c d w ≡ 0 → ⊥) → v ≡ w
-  pub held : refusal_number s c d w ≡ 0 → Lies (axioms_of s) (concept_in s c) (concept_in s d) (position_number value)
+  pub held : refusal_number s c d w ≡ 0 → Lies (content_of s) (concept_in s c) (concept_in s d) (position_number value)
   pub cleared : refusal_number s c d w ≡ 0 → Zeroed (4 * size (names_of s)) w v

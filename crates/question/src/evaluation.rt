@@ -3,7 +3,7 @@
 ghost use Rattle.el.specs.Derivability.{Derives};
 ghost use Rattle.el.proofs.Tests.{Tells};
 ghost use Rattle.release.specs.Versions.{width};
-ghost use Rattle.question.specs.Evaluation.{axioms_in, root_point, ToFill, Filled, ToSift, NamesSifted, ToLose, Lost, ToDecide, ToPlace, Placed};
+ghost use Rattle.question.specs.Evaluation.{content_in, root_point, ToFill, Filled, ToSift, NamesSifted, ToLose, Lost, ToDecide, ToPlace, Placed};
 
 use crate::position::Position;
 use outline::Outline;
@@ -50,7 +50,7 @@ fn lose_all(
 // above the roots of C first and then the nodes that do not lie below those of D, and one over pairs of roots.
 fn is_below(classified: &Classified, below: &Outline, above: &Outline) -> bool
     requires { ToDecide classified.now below.now above.now }
-    ensures { Tells result (Derives (axioms_in classified.now) (root_point below.now 0) (root_point above.now 0)) }
+    ensures { Tells result (Derives (content_in classified.now) (root_point below.now 0) (root_point above.now 0)) }
 {
     let mut grid = Grid::BLANK;
     fill_above(classified, below, &mut grid);

@@ -14,7 +14,7 @@ pub use position::Position;
 pub use refusals::AskRefusal;
 use release::number::Version;
 use release::read_release;
-use release::table::{Row, Table};
+use release::table::Table;
 use release::terminology::Terminology;
 
 mod evaluation;
@@ -60,7 +60,7 @@ pub fn ask_position(
 ) -> Result<Position, AskRefusal>
     ensures { AskedAs file.now below.now above.now work.old work.new result }
 {
-    let mut table = [Row::BLANK; Table::LENGTH];
+    let mut table = Table::BLANK;
     let counts = read_release(file, &mut table)?;
     let version = Version::of(file);
     if !is_text(below, version, counts.names, counts.roles) {

@@ -7,20 +7,20 @@ pub of-version-requires : goal.of-version-requires
 of-version-requires c = three c.requires
 
 pub names-names-requires : goal.names-names-requires
-names-names-requires c = has_header c.requires c.of-version.ensures
+names-names-requires c = has_header c.requires c.of-version.ensures.width
 
 pub size-requires : goal.size-requires
 size-requires c = omega (arith, few_of c.requires c.names-names.ensures)
 
 pub classify_apart-requires : goal.classify_apart-requires
-classify_apart-requires c = to_classify c.requires c.of-version.ensures c.names-names.ensures c.size.ensures.0 c.clear.ensures
+classify_apart-requires c = to_classify c.requires c.of-version.ensures.width c.names-names.ensures c.size.ensures.0 c.clear.ensures
 
 pub work_length-requires : goal.work_length-requires
 work_length-requires c = omega (arith, few_of c.requires c.names-names.ensures)
 
 pub position-position-requires : goal.position-position-requires
-position-position-requires c = to_place c.requires c.of-version.ensures c.names-names.ensures c.size.ensures.0 c.clear.ensures c.classify_apart.ensures
+position-position-requires c = to_place c.requires c.of-version.ensures.width c.names-names.ensures c.size.ensures.0 c.clear.ensures c.classify_apart.ensures
 
 pub returns : goal.returns
-returns c = answered c.requires c.of-version.ensures c.names-names.ensures c.size.ensures.0 c.clear.ensures c.classify_apart.ensures
+returns c = answered c.requires c.of-version.ensures.width c.names-names.ensures c.size.ensures.0 c.clear.ensures c.classify_apart.ensures
     c.work_length.ensures.0 c.clear-2.ensures c.position-position.ensures

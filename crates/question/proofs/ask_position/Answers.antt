@@ -17,22 +17,22 @@ pub of-version-requires : goal.of-version-requires
 of-version-requires c = has_version c.in_ok-counts.ensures
 
 pub returns-then-not-is_text : goal.returns-then-not-is_text
-returns-then-not-is_text c = refuses_below c.in_ok-counts.ensures c.of-version.ensures _ _ _ c.is_text.ensures c.if-not-is_text.true
+returns-then-not-is_text c = refuses_below c.in_ok-counts.ensures c.of-version.ensures.width _ _ _ c.is_text.ensures c.if-not-is_text.true
 
 pub returns-then-not-is_text-2 : goal.returns-then-not-is_text-2
-returns-then-not-is_text-2 c = refuses_above c.in_ok-counts.ensures c.of-version.ensures _ _ _ c.is_text.ensures c.if-not-is_text.false c.is_text-2.ensures c.if-not-is_text-2.true
+returns-then-not-is_text-2 c = refuses_above c.in_ok-counts.ensures c.of-version.ensures.width _ _ _ c.is_text.ensures c.if-not-is_text.false c.is_text-2.ensures c.if-not-is_text-2.true
 
 pub work_length-requires : goal.work_length-requires
 work_length-requires c = omega (arith, names_few c.in_ok-counts.ensures)
 
 pub returns-then-short : goal.returns-then-short
-returns-then-short c = refuses_memory c.in_ok-counts.ensures c.of-version.ensures _ _ _ c.is_text.ensures c.if-not-is_text.false c.is_text-2.ensures c.if-not-is_text-2.false
+returns-then-short c = refuses_memory c.in_ok-counts.ensures c.of-version.ensures.width _ _ _ c.is_text.ensures c.if-not-is_text.false c.is_text-2.ensures c.if-not-is_text-2.false
     c.work_length.ensures.0 c.if-short.true
 
 pub answer-requires : goal.answer-requires
-answer-requires c = to_answer c.in_ok-counts.ensures c.of-version.ensures _ _ _ c.is_text.ensures c.if-not-is_text.false c.is_text-2.ensures c.if-not-is_text-2.false
+answer-requires c = to_answer c.in_ok-counts.ensures c.of-version.ensures.width _ _ _ c.is_text.ensures c.if-not-is_text.false c.is_text-2.ensures c.if-not-is_text-2.false
     c.work_length.ensures.0 c.if-short.false _ refl refl
 
 pub returns : goal.returns
-returns c = answers c.in_ok-counts.ensures c.of-version.ensures _ _ _ c.is_text.ensures c.if-not-is_text.false c.is_text-2.ensures c.if-not-is_text-2.false
+returns c = answers c.in_ok-counts.ensures c.of-version.ensures.width _ _ _ c.is_text.ensures c.if-not-is_text.false c.is_text-2.ensures c.if-not-is_text-2.false
     c.work_length.ensures.0 c.if-short.false c.answer.ensures

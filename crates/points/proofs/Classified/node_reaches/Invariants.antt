@@ -7,4 +7,4 @@ abbrev pub invariant-loop-name : goal.invariant-loop-name
 invariant-loop-name l =
     let e = l.restriction in
     let columns = l.name-iterator in
-    WalksOutside l.self.square l.self.work.now l.node e.idle.now columns × NoneBefore l.self e.lost.now l.node e.role e.root (outside_from columns)
+    WalksOutside l.self.square l.self.work.now l.node e.idle.now columns × NoneBefore l.self e.lost.now l.node e.role.0 e.root (outside_from columns)
