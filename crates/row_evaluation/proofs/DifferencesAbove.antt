@@ -13,12 +13,12 @@ use Rattle.el.proofs.Tests.{Tells, always, never}
 use Rattle.el.specs.Terminologies.{NamesBelow}
 use Rattle.concept_rows.specs.Rows.{concept_of_row, above, below, Shows}
 use Rattle.concept_rows.specs.Lent.{row_at}
-use Rattle.concept_rows.proofs.Rows.{Formed}
+use Rattle.concept_rows.specs.Written.{Formed}
 use Rattle.marks.proofs.Squares.{refuted}
 use Rattle.classification.proofs.Nodes.{at_name}
 use Rattle.row_evaluation.specs.Cells.{cell, Holds, RowRoom}
 use Rattle.row_evaluation.specs.declared.Evaluation.{Evaluation}
-use Rattle.row_evaluation.specs.Worlds.{WorldOf, axioms_in}
+use Rattle.row_evaluation.specs.Worlds.{WorldOf, content_in}
 use Rattle.row_evaluation.specs.Below.{BlankBelow, BelowFilled}
 use Rattle.row_evaluation.specs.Differing.{ToDifferAbove, DiffersAbove}
 use Rattle.row_evaluation.proofs.RowBytes.{cell_base, cell_next, cell_earlier, room_same}
@@ -72,11 +72,11 @@ module _ {first second : Evaluation} {ys : List ℕ} {last x : ℕ} {w v : List 
 
     module _ {sig : Signature} (first_world : WorldOf first w) (second_world : WorldOf second w) (names_in : NamesBelow first.square.names sig)
         (formed : Formed sig (row_at ys) (suc last)) where
-      first_sound : Holds u first.base first.square.names last x → Derives (axioms_in first) (name x) (concept_of_row (row_at ys) last)
+      first_sound : Holds u first.base first.square.names last x → Derives (content_in first) (name x) (concept_of_row (row_at ys) last)
       first_sound h = rw (at_name first.square.names x given.name) at ((one.told sig first_world names_in formed).sound last x (omega arith) (omega (arith, given.name))
           (record { is = sym same_cell ∙ h.is }))
 
-      first_complete : Derives (axioms_in first) (name x) (concept_of_row (row_at ys) last) → Holds u first.base first.square.names last x
+      first_complete : Derives (content_in first) (name x) (concept_of_row (row_at ys) last) → Holds u first.base first.square.names last x
       first_complete d = let h = (one.told sig first_world names_in formed).complete last x (omega arith) (omega (arith, given.name))
           (rw (at_name first.square.names x given.name) d) in record { is = same_cell ∙ h.is }
 
@@ -89,15 +89,15 @@ module _ {first second : Evaluation} {ys : List ℕ} {last x : ℕ} {w v : List 
       second_in : x < second.square.names
       second_in = omega (arith, given.name, given.same_names)
 
-      second_sound : Holds u second.base second.square.names last x → Derives (axioms_in second) (name x) (concept_of_row (row_at ys) last)
+      second_sound : Holds u second.base second.square.names last x → Derives (content_in second) (name x) (concept_of_row (row_at ys) last)
       second_sound h = rw (at_name second.square.names x second_in) at ((two.told sig there names_second formed).sound last x (omega arith) (omega (arith, second_in)) h)
 
-      second_complete : Derives (axioms_in second) (name x) (concept_of_row (row_at ys) last) → Holds u second.base second.square.names last x
+      second_complete : Derives (content_in second) (name x) (concept_of_row (row_at ys) last) → Holds u second.base second.square.names last x
       second_complete d = (two.told sig there names_second formed).complete last x (omega arith) (omega (arith, second_in)) (rw (at_name second.square.names x second_in) d)
 
     module _ {r : Bool} (tells : Tells r (Holds u first.base first.square.names last x)) where
       differs : {z : Bool} → ((sig : Signature) (side : ℕ) → WorldOf first w → WorldOf second w → NamesBelow first.square.names sig → Formed sig (row_at ys) (suc last)
-          → sig.has_name x ≡ true → side ≡ 1 → Tells z (Shows sig (axioms_in first) (axioms_in second) side x (row_at ys) last)) → DiffersAbove first second ys last x w u z
+          → sig.has_name x ≡ true → side ≡ 1 → Tells z (Shows sig (content_in first) (content_in second) side x (row_at ys) last)) → DiffersAbove first second ys last x w u z
       differs answer = record {
         long = long;
         before = λ p l. two.before p (omega (arith, given.behind, cell_base first.base first.square.names (suc last) 0)) ∙ one.before p l;

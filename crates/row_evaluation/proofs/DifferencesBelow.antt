@@ -13,12 +13,12 @@ use Rattle.el.proofs.Tests.{Tells, always, never}
 use Rattle.el.specs.Terminologies.{NamesBelow}
 use Rattle.concept_rows.specs.Rows.{concept_of_row, above, below, Shows}
 use Rattle.concept_rows.specs.Lent.{row_at}
-use Rattle.concept_rows.proofs.Rows.{Formed}
+use Rattle.concept_rows.specs.Written.{Formed}
 use Rattle.marks.proofs.Squares.{refuted}
 use Rattle.classification.proofs.Nodes.{at_name}
 use Rattle.row_evaluation.specs.Cells.{cell, RowRoom, Told}
 use Rattle.row_evaluation.specs.declared.Evaluation.{Evaluation}
-use Rattle.row_evaluation.specs.Worlds.{WorldOf, axioms_in}
+use Rattle.row_evaluation.specs.Worlds.{WorldOf, content_in}
 use Rattle.row_evaluation.specs.Above.{BlankAbove, AboveFilled, RowBelow, NameAbove}
 use Rattle.row_evaluation.specs.Differing.{ToDifferBelow, DiffersBelow}
 use Rattle.row_evaluation.proofs.RowBytes.{cell_base, cell_next, cell_earlier, room_same}
@@ -80,10 +80,10 @@ module _ {first second : Evaluation} {ys : List ℕ} {last x : ℕ} {w v : List 
       first_told : Told (NameAbove first ys) first.square.names u first.base (suc last)
       first_told = told_same (λ p l. two.before p (omega (arith, given.behind))) (one.told sig first_world names_in formed)
 
-      first_sound : RowBelow first u last x → Derives (axioms_in first) (concept_of_row (row_at ys) last) (name x)
+      first_sound : RowBelow first u last x → Derives (content_in first) (concept_of_row (row_at ys) last) (name x)
       first_sound h = rw (at_name first.square.names x given.name) at (row_below_sound first_here ys first_told last (omega arith) h)
 
-      first_complete : Derives (axioms_in first) (concept_of_row (row_at ys) last) (name x) → RowBelow first u last x
+      first_complete : Derives (content_in first) (concept_of_row (row_at ys) last) (name x) → RowBelow first u last x
       first_complete d = row_below_complete first_here ys first_told last (omega arith) x (omega (arith, given.name)) (rw (at_name first.square.names x given.name) d)
 
       names_second : NamesBelow second.square.names sig
@@ -98,15 +98,15 @@ module _ {first second : Evaluation} {ys : List ℕ} {last x : ℕ} {w v : List 
       second_told : Told (NameAbove second ys) second.square.names u second.base (suc last)
       second_told = two.told sig (world_after given.second_apart one.long one.before second_world) names_second formed
 
-      second_sound : RowBelow second u last x → Derives (axioms_in second) (concept_of_row (row_at ys) last) (name x)
+      second_sound : RowBelow second u last x → Derives (content_in second) (concept_of_row (row_at ys) last) (name x)
       second_sound h = rw (at_name second.square.names x second_in) at (row_below_sound second_here ys second_told last (omega arith) h)
 
-      second_complete : Derives (axioms_in second) (concept_of_row (row_at ys) last) (name x) → RowBelow second u last x
+      second_complete : Derives (content_in second) (concept_of_row (row_at ys) last) (name x) → RowBelow second u last x
       second_complete d = row_below_complete second_here ys second_told last (omega arith) x (omega (arith, second_in)) (rw (at_name second.square.names x second_in) d)
 
     module _ {r : Bool} (tells : Tells r (RowBelow first u last x)) where
       differs : {z : Bool} → ((sig : Signature) (side : ℕ) → WorldOf first w → WorldOf second w → NamesBelow first.square.names sig → Formed sig (row_at ys) (suc last)
-          → sig.has_name x ≡ true → side ≡ 2 → Tells z (Shows sig (axioms_in first) (axioms_in second) side x (row_at ys) last)) → DiffersBelow first second ys last x w u z
+          → sig.has_name x ≡ true → side ≡ 2 → Tells z (Shows sig (content_in first) (content_in second) side x (row_at ys) last)) → DiffersBelow first second ys last x w u z
       differs answer = record {
         long = long;
         before = before_all;

@@ -1,4 +1,6 @@
 -- The evaluation of rows. To be read in this order.
+pub mod RowForms
+pub mod WrittenRows
 pub mod RowBytes
 pub mod Worlds
 pub mod BelowRows

@@ -39,7 +39,7 @@ module _ {base n i : ℕ} {P : ℕ → Type 0} {w v : List ℕ} where
   put_end a h = adds_as (λ y l k. k.1) (λ y l k. (omega arith, k)) a
 
 pub setting_after : {E : Evaluation} {w v : List ℕ} → length v ≡ length w → Setting E w → Setting E v
-setting_after e s = record { rows = s.rows; fillers = s.fillers; room = record { small = s.room.small; fits = omega (arith, s.room.fits) }; apart = s.apart; few = s.few }
+setting_after e s = record { fillers = s.fillers; room = record { small = s.room.small; fits = omega (arith, s.room.fits) }; apart = s.apart; few = s.few }
 
 -- below a name
 module _ {E : Evaluation} {i b : ℕ} {w v : List ℕ} (setting : Setting E w) (b_in : b ≤ E.square.names) {P : ℕ → Type 0} (adds : Adds E.base E.square.names i P w v) {x : ℕ}

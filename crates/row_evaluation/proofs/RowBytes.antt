@@ -5,7 +5,7 @@
 --   earlier_row                     an earlier row is as before
 --   marked_same                     and so is a square before the bytes
 --   told_more                       one more row told of
-use mathlib.Core.Path.{◌≡◌, sym, ◌∙◌}
+use mathlib.Core.Path.{◌≡◌, refl, sym, ◌∙◌}
 use mathlib.Core.Logic.{◌⊎◌, inl, inr}
 use mathlib.Core.List.{List}
 use Prim.Native.Nat.{ℕ, suc, ◌+◌, ◌*◌, ◌≤◌, ◌<◌}
@@ -80,6 +80,16 @@ module _ {base n i : ℕ} where
           | no z ↦ inl (record { is = sym (get_or-set_other w at (cell base n i y) 1 0 (λ o. z (cell_one base n i y x (o ∙ is)))) ∙ k.is })
         ];
       }
+
+  pub adds_none : {P : ℕ → Type 0} {w : List ℕ} → ((x : ℕ) → x ≤ n → P x → ⊥) → Adds base n i P w w
+  adds_none none = record {
+    long = refl;
+    before = λ p l. refl;
+    past = λ p l. refl;
+    old = λ x l k. k;
+    new = λ x l k. absurd (none x l k);
+    only = λ x l k. inl k;
+  }
 
   pub adds_as : {P Q : ℕ → Type 0} {w v : List ℕ} → ((x : ℕ) → x ≤ n → P x → Q x) → ((x : ℕ) → x ≤ n → Q x → P x) → Adds base n i P w v → Adds base n i Q w v
   adds_as there back a = record {

@@ -12,12 +12,12 @@ use Rattle.el.specs.Lists.{In}
 use Rattle.el.specs.Concepts.{name, named}
 use Rattle.el.specs.Axioms.{Axiom, is_conjunction, filler_of}
 use Rattle.el.specs.Derivability.{Derives}
-use Rattle.el.specs.Terminologies.{Terminology}
+use Rattle.el.specs.Terminologies.{Normalised}
 use Rattle.el.proofs.PlainNodes.{Plain, plain_name}
-use Rattle.release.specs.Files.{axioms_of, joins, restricts}
+use Rattle.release.specs.Files.{axioms_of, joins, restricts, content_of}
 use Rattle.release.specs.Tables.{kind_at, filler_at, count_at, part_at}
 use Rattle.release.proofs.Linked as linked
-use Rattle.release.specs.declared.table.Row as table
+use Rattle.release.specs.declared.table.Table.{Table}
 use Rattle.marks.specs.declared.Square.{Square}
 use Rattle.marks.specs.Squares.{span, place, Marked}
 use Rattle.marks.proofs.Squares.{place_below}
@@ -26,17 +26,17 @@ use Rattle.classification.proofs.Nodes.{at_name, at_number}
 use Rattle.classification.proofs.AxiomRows as rows
 use Rattle.row_evaluation.specs.Worlds.{World, node_point}
 
-module _ {s : List ℕ} {t : List table.Row} {q : Square} {w : List ℕ} (world : World s t q w) where
+module _ {s : List ℕ} {t : Table} {q : Square} {w : List ℕ} (world : World s t q w) where
   abbrev n : ℕ
   n = q.names
 
   abbrev pub axiom_row : {a : Axiom} → In (axioms_of s) a → rows.Found s t q.names a.left
   axiom_row a_in = rows.own world.release world.names a_in
 
-  pub marked_below : (x y : ℕ) → x ≤ n → y < n → Marked q w x y → Derives (axioms_of s) (node_point n x) (name y)
+  pub marked_below : (x y : ℕ) → x ≤ n → y < n → Marked q w x y → Derives (content_of s) (node_point n x) (name y)
   marked_below x y h l m = rw (at_name n y l) at (world.inclusions.sound x y h (omega arith) m)
 
-  pub below_marked : (x y : ℕ) → x ≤ n → y < n → Derives (axioms_of s) (node_point n x) (name y) → Marked q w x y
+  pub below_marked : (x y : ℕ) → x ≤ n → y < n → Derives (content_of s) (node_point n x) (name y) → Marked q w x y
   below_marked x y h l p = world.inclusions.complete x y h (omega arith) (rw (at_name n y l) p)
 
   pub filler_node_lem : {y : ℕ} (f : rows.Found s t q.names y) → is_conjunction f.it ≡ false → node_at n (filler_at t y) ≡ filler_of f.it
@@ -46,13 +46,13 @@ module _ {s : List ℕ} {t : List table.Row} {q : Square} {w : List ℕ} (world 
   filler_small y h k = (rows.ranges world.release world.names).filler y h k
 
   -- for what lies above
-  pub terminology : Terminology (axioms_of s)
-  terminology = linked.terminology s world.release.accepted
+  pub terminology : Normalised (content_of s)
+  terminology = linked.normalised s world.release.accepted
 
   abbrev pub axiom_at_lem : (x : ℕ) → x < q.names → (kind_at t x ≡ 0 → ⊥) → rows.Found s t q.names x
   axiom_at_lem x h k = rows.find world.release world.names x h k
 
-  pub not_defined : (y : ℕ) → (kind_at t y ≡ 2 → ⊥) → Plain (axioms_of s) (named y)
+  pub not_defined : (y : ℕ) → (kind_at t y ≡ 2 → ⊥) → Plain (content_of s) (named y)
   not_defined y k = plain_name (record { none = λ a_in joins e. k (rw e at (rows.is_2 (axiom_row a_in) joins.is_conjunctive joins.is_defined)) })
 
   pub part_small : (y i : ℕ) → y < n → joins (kind_at t y) ≡ true → i < count_at s t y → part_at s t y i < n
@@ -66,7 +66,7 @@ module _ {s : List ℕ} {t : List table.Row} {q : Square} {w : List ℕ} (world 
         terminology.plain_parts f.member g.member (record { is_defined = d.1; is_conjunctive = d.0 }) (rw g.left (rows.part_in f joint i l))
 
 -- where only bytes behind the square have changed
-pub world_after : {s : List ℕ} {t : List table.Row} {q : Square} {base : ℕ} {w v : List ℕ} → q.base + span q.names ≤ base → length v ≡ length w
+pub world_after : {s : List ℕ} {t : Table} {q : Square} {base : ℕ} {w v : List ℕ} → q.base + span q.names ≤ base → length v ≡ length w
     → ((p : ℕ) → p < base → get_or v p 0 ≡ get_or w p 0) → World s t q w → World s t q v
 world_after {q = q} {base = base} {w = w} {v = v} apart long before world = record {
   release = world.release;

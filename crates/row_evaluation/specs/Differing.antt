@@ -8,11 +8,11 @@ use Rattle.el.proofs.Tests.{Tells}
 use Rattle.el.specs.Terminologies.{NamesBelow}
 use Rattle.concept_rows.specs.Rows.{Shows}
 use Rattle.concept_rows.specs.Lent.{row_at}
-use Rattle.concept_rows.proofs.Rows.{Formed}
+use Rattle.concept_rows.specs.Written.{Formed}
 use Rattle.marks.specs.Squares.{span}
 use Rattle.row_evaluation.specs.declared.Evaluation.{Evaluation}
 use Rattle.row_evaluation.specs.Cells.{cell}
-use Rattle.row_evaluation.specs.Worlds.{WorldOf, axioms_in}
+use Rattle.row_evaluation.specs.Worlds.{WorldOf, content_in}
 use Rattle.row_evaluation.specs.Below.{BlankBelow}
 use Rattle.row_evaluation.specs.Above.{BlankAbove}
 
@@ -29,7 +29,7 @@ pub record DiffersAbove (first second : Evaluation) (ys : List ℕ) (last x : �
   pub before : (p : ℕ) → p < first.base → get_or v p 0 ≡ get_or w p 0
   pub past : (p : ℕ) → cell second.base second.square.names (suc last) 0 ≤ p → get_or v p 0 ≡ get_or w p 0
   pub answer : (sig : Signature) (side : ℕ) → WorldOf first w → WorldOf second w → NamesBelow first.square.names sig → Formed sig (row_at ys) (suc last)
-      → sig.has_name x ≡ true → side ≡ 1 → Tells r (Shows sig (axioms_in first) (axioms_in second) side x (row_at ys) last)
+      → sig.has_name x ≡ true → side ≡ 1 → Tells r (Shows sig (content_in first) (content_in second) side x (row_at ys) last)
 
 pub record ToDifferBelow (first second : Evaluation) (ys : List ℕ) (last x : ℕ) (w : List ℕ) : Type 0 where
   pub first_blank : BlankAbove first ys (suc last) w
@@ -44,4 +44,4 @@ pub record DiffersBelow (first second : Evaluation) (ys : List ℕ) (last x : �
   pub before : (p : ℕ) → p < first.base → get_or v p 0 ≡ get_or w p 0
   pub past : (p : ℕ) → cell second.base second.square.names (suc last) 0 ≤ p → get_or v p 0 ≡ get_or w p 0
   pub answer : (sig : Signature) (side : ℕ) → WorldOf first w → WorldOf second w → NamesBelow first.square.names sig → Formed sig (row_at ys) (suc last)
-      → sig.has_name x ≡ true → side ≡ 2 → Tells r (Shows sig (axioms_in first) (axioms_in second) side x (row_at ys) last)
+      → sig.has_name x ≡ true → side ≡ 2 → Tells r (Shows sig (content_in first) (content_in second) side x (row_at ys) last)

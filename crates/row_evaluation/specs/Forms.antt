@@ -4,7 +4,7 @@
 use Rattle.std.specs.Prelude.{List, ℕ}
 use Rattle.concept_rows.specs.Rows.{WellFormed}
 use Rattle.concept_rows.specs.Lent.{row_at}
-use Rattle.concept_rows.proofs.Rows.{Formed}
+use Rattle.concept_rows.specs.Written.{Formed}
 use Rattle.signature.specs.Bytes.{signature_of}
 use Rattle.signature.specs.declared.lent.LentSignature.{LentSignature}
 

@@ -2,15 +2,14 @@
 ghost use Rattle.std.specs.Prelude.{◌≡◌, ◌+◌, ◌*◌, ◌≤◌, ◌<◌, length};
 ghost use Rattle.el.proofs.Tests.{Tells};
 ghost use Rattle.release.specs.Tables.{kind_at, Shaped};
-ghost use Rattle.concept_rows.specs.Rows.{row};
-ghost use Rattle.concept_rows.specs.Lent.{row_at};
+ghost use Rattle.row_evaluation.specs.RowForms.{FormIn};
 ghost use Rattle.row_evaluation.specs.Cells.{RowRoom, Adds};
-ghost use Rattle.row_evaluation.specs.Below.{RowIn};
-ghost use Rattle.row_evaluation.specs.Above.{PartsHold, RowBelow, PlainAbove, ShapedBy, Upward, BlankAbove, AboveFilled};
+ghost use Rattle.row_evaluation.specs.Above.{PartsHold, RowBelow, FilledAbove, PlainAbove, ShapedBy, Upward, BlankAbove, AboveFilled};
 ghost use Rattle.row_evaluation.specs.Differing.{ToDifferBelow, DiffersBelow};
 
-use crate::{Evaluation, lent};
-use release::Kind;
+use crate::Evaluation;
+use crate::rows::{Form, read_row};
+use release::{ConceptName, Kind, RoleName};
 
 impl<'a> Evaluation<'a> {
     // Whether row k has all conjuncts of y.
@@ -41,49 +40,50 @@ impl<'a> Evaluation<'a> {
         self.holds(work, k, y)
     }
 
-    // Whether a row of these numbers lies below the name y, which is not defined by a conjunction.
-    fn is_plain_above(
-        &self,
-        work: &[u8],
-        i: usize,
-        kind: usize,
-        one: usize,
-        other: usize,
-        y: usize,
-    ) -> bool
+    // Whether ∃ of the role over row k lies below the name y by a restriction that defines y.
+    fn is_filled_above(&self, work: &[u8], role: RoleName, k: usize, y: usize) -> bool
+        requires shaped { ShapedBy self.now }
+        requires room { RowRoom self.now.base self.now.square.names k work.now }
+        requires y_lt_names { y < self.now.square.names }
+        ensures { Tells result (FilledAbove self.now work.now role.0 k y) }
+    {
+        if !self.terminology.has_kind(y, Kind::DefinedRestriction) {
+            return false;
+        }
+        self.terminology.serves(role, self.terminology.role(y))
+            && self.is_above(work, k, self.terminology.filler(y))
+    }
+
+    // Whether a row i of this form lies below the name y, which is not defined by a conjunction.
+    fn is_plain_above(&self, work: &[u8], i: usize, form: Form, y: usize) -> bool
         requires upward { Upward self.now work.now }
         requires room { RowRoom self.now.base self.now.square.names i work.now }
-        requires row { RowIn self.now.square.names i (row kind one other) }
+        requires form { FormIn self.now.square.names i form }
         requires y_lt_names { y < self.now.square.names }
-        ensures { Tells result (PlainAbove self.now work.now (row kind one other) y) }
+        ensures { Tells result (PlainAbove self.now work.now form y) }
     {
         if self.terminology.has_kind(y, Kind::DefinedConjunction) {
             return false;
         }
-        match kind {
-            1 => self.square.is_marked(work, one, y),
-            2 => self.holds(work, one, y) || self.holds(work, other, y),
-            3 => {
-                self.terminology.has_kind(y, Kind::DefinedRestriction)
-                    && self.terminology.role(y) == one
-                    && self.is_above(work, other, self.terminology.filler(y))
+        match form {
+            Form::Top => false,
+            Form::Name(name) => self.square.is_marked(work, name.0, y),
+            Form::Conjunction(one, other) => {
+                self.holds(work, one, y) || self.holds(work, other, y)
             }
-            _ => false,
+            Form::Restriction(role, over) => self.is_filled_above(work, role, over, y),
         }
     }
 
-    // Puts the names above row i into it.
-    fn fill_row_above(&self, work: &mut [u8], rows: &[u32], i: usize)
+    // Puts the names above row i, of this form, into it.
+    fn put_above(&self, work: &mut [u8], i: usize, form: Form)
         requires upward { Upward self.now work.old }
         requires room { RowRoom self.now.base self.now.square.names i work.old }
-        requires row { (3 * i + 3 ≤ length rows.now) × RowIn self.now.square.names i (row_at rows.now i) }
-        ensures { Adds self.now.base self.now.square.names i (PlainAbove self.now work.old (row_at rows.now i)) work.old work.new }
+        requires form { FormIn self.now.square.names i form }
+        ensures { Adds self.now.base self.now.square.names i (PlainAbove self.now work.old form) work.old work.new }
     {
-        let kind = lent::kind(rows, i);
-        let one = lent::one(rows, i);
-        let other = lent::other(rows, i);
         for y in 0..self.square.names {
-            if self.is_plain_above(work, i, kind, one, other, y) {
+            if self.is_plain_above(work, i, form, y) {
                 self.put(work, i, y);
             }
         }
@@ -95,7 +95,9 @@ impl<'a> Evaluation<'a> {
         ensures { AboveFilled self.now rows.now count work.old work.new }
     {
         for i in 0..count {
-            self.fill_row_above(work, rows, i);
+            if let Some(form) = read_row(rows, i) {
+                self.put_above(work, i, form);
+            }
         }
     }
 }
@@ -108,12 +110,12 @@ pub fn differs_below(
     work: &mut [u8],
     rows: &[u32],
     last: usize,
-    name: usize,
+    name: ConceptName,
 ) -> bool
-    requires { ToDifferBelow first.now second.now rows.now last name work.old }
-    ensures { DiffersBelow first.now second.now rows.now last name work.old work.new result }
+    requires { ToDifferBelow first.now second.now rows.now last name.0 work.old }
+    ensures { DiffersBelow first.now second.now rows.now last name.0 work.old work.new result }
 {
     first.fill_above(work, rows, last + 1);
     second.fill_above(work, rows, last + 1);
-    first.is_above(work, last, name) && !second.is_above(work, last, name)
+    first.is_above(work, last, name.0) && !second.is_above(work, last, name.0)
 }

@@ -2,12 +2,14 @@
 ghost use Rattle.std.specs.Prelude.{◌≡◌, ◌+◌, ◌*◌, ◌≤◌, ◌<◌, length};
 ghost use Rattle.el.proofs.Tests.{Tells};
 ghost use Rattle.marks.specs.Squares.{Marked};
-ghost use Rattle.concept_rows.specs.Lent.{row_at};
+ghost use Rattle.row_evaluation.specs.RowForms.{FormIn};
 ghost use Rattle.row_evaluation.specs.Cells.{RowRoom, Adds};
-ghost use Rattle.row_evaluation.specs.Below.{Setting, Serves, Reaches, BelowBy, RowIn, BlankBelow, BelowFilled};
+ghost use Rattle.row_evaluation.specs.Below.{Setting, SuccessorIn, Reaches, BelowBy, BlankBelow, BelowFilled};
 ghost use Rattle.row_evaluation.specs.Differing.{ToDifferAbove, DiffersAbove};
 
-use crate::{Evaluation, lent};
+use crate::Evaluation;
+use crate::rows::{Form, read_row};
+use release::{ConceptName, RoleName};
 
 impl<'a> Evaluation<'a> {
     // Puts the nodes into row i that lie below the name b.
@@ -24,12 +26,12 @@ impl<'a> Evaluation<'a> {
         }
     }
 
-    // Whether the name b has an axiom ∃ of the role whose filler row j has.
-    fn serves(&self, work: &[u8], j: usize, role: usize, b: usize) -> bool
+    // Whether row j has a node that the role leads to from the name b by its axiom.
+    fn has_successor(&self, work: &[u8], j: usize, role: RoleName, b: usize) -> bool
         requires setting { Setting self.now work.now }
         requires room { RowRoom self.now.base self.now.square.names j work.now }
         requires b_lt_names { b < self.now.square.names }
-        ensures { Tells result (Serves self.now work.now j role b) }
+        ensures { Tells result (SuccessorIn self.now work.now j role.0 b) }
     {
         let Some(filler) = self.terminology.successor(b, role) else {
             return false;
@@ -38,34 +40,31 @@ impl<'a> Evaluation<'a> {
     }
 
     // Puts the nodes into row i that lie below ∃ of the role over row j.
-    pub fn put_some(&self, work: &mut [u8], i: usize, role: usize, j: usize)
+    pub fn put_some(&self, work: &mut [u8], i: usize, role: RoleName, j: usize)
         requires setting { Setting self.now work.old }
         requires room { RowRoom self.now.base self.now.square.names i work.old }
         requires earlier { j < i }
-        ensures { Adds self.now.base self.now.square.names i (Reaches self.now work.old j role) work.old work.new }
+        ensures { Adds self.now.base self.now.square.names i (Reaches self.now work.old j role.0) work.old work.new }
     {
         for b in 0..self.square.names {
-            if self.serves(work, j, role, b) {
+            if self.has_successor(work, j, role, b) {
                 self.put_below(work, i, b);
             }
         }
     }
 
-    // Puts the nodes into row i that lie below it.
-    fn fill_row_below(&self, work: &mut [u8], rows: &[u32], i: usize)
+    // Puts the nodes below row i, of this form, into it.
+    fn put_form(&self, work: &mut [u8], i: usize, form: Form)
         requires setting { Setting self.now work.old }
         requires room { RowRoom self.now.base self.now.square.names i work.old }
-        requires row { (3 * i + 3 ≤ length rows.now) × RowIn self.now.square.names i (row_at rows.now i) }
-        ensures { Adds self.now.base self.now.square.names i (BelowBy self.now work.old (row_at rows.now i)) work.old work.new }
+        requires form { FormIn self.now.square.names i form }
+        ensures { Adds self.now.base self.now.square.names i (BelowBy self.now work.old form) work.old work.new }
     {
-        let kind = lent::kind(rows, i);
-        let one = lent::one(rows, i);
-        let other = lent::other(rows, i);
-        match kind {
-            0 => self.cells().put_all(work, i),
-            1 => self.put_below(work, i, one),
-            2 => self.cells().put_both(work, i, one, other),
-            _ => self.put_some(work, i, one, other),
+        match form {
+            Form::Top => self.cells().put_all(work, i),
+            Form::Name(name) => self.put_below(work, i, name.0),
+            Form::Conjunction(one, other) => self.cells().put_both(work, i, one, other),
+            Form::Restriction(role, over) => self.put_some(work, i, role, over),
         }
     }
 
@@ -75,7 +74,9 @@ impl<'a> Evaluation<'a> {
         ensures { BelowFilled self.now rows.now count work.old work.new }
     {
         for i in 0..count {
-            self.fill_row_below(work, rows, i);
+            if let Some(form) = read_row(rows, i) {
+                self.put_form(work, i, form);
+            }
         }
     }
 }
@@ -88,12 +89,12 @@ pub fn differs_above(
     work: &mut [u8],
     rows: &[u32],
     last: usize,
-    name: usize,
+    name: ConceptName,
 ) -> bool
-    requires { ToDifferAbove first.now second.now rows.now last name work.old }
-    ensures { DiffersAbove first.now second.now rows.now last name work.old work.new result }
+    requires { ToDifferAbove first.now second.now rows.now last name.0 work.old }
+    ensures { DiffersAbove first.now second.now rows.now last name.0 work.old work.new result }
 {
     first.fill_below(work, rows, last + 1);
     second.fill_below(work, rows, last + 1);
-    first.holds(work, last, name) && !second.holds(work, last, name)
+    first.holds(work, last, name.0) && !second.holds(work, last, name.0)
 }

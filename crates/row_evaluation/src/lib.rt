@@ -9,7 +9,7 @@ pub mod above;
 pub mod below;
 pub mod cells;
 pub mod formed;
-mod lent;
+pub mod rows;
 
 // What rows are evaluated by: a release, the square of its inclusions, and where the bytes of the rows begin, behind that square. A row has a
 // byte for each node of the square, so where they begin is all that has to be said of them.

@@ -1,9 +1,8 @@
 -- From the answer about the last row to what the check promises.
---   row_in                              a well-formed row uses only what is there
 --   not_asked, no_row, ill_formed, decides    one law for each answer
 --   to_decide, to_check_cleared, rows_checked    what each step asks and gives
 --   not_read, not_lent, to_check, checked_as     the promise, where it is refused and where it is not
-use mathlib.Core.Path.{◌≡◌, refl, sym, ap, ◌∙◌}
+use mathlib.Core.Path.{◌≡◌, refl, sym, ◌∙◌}
 use mathlib.Core.Bool.{Bool, true, false}
 use mathlib.Core.List.{List}
 use mathlib.Core.Logic.{◌⊎◌, inl, inr}
@@ -15,20 +14,20 @@ use borrow.Author.Tests.{ltb-true}
 use lib.Dec.{ltb}
 use lib.ListN.{length}
 use Rattle.std.specs.Prelude.{Ok, Err}
-use Rattle.el.specs.Axioms.{Axiom}
+use Rattle.el.specs.Axioms.{Terminology}
 use Rattle.el.specs.Concepts.{Concept}
-use Rattle.el.specs.Signatures.{Signature}
 use Rattle.el.specs.Terminologies.{NamesBelow}
 use Rattle.el.proofs.Tests.{Tells, never, and_left, not_both}
-use Rattle.concept_rows.specs.Rows.{Row, WellFormed, is_top, is_name, is_both, is_some, Differs, above, below, Shows}
+use Rattle.concept_rows.specs.Rows.{Differs, above, below, Shows}
 use Rattle.concept_rows.specs.Lent.{row_at, row_count}
-use Rattle.concept_rows.proofs.Rows.{Formed}
-use Rattle.release.specs.Files.{axioms_of}
+use Rattle.concept_rows.specs.Written.{Formed}
+use Rattle.release.specs.Files.{content_of}
 use Rattle.release.specs.Readings.{checked}
 use Rattle.signature.specs.Bytes.{signature_of}
 use Rattle.marks.specs.Memory.{size, Zeroed}
 use Rattle.signature.specs.declared.lent.LentSignature.{LentSignature}
-use Rattle.row_evaluation.specs.Below.{RowIn}
+use Rattle.row_evaluation.proofs.RowForms.{formed_in}
+use Rattle.row_evaluation.proofs.Forming.{roles_few}
 use Rattle.row_evaluation.specs.Forms.{AllFormed}
 use Rattle.comparison.specs.Compared.{IsLent}
 use Rattle.comparison.specs.declared.Releases.{Releases}
@@ -46,24 +45,6 @@ use Rattle.witness.specs.Checking.{lent_to_check, judged_to_check, checking, Che
 use Rattle.witness.specs.Deciding.{ToDecide, Decided, ToCheck, ToCheckCleared, CheckAnswered, RowsChecked}
 use Rattle.witness.proofs.Judgements.{CheckLent, check_lent}
 
-pub row_in : {n i : ℕ} {sig : Signature} {r : Row} → NamesBelow n sig → WellFormed sig i r → RowIn n i r
-row_in {r = r} names_in (is_top f) =
-    let x : r.kind ≡ 0 = ap (λ (s : Row). s.kind) f in
-    record { known = omega arith; name = λ h. absurd (omega arith); one = λ h. absurd (omega arith); other = λ h. absurd (omega arith); filler = λ h. absurd (omega arith) }
-row_in {r = r} names_in (is_name {b = b} f o) =
-    let x : r.kind ≡ 1 = ap (λ (s : Row). s.kind) f in
-    let y : r.one ≡ b = ap (λ (s : Row). s.one) f in
-    record { known = omega arith; name = λ h. omega (arith, names_in b o); one = λ h. absurd (omega arith); other = λ h. absurd (omega arith); filler = λ h. absurd (omega arith) }
-row_in {r = r} names_in (is_both {j = j} {k = l} f p q) =
-    let x : r.kind ≡ 2 = ap (λ (s : Row). s.kind) f in
-    let y : r.one ≡ j = ap (λ (s : Row). s.one) f in
-    let z : r.other ≡ l = ap (λ (s : Row). s.other) f in
-    record { known = omega arith; name = λ h. absurd (omega arith); one = λ h. omega arith; other = λ h. omega arith; filler = λ h. absurd (omega arith) }
-row_in {r = r} names_in (is_some {q = q} {j = j} f o p) =
-    let x : r.kind ≡ 3 = ap (λ (s : Row). s.kind) f in
-    let z : r.other ≡ j = ap (λ (s : Row). s.other) f in
-    record { known = omega arith; name = λ h. absurd (omega arith); one = λ h. absurd (omega arith); other = λ h. absurd (omega arith); filler = λ h. omega arith }
-
 pub names_below : (n m : ℕ) (g : List ℕ) → NamesBelow n (signature_of n m g)
 names_below n m g x h = ltb-true x n (and_left (ltb x n) _ h)
 
@@ -75,7 +56,7 @@ module _ {g : List ℕ} {r : Releases} {side a : ℕ} {ys w : List ℕ} where
   pub not_asked : {lent : LentSignature} → IsLent g r lent → NotAsked lent a side → CheckAnswered g r side a ys w w false
   not_asked is none = answer_no (λ l. none.none (rw (is.names, is.bytes) l.shows.chosen) (on_a_side l.shows.differs))
     where
-      on_a_side : {t u : List Axiom} {c : Concept} → Differs t u side a c → (side ≡ 1) ⊎ (side ≡ 2)
+      on_a_side : {t u : Terminology} {c : Concept} → Differs t u side a c → (side ≡ 1) ⊎ (side ≡ 2)
       on_a_side (above i p q) = inl i
       on_a_side (below i p q) = inr i
 
@@ -101,7 +82,7 @@ module _ {g : List ℕ} {r : Releases} {side a : ℕ} {ys w : List ℕ} where
     to_decide = record {
       both = given.check.given.both;
       rows = omega (arith, mul-div-le (length ys) 3, is_last);
-      fit = λ i h. row_in (names_below r.names r.roles g) (rows_formed.at i h);
+      fit = λ i h. formed_in (roles_few r.names r.roles g r.few_roles) (names_below r.names r.roles g) (rows_formed.at i h);
       room = rw is_last at given.check.room;
       zero = λ p h l. given.zero p (rw is_last l);
       name = rw asked.name (names_below r.names r.roles g a chosen);
@@ -119,8 +100,8 @@ module _ {g : List ℕ} {r : Releases} {side a : ℕ} {ys w : List ℕ} where
           };
         }
       where
-        by_last : (j : ℕ) → j ≡ last → Shows (signature_in g r) (axioms_of r.first.file.now) (axioms_of r.second.file.now) side a (row_at ys) j
-            → Shows (signature_in g r) (axioms_of r.first.file.now) (axioms_of r.second.file.now) side a (row_at ys) last
+        by_last : (j : ℕ) → j ≡ last → Shows (signature_in g r) (content_of r.first.file.now) (content_of r.second.file.now) side a (row_at ys) j
+            → Shows (signature_in g r) (content_of r.first.file.now) (content_of r.second.file.now) side a (row_at ys) last
         by_last j e shows = rw (← e) shows
 
 -- in memory that is set to 0 before and after

@@ -97,17 +97,17 @@ module _ {r : Releases} {ys w : List ℕ} {last : ℕ} {x : Asked} (given : ToDe
     inside = omega (arith, twice n (suc last), given.room, prepared.long)
 
     module _ {E F : Evaluation} (first_is : E ≡ first_by r) (second_is : F ≡ second_by r last) where
-      pub to_differ : ToDifferAbove E F ys last x.name v
+      pub to_differ : ToDifferAbove E F ys last x.name.0 v
       to_differ = rw (first_is, second_is) (record {
         first_blank = record {
-          setting = record { rows = first_shaped.rows; fillers = first_shaped.filler; room = room 0 (omega arith); apart = omega (arith, span_size n); few = omega (arith, r.few) };
+          setting = record { fillers = first_shaped.filler; room = room 0 (omega arith); apart = omega (arith, span_size n); few = omega (arith, r.few) };
           rows = given.rows;
           fit = given.fit;
           inside = omega (arith, first_end, inside, one_more last n);
           zero = λ p h l. zero_at p h (omega (arith, first_end, one_more last n));
         };
         second_blank = record {
-          setting = record { rows = second_shaped.rows; fillers = second_shaped.filler; room = room k (omega arith); apart = omega (arith, span_size n); few = omega (arith, r.few) };
+          setting = record { fillers = second_shaped.filler; room = room k (omega arith); apart = omega (arith, span_size n); few = omega (arith, r.few) };
           rows = given.rows;
           fit = given.fit;
           inside = omega (arith, second_end, inside);
@@ -119,7 +119,7 @@ module _ {r : Releases} {ys w : List ℕ} {last : ℕ} {x : Asked} (given : ToDe
         name = given.name;
       })
 
-      pub to_differ_below : ToDifferBelow E F ys last x.name v
+      pub to_differ_below : ToDifferBelow E F ys last x.name.0 v
       to_differ_below = rw (first_is, second_is) (record {
         first_blank = record {
           upward = record { shaped = first_shaped; room = room 0 (omega arith); apart = omega (arith, span_size n); few = omega (arith, r.few) };
@@ -148,18 +148,18 @@ module _ {r : Releases} {ys w : List ℕ} {last : ℕ} {x : Asked} (given : ToDe
       past_squares p h = omega (arith, twice n (suc last))
 
       module _ {u : List ℕ} {yes : Bool} where
-        pub decided_left : side_number x.side ≡ 1 → DiffersAbove E F ys last x.name v u yes → Decided r ys w u last x yes
+        pub decided_left : side_number x.side ≡ 1 → DiffersAbove E F ys last x.name.0 v u yes → Decided r ys w u last x yes
         decided_left left differs =
-            let d : DiffersAbove (first_by r) (second_by r last) ys last x.name v u yes = rw (first_is, second_is) at differs in
+            let d : DiffersAbove (first_by r) (second_by r last) ys last x.name.0 v u yes = rw (first_is, second_is) at differs in
             record {
               long = d.long ∙ prepared.long;
               past = λ p h. d.past p (past_end p h) ∙ prepared.past p (past_squares p h);
               answer = λ sig names formed chosen. d.answer sig (side_number x.side) first_world second_world names formed chosen left;
             }
 
-        pub decided_right : side_number x.side ≡ 2 → DiffersBelow E F ys last x.name v u yes → Decided r ys w u last x yes
+        pub decided_right : side_number x.side ≡ 2 → DiffersBelow E F ys last x.name.0 v u yes → Decided r ys w u last x yes
         decided_right right differs =
-            let d : DiffersBelow (first_by r) (second_by r last) ys last x.name v u yes = rw (first_is, second_is) at differs in
+            let d : DiffersBelow (first_by r) (second_by r last) ys last x.name.0 v u yes = rw (first_is, second_is) at differs in
             record {
               long = d.long ∙ prepared.long;
               past = λ p h. d.past p (past_end p h) ∙ prepared.past p (past_squares p h);

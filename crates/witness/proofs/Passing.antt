@@ -12,10 +12,11 @@ use lib.ListN.{length, take, get_or}
 use lib.Seq.{get_or-take, length-take-le}
 use Rattle.std.specs.Prelude.{Result, Ok, Err}
 use Rattle.el.specs.Signatures.{Signature}
-use Rattle.el.specs.Axioms.{Axiom}
+use Rattle.el.specs.Axioms.{Terminology}
 use Rattle.concept_rows.specs.Rows.{Rows, Shows}
 use Rattle.concept_rows.specs.Lent.{row_at, row_count, rows_needed}
-use Rattle.concept_rows.proofs.Rows.{Formed, Agree, same_concept}
+use Rattle.concept_rows.specs.Written.{Formed, Agree}
+use Rattle.concept_rows.proofs.Rows.{same_concept}
 use Rattle.release.specs.Files.{names_of}
 use Rattle.release.specs.Refusals.{Numbers}
 use Rattle.meanings.specs.declared.Compared.{Compared}
@@ -29,7 +30,7 @@ use Rattle.witness.specs.Checking.{CheckedAs}
 use Rattle.witness.proofs.Judgements.{show_known, check_again, rows_few}
 
 -- rows that agree show the same
-agreeing_shows : {sig : Signature} {t u : List Axiom} {side a i : ℕ} {rows seen : Rows} → Agree rows seen (suc i) → Shows sig t u side a rows i → Shows sig t u side a seen i
+agreeing_shows : {sig : Signature} {t u : Terminology} {side a i : ℕ} {rows seen : Rows} → Agree rows seen (suc i) → Shows sig t u side a rows i → Shows sig t u side a seen i
 agreeing_shows {sig} {i = i} {rows = rows} agree shows =
     let formed : Formed sig rows (suc i) = record { at = λ j h. shows.formed j (omega arith) } in
     record {

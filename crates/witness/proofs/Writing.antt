@@ -4,32 +4,28 @@
 --   to_write_right, right_written       what the right writer asks and gives
 --   not_read, not_lent, to_show, shown_as     the promise, where it is refused and where it is not
 use mathlib.Core.Path.{◌≡◌, refl, sym, ap, ◌∙◌}
-use mathlib.Core.Bool.{true}
 use mathlib.Core.List.{List}
-use Prim.Native.Nat.{ℕ, zero, suc, ◌+◌, ◌*◌, ◌≤◌, ◌<◌}
+use Prim.Native.Nat.{ℕ, zero, suc, ◌+◌, ◌*◌, ◌<◌}
 use native.Mathlib.Omega.{arith}
 use native.Mathlib.Nat.{mul-div-le}
-use borrow.Author.Tests.{ltb-true}
-use lib.Dec.{ltb}
 use lib.ListN.{length, get_or, drop, replicate, length-drop}
 use lib.Seq.{ext_get_or, get_or-drop}
 use Rattle.std.specs.Prelude.{Ok, Err}
 use Rattle.el.specs.Terminologies.{Comparable}
-use Rattle.el.proofs.Tests.{and_left}
 use Rattle.concept_rows.specs.Rows.{is_left, is_right}
 use Rattle.concept_rows.specs.Lent.{row_count}
-use Rattle.release.specs.Files.{axioms_of}
+use Rattle.release.specs.Files.{content_of}
 use Rattle.release.specs.Readings.{checked}
-use Rattle.release.specs.Tables.{role_at}
 use Rattle.release.specs.declared.terminology.Terminology.{Terminology}
 use Rattle.release.proofs.Linked as linked
 use Rattle.marks.specs.Memory.{size}
 use Rattle.layout.specs.declared.Given as layout
 use Rattle.layout.specs.Comparing.{Comparing}
-use Rattle.layout.specs.Tables.{has_edge}
+use Rattle.layout.specs.declared.edges.Position.{Position}
+use Rattle.layout.specs.declared.edges.Position.TheVariants.{Above, Below}
 use Rattle.row_evaluation.specs.Cells.{cell}
 use Rattle.row_evaluation.proofs.RowBytes.{cell_first}
-use Rattle.witness_above.specs.Joining.{most, line}
+use Rattle.witness_above.specs.Joining.{line}
 use Rattle.witness_above.specs.Reach.{edge_row, last_row}
 use Rattle.witness_above.specs.Whole as left
 use Rattle.witness_above.proofs.Rooms.{left_room}
@@ -42,7 +38,7 @@ use Rattle.meanings.specs.declared.refusals.CompareRefusal.{CompareRefusal}
 use Rattle.meanings.specs.Comparing.{work_length, agreed}
 use Rattle.meanings.specs.Reading.{AreRead}
 use Rattle.meanings.specs.Refusals.{compare_refusal}
-use Rattle.meanings.proofs.Promise.{both_agree, both_given, few_counts, cleared}
+use Rattle.meanings.proofs.Promise.{both_agree, both_given, cleared}
 use Rattle.witness.specs.declared.asked.Asked.{Asked}
 use Rattle.witness.specs.declared.refusals.ShowRefusal.{ShowRefusal}
 use Rattle.witness.specs.declared.refusals.ShowRefusal.TheVariants.{Comparison}
@@ -60,31 +56,26 @@ zeros (suc k) zero = refl
 zeros (suc k) (suc i) = zeros k i
 
 -- the writers
-module _ {g : List ℕ} {r : Releases} {ys w : List ℕ} {x : Asked} (given : ToWriteSide g r ys w x) {h : layout.Given} (by : PutBy g r (forward_layout r) h) where
+module _ {g : List ℕ} {r : Releases} {ys w : List ℕ} {x : Asked} (given : ToWriteSide g r ys w x) {p : Position} {h : layout.Given} (by : PutBy p g r (forward_layout r) h) where
   abbrev n : ℕ
   n = r.names
 
-  name_in : x.name < n
-  name_in = names_below r.names r.roles g x.name given.chosen
+  name_in : x.name.0 < n
+  name_in = names_below r.names r.roles g x.name.0 given.chosen
 
   comparing : Comparing r.first.file.now r.second.file.now h w
   comparing = comparing_first given.show.given.both given.ready by
 
-  comparable : Comparable n (signature_in g r) (axioms_of r.first.file.now) (axioms_of r.second.file.now)
+  comparable : Comparable n (signature_in g r) (content_of r.first.file.now) (content_of r.second.file.now)
   comparable =
       let both = given.show.given.both in
       record {
         names_in = names_below r.names r.roles g;
         first_formed = rw both.first_names (linked.formed r.first.file.now both.first.accepted);
         second_formed = rw both.second_names (linked.formed r.second.file.now both.second.accepted);
-        first_terms = linked.terminology r.first.file.now both.first.accepted;
-        second_terms = linked.terminology r.second.file.now both.second.accepted;
+        first_terms = linked.normalised r.first.file.now both.first.accepted;
+        second_terms = linked.normalised r.second.file.now both.second.accepted;
       }
-
-  role_small : (y : ℕ) → y < n → has_edge h.edges.now y ≡ true → role_at r.first.table.now y ≤ most
-  role_small y i e =
-      let role = ((by.found.tells y i).sound e).chosen_role in
-      omega (arith, ltb-true (role_at r.first.table.now y) r.roles (and_left (ltb (role_at r.first.table.now y) r.roles) _ role), given.show.few_roles)
 
   -- the bytes of all pairs, and of the line, lie behind the squares of the inclusions
   line_end : cell (2 * size n) n (line n) n < 4 * size n
@@ -100,7 +91,7 @@ module _ {g : List ℕ} {r : Releases} {ys w : List ℕ} {x : Asked} (given : To
   unfolding cell size
   edges_last = omega arith
 
-  pub to_write_left : {ps : List ℕ} → length ps ≡ 1024 → ((i : ℕ) → get_or ps i 0 ≡ 0) → left.ToWrite h x.name ys ps w
+  pub to_write_left : {ps : List ℕ} → length ps ≡ 1024 → ((i : ℕ) → get_or ps i 0 ≡ 0) → left.ToWrite h x.name.0 ys ps w
   to_write_left long blank = record {
     start = record {
       rows = rw by.layout given.show.rows;
@@ -119,31 +110,8 @@ module _ {g : List ℕ} {r : Releases} {ys w : List ℕ} {x : Asked} (given : To
       blank = rw by.layout (record { zero = λ p i l. given.ready.zero p i (omega (arith, cell_first (2 * size n) n (line n) n, line_end)) });
       asked_in = rw by.layout (omega (arith, name_in));
     };
-    roles = record { small = λ y i e. rw by.first (role_small y (rw by.layout at i) e) };
     name = rw by.layout name_in;
   }
-
-  pub left_written : {zs v : List ℕ} {k : ℕ} → side_number x.side ≡ 1 → left.LeftWritten h x.name ys zs w v k → SideWritten g r ys zs w v x k
-  left_written {zs} {v} {k} one written = record {
-    kept = record {
-      few = rw by.layout at written.few;
-      rows_long = written.rows_long;
-      rows_past = written.past;
-      long = written.long;
-      past = λ p i. written.beyond p (rw by.layout (omega (arith, edges_end)));
-    };
-    shows = by_report;
-  }
-    where
-      by_report : ReportedBy g r (side_number x.side) x.name → LastShowsBy g r (side_number x.side) x.name zs k
-      by_report (is_left is chosen witness) =
-          let c = comparing in
-          let last = written.shows g r.first.file.now r.second.file.now (side_number x.side)
-          (record { release = c.first_release; names = c.first_names; room = c.first_room; inclusions = c.first_inclusions })
-          (record { release = c.second_release; names = c.second_names; room = c.second_room; inclusions = c.second_inclusions })
-          (handed given.show.given.both by) (rw by.layout comparable) is (rw by.layout chosen) (rw by.layout witness) in
-          rw by.layout at last
-      by_report (is_right is chosen witness) = absurd (omega arith)
 
   first_file : h.first.file.now ≡ r.first.file.now
   first_file = ap (λ (z : Terminology). z.file.now) by.first
@@ -154,7 +122,7 @@ module _ {g : List ℕ} {r : Releases} {ys w : List ℕ} {x : Asked} (given : To
   compared_again : {s t s' t' : List ℕ} → s' ≡ s → t' ≡ t → Comparing s t h w → Comparing s' t' h w
   compared_again e f c = rw (e, f) c
 
-  pub to_write_right : {ps : List ℕ} → length ps ≡ 1024 → right.ToWriteRight h x.name ys ps w
+  pub to_write_right : {ps : List ℕ} → length ps ≡ 1024 → right.ToWriteRight h x.name.0 ys ps w
   to_write_right long = record {
     comparing = compared_again first_file second_file comparing;
     first_at = rw by.layout refl;
@@ -165,7 +133,33 @@ module _ {g : List ℕ} {r : Releases} {ys w : List ℕ} {x : Asked} (given : To
     name = rw by.layout name_in;
   }
 
-  pub right_written : {zs v : List ℕ} {k : ℕ} → side_number x.side ≡ 2 → right.RightWritten h x.name ys zs w v k → SideWritten g r ys zs w v x k
+-- on the left
+module _ {g : List ℕ} {r : Releases} {ys w : List ℕ} {x : Asked} (given : ToWriteSide g r ys w x) {h : layout.Given} (by : PutBy Above g r (forward_layout r) h) where
+  pub left_written : {zs v : List ℕ} {k : ℕ} → side_number x.side ≡ 1 → left.LeftWritten h x.name.0 ys zs w v k → SideWritten g r ys zs w v x k
+  left_written {zs} {v} {k} one written = record {
+    kept = record {
+      few = rw by.layout at written.few;
+      rows_long = written.rows_long;
+      rows_past = written.past;
+      long = written.long;
+      past = λ p i. written.beyond p (rw by.layout (omega (arith, edges_end given by)));
+    };
+    shows = by_report;
+  }
+    where
+      by_report : ReportedBy g r (side_number x.side) x.name.0 → LastShowsBy g r (side_number x.side) x.name.0 zs k
+      by_report (is_left is chosen witness) =
+          let c = comparing given by in
+          let last = written.shows g r.first.file.now r.second.file.now (side_number x.side)
+          (record { release = c.first_release; names = c.first_names; room = c.first_room; inclusions = c.first_inclusions })
+          (record { release = c.second_release; names = c.second_names; room = c.second_room; inclusions = c.second_inclusions })
+          (handed given.show.given.both by) (rw by.layout (comparable given by)) is (rw by.layout chosen) (rw by.layout witness) in
+          rw by.layout at last
+      by_report (is_right is chosen witness) = absurd (omega arith)
+
+-- on the right
+module _ {g : List ℕ} {r : Releases} {ys w : List ℕ} {x : Asked} (given : ToWriteSide g r ys w x) {h : layout.Given} (by : PutBy Below g r (forward_layout r) h) where
+  pub right_written : {zs v : List ℕ} {k : ℕ} → side_number x.side ≡ 2 → right.RightWritten h x.name.0 ys zs w v k → SideWritten g r ys zs w v x k
   right_written {zs} {v} {k} two written = record {
     kept = record {
       few = rw by.layout at written.few;
@@ -177,10 +171,10 @@ module _ {g : List ℕ} {r : Releases} {ys w : List ℕ} {x : Asked} (given : To
     shows = by_report;
   }
     where
-      by_report : ReportedBy g r (side_number x.side) x.name → LastShowsBy g r (side_number x.side) x.name zs k
+      by_report : ReportedBy g r (side_number x.side) x.name.0 → LastShowsBy g r (side_number x.side) x.name.0 zs k
       by_report (is_right is chosen witness) =
-          let last = written.shows.of_signature g (handed given.show.given.both by) (rw by.layout chosen) (rw (by.layout, first_file, second_file) witness) in
-          rw two (rw (by.layout, first_file, second_file) at last)
+          let last = written.shows.of_signature g (handed given.show.given.both by) (rw by.layout chosen) (rw (by.layout, first_file given by, second_file given by) witness) in
+          rw two (rw (by.layout, first_file given by, second_file given by) at last)
       by_report (is_left is chosen witness) = absurd (omega arith)
 
 -- the promise
@@ -212,7 +206,6 @@ module _ {s t : List ℕ} (g : List ℕ) (side a : ℕ) (ys w : List ℕ) where
       unfolding row_count
       to_show = record {
         given = record { both = both_given read enough.work; signature = rw (read.names, read.roles) enough.signature };
-        few_roles = rw read.roles (few_counts (both_agree read)).1;
         rows = rw read.names (omega (arith, enough.rows, mul-div-le (length ys) 3));
       }
 

@@ -8,7 +8,7 @@ use Rattle.std.specs.Prelude.{◌≡◌, ◌⊎◌, true, List, ℕ, Option, Som
 use Rattle.el.specs.Signatures.{Signature}
 use Rattle.concept_rows.specs.Rows.{ReportedOn}
 use Rattle.concept_rows.specs.Lent.{Last}
-use Rattle.release.specs.Files.{axioms_of}
+use Rattle.release.specs.Files.{content_of}
 use Rattle.signature.specs.Bytes.{signature_of}
 use Rattle.signature.specs.declared.lent.LentSignature.{LentSignature}
 use Rattle.comparison.specs.declared.Releases.{Releases}
@@ -21,7 +21,7 @@ side_number Left = 1
 side_number Right = 2
 
 pub record IsAsked (g : LentSignature) (a side : ℕ) (x : Asked) : Type 0 where
-  pub name : x.name ≡ a
+  pub name : x.name.0 ≡ a
   pub side_is : side_number x.side ≡ side
   pub chosen : (signature_of g.names g.roles g.bytes.now).has_name a ≡ true
 
@@ -36,7 +36,7 @@ abbrev pub signature_in : List ℕ → Releases → Signature
 signature_in g r = signature_of r.names r.roles g
 
 abbrev pub ReportedBy : List ℕ → Releases → ℕ → ℕ → Type 0
-ReportedBy g r side a = ReportedOn (signature_in g r) (axioms_of r.first.file.now) (axioms_of r.second.file.now) side a
+ReportedBy g r side a = ReportedOn (signature_in g r) (content_of r.first.file.now) (content_of r.second.file.now) side a
 
 abbrev pub LastShowsBy : List ℕ → Releases → ℕ → ℕ → List ℕ → ℕ → Type 0
-LastShowsBy g r side a ys k = Last (signature_in g r) (axioms_of r.first.file.now) (axioms_of r.second.file.now) side a ys k
+LastShowsBy g r side a ys k = Last (signature_in g r) (content_of r.first.file.now) (content_of r.second.file.now) side a ys k

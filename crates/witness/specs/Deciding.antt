@@ -11,9 +11,9 @@ use Rattle.el.specs.Terminologies.{NamesBelow}
 use Rattle.el.proofs.Tests.{Tells}
 use Rattle.concept_rows.specs.Rows.{Shows}
 use Rattle.concept_rows.specs.Lent.{row_at, row_count}
-use Rattle.concept_rows.proofs.Rows.{Formed}
-use Rattle.release.specs.Files.{axioms_of}
-use Rattle.row_evaluation.specs.Below.{RowIn}
+use Rattle.concept_rows.specs.Written.{Formed}
+use Rattle.release.specs.Files.{content_of}
+use Rattle.row_evaluation.specs.RowForms.{RowIn}
 use Rattle.comparison.specs.Compared.{BothGiven, Given}
 use Rattle.comparison.specs.declared.Releases.{Releases}
 use Rattle.meanings.specs.Comparing.{work_length}
@@ -27,13 +27,13 @@ pub record ToDecide (r : Releases) (ys w : List ℕ) (last : ℕ) (x : Asked) : 
   pub fit : (i : ℕ) → i < suc last → RowIn r.names i (row_at ys i)
   pub room : check_length r.names (suc last) ≤ length w
   pub zero : (p : ℕ) → work_length r.names ≤ p → p < check_length r.names (suc last) → get_or w p 0 ≡ 0
-  pub name : x.name < r.names
+  pub name : x.name.0 < r.names
 
 pub record Decided (r : Releases) (ys w v : List ℕ) (last : ℕ) (x : Asked) (yes : Bool) : Type 0 where
   pub long : length v ≡ length w
   pub past : (p : ℕ) → check_length r.names (suc last) ≤ p → get_or v p 0 ≡ get_or w p 0
-  pub answer : (sig : Signature) → NamesBelow r.names sig → Formed sig (row_at ys) (suc last) → sig.has_name x.name ≡ true
-      → Tells yes (Shows sig (axioms_of r.first.file.now) (axioms_of r.second.file.now) (side_number x.side) x.name (row_at ys) last)
+  pub answer : (sig : Signature) → NamesBelow r.names sig → Formed sig (row_at ys) (suc last) → sig.has_name x.name.0 ≡ true
+      → Tells yes (Shows sig (content_of r.first.file.now) (content_of r.second.file.now) (side_number x.side) x.name.0 (row_at ys) last)
 
 pub record ToCheck (g : List ℕ) (r : Releases) (ys w : List ℕ) : Type 0 where
   pub given : Given g r w

@@ -10,7 +10,7 @@ use Rattle.std.specs.Prelude.{◌≡◌, ◌↔◌, List, ◌++◌, ℕ, ◌*◌
 use Rattle.el.specs.Lists.{pick}
 use Rattle.concept_rows.specs.Rows.{ReportedOn}
 use Rattle.concept_rows.specs.Lent.{row_count, rows_needed, Last}
-use Rattle.release.specs.Files.{names_of, axioms_of}
+use Rattle.release.specs.Files.{names_of, content_of}
 use Rattle.release.specs.Readings.{checked}
 use Rattle.release.specs.Refusals.{Numbers, told}
 use Rattle.release.specs.declared.Counts.{Counts}
@@ -40,10 +40,10 @@ abbrev pub showing : List ℕ → List ℕ → List ℕ → ℕ → ℕ → Resu
 showing s t g k w = judged_to_show (checked s) (checked t) g k w
 
 abbrev pub LastShows : List ℕ → List ℕ → List ℕ → ℕ → ℕ → List ℕ → ℕ → Type 0
-LastShows s t g side a ys k = Last (chosen s g) (axioms_of s) (axioms_of t) side a ys k
+LastShows s t g side a ys k = Last (chosen s g) (content_of s) (content_of t) side a ys k
 
 abbrev pub IsReported : List ℕ → List ℕ → List ℕ → ℕ → ℕ → Type 0
-IsReported s t g side a = ReportedOn (chosen s g) (axioms_of s) (axioms_of t) side a
+IsReported s t g side a = ReportedOn (chosen s g) (content_of s) (content_of t) side a
 
 pub record RowsWritten (s t g : List ℕ) (side a : ℕ) (ys zs : List ℕ) (k : ℕ) : Type 0 where
   pub some : (1 ≤ k) ↔ IsReported s t g side a

@@ -9,7 +9,6 @@
 use Rattle.std.specs.Prelude.{◌≡◌, Bool, true, List, ℕ, ◌*◌, ◌≤◌, ◌<◌, length, get_or}
 use Rattle.el.proofs.Tests.{Tells}
 use Rattle.concept_rows.specs.Lent.{rows_needed}
-use Rattle.release.specs.Files.{most_roles}
 use Rattle.marks.specs.Memory.{size}
 use Rattle.comparison.specs.Compared.{Given, Ready}
 use Rattle.comparison.specs.declared.Releases.{Releases}
@@ -19,11 +18,11 @@ use Rattle.witness.specs.Asked.{side_number, signature_in, ReportedBy, LastShows
 pub record ToAsk (g : List ℕ) (r : Releases) (w : List ℕ) (x : Asked) : Type 0 where
   pub given : Given g r w
   pub ready : Ready r w
-  pub chosen : (signature_in g r).has_name x.name ≡ true
+  pub chosen : (signature_in g r).has_name x.name.0 ≡ true
 
 pub record ReportFound (g : List ℕ) (r : Releases) (w v : List ℕ) (x : Asked) (yes : Bool) : Type 0 where
   pub same : v ≡ w
-  pub reported : Tells yes (ReportedBy g r (side_number x.side) x.name)
+  pub reported : Tells yes (ReportedBy g r (side_number x.side) x.name.0)
 
 pub record Kept (n : ℕ) (ys zs w v : List ℕ) (k : ℕ) : Type 0 where
   pub few : k ≤ rows_needed n
@@ -34,17 +33,16 @@ pub record Kept (n : ℕ) (ys zs w v : List ℕ) (k : ℕ) : Type 0 where
 
 pub record ToShow (g : List ℕ) (r : Releases) (ys w : List ℕ) : Type 0 where
   pub given : Given g r w
-  pub few_roles : r.roles ≤ most_roles
   pub rows : 3 * rows_needed r.names ≤ length ys
 
 pub record ToWriteSide (g : List ℕ) (r : Releases) (ys w : List ℕ) (x : Asked) : Type 0 where
   pub show : ToShow g r ys w
   pub ready : Ready r w
-  pub chosen : (signature_in g r).has_name x.name ≡ true
+  pub chosen : (signature_in g r).has_name x.name.0 ≡ true
 
 pub record SideWritten (g : List ℕ) (r : Releases) (ys zs w v : List ℕ) (x : Asked) (k : ℕ) : Type 0 where
   pub kept : Kept r.names ys zs w v k
-  pub shows : ReportedBy g r (side_number x.side) x.name → LastShowsBy g r (side_number x.side) x.name zs k
+  pub shows : ReportedBy g r (side_number x.side) x.name.0 → LastShowsBy g r (side_number x.side) x.name.0 zs k
 
 pub record WrittenIfReported (g : List ℕ) (r : Releases) (side a : ℕ) (ys zs w v : List ℕ) (k : ℕ) : Type 0 where
   pub kept : Kept r.names ys zs w v k

@@ -1,7 +1,7 @@
 // What is asked of both calls: a side of a chosen name.
 ghost use Rattle.witness.specs.Asked.{AskedFor};
 
-use row_evaluation::formed::has_name;
+use release::ConceptName;
 use signature::LentSignature;
 
 // The left, where a concept lies above the name, and the right, where it lies below.
@@ -14,16 +14,16 @@ pub enum Side {
 // A name that is chosen, and a side of it.
 #[derive(Clone, Copy, Debug, PartialEq, Eq)]
 pub struct Asked {
-    pub name: usize,
+    pub name: ConceptName,
     pub side: Side,
 }
 
 impl Asked {
     // Nothing is asked of a name that is not chosen, nor on a side other than 1, the left, and 2, the right.
-    pub fn of(signature: &LentSignature, name: usize, side: usize) -> Option<Asked>
-        ensures { AskedFor signature.now name side result }
+    pub fn of(signature: &LentSignature, name: ConceptName, side: usize) -> Option<Asked>
+        ensures { AskedFor signature.now name.0 side result }
     {
-        if !has_name(signature, name) {
+        if !signature.has_name(name) {
             return None;
         }
         let side = match side {

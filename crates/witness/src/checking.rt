@@ -8,7 +8,7 @@ use crate::lent::row_count;
 use comparison::Releases;
 use meanings::{CompareRefusal, read_releases};
 use release::ConceptName;
-use release::table::{Row, Table};
+use release::table::Table;
 use row_evaluation::Evaluation;
 use row_evaluation::above::differs_below;
 use row_evaluation::below::differs_above;
@@ -45,13 +45,13 @@ fn decide(releases: &Releases, rows: &[u32], work: &mut [u8], last: usize, asked
 fn rows_show(
     releases: &Releases,
     signature: &[u8],
-    name: usize,
+    name: ConceptName,
     side: usize,
     rows: &[u32],
     work: &mut [u8],
 ) -> bool
     requires { ToCheckCleared signature.now releases.now rows.now work.old }
-    ensures { CheckAnswered signature.now releases.now side name rows.now work.old work.new result }
+    ensures { CheckAnswered signature.now releases.now side name.0 rows.now work.old work.new result }
 {
     let lent = releases.lend(signature);
     let Some(asked) = Asked::of(&lent, name, side) else {
@@ -72,13 +72,13 @@ fn rows_show(
 fn check_rows(
     releases: &Releases,
     signature: &[u8],
-    name: usize,
+    name: ConceptName,
     side: usize,
     rows: &[u32],
     work: &mut [u8],
 ) -> bool
     requires { ToCheck signature.now releases.now rows.now work.old }
-    ensures { RowsChecked signature.now releases.now side name rows.now work.old work.new result }
+    ensures { RowsChecked signature.now releases.now side name.0 rows.now work.old work.new result }
 {
     let count = row_count(rows);
     let need = marks::work_length(releases.names) + 2 * (releases.names + 1) * count;
@@ -102,9 +102,9 @@ pub fn check_concept(
     ensures { CheckedAs first.now second.now signature.now side name.0 rows.now work.old work.new result }
 {
     // Local arrays, since there is no heap.
-    let mut first_table = [Row::BLANK; Table::LENGTH];
-    let mut second_table = [Row::BLANK; Table::LENGTH];
+    let mut first_table = Table::BLANK;
+    let mut second_table = Table::BLANK;
     let (counts, releases) = read_releases(first, second, &mut first_table, &mut second_table)?;
     judge_check(counts, signature, row_count(rows), work.len())?;
-    Ok(check_rows(&releases, signature, name.0, side, rows, work))
+    Ok(check_rows(&releases, signature, name, side, rows, work))
 }

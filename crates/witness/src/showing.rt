@@ -9,8 +9,10 @@ use crate::judging::judge_show;
 use crate::lent::row_count;
 use crate::refusals::ShowRefusal;
 use comparison::Releases;
+use layout::edges::Position;
 use meanings::read_releases;
-use release::table::{Row, Table};
+use release::roles::RoleSet;
+use release::table::Table;
 use release::{ConceptName, Release};
 use witness_above::write_left;
 use witness_below::{NOTES, write_right};
@@ -43,8 +45,8 @@ fn is_reported_on(releases: &Releases, signature: &[u8], work: &mut [u8], asked:
     let mut result = [0u8; Release::NAMES];
     releases.compare_prepared(signature, &mut result, work);
     match asked.side {
-        Side::Left => on_left(result[asked.name]),
-        Side::Right => on_right(result[asked.name]),
+        Side::Left => on_left(result[asked.name.0]),
+        Side::Right => on_right(result[asked.name.0]),
     }
 }
 
@@ -62,13 +64,18 @@ fn write_side(
     requires { ToWriteSide signature.now releases.now rows.old work.old asked }
     ensures { SideWritten signature.now releases.now rows.old rows.new work.old work.new asked result }
 {
-    let mut edges = [false; Release::NAMES];
+    let mut edges = [RoleSet::NONE; Release::NAMES];
     let mut numbers = [0u32; NODES];
     let mut notes = [0u32; NOTES];
-    let given = releases.given(signature, &mut edges);
     match asked.side {
-        Side::Left => write_left(&given, work, rows, &mut numbers, &mut notes, asked.name),
-        Side::Right => write_right(&given, work, rows, &mut numbers, &mut notes, asked.name),
+        Side::Left => {
+            let above = releases.given(signature, Position::Above, &mut edges);
+            write_left(&above, work, rows, &mut numbers, &mut notes, asked.name)
+        }
+        Side::Right => {
+            let below = releases.given(signature, Position::Below, &mut edges);
+            write_right(&below, work, rows, &mut numbers, &mut notes, asked.name)
+        }
     }
 }
 
@@ -76,13 +83,13 @@ fn write_side(
 fn write_if_reported(
     releases: &Releases,
     signature: &[u8],
-    name: usize,
+    name: ConceptName,
     side: usize,
     rows: &mut [u32],
     work: &mut [u8],
 ) -> usize
     requires { ToShow signature.now releases.now rows.old work.old }
-    ensures { WrittenIfReported signature.now releases.now side name rows.old rows.new work.old work.new result }
+    ensures { WrittenIfReported signature.now releases.now side name.0 rows.old rows.new work.old work.new result }
 {
     let lent = releases.lend(signature);
     let Some(asked) = Asked::of(&lent, name, side) else {
@@ -99,13 +106,13 @@ fn write_if_reported(
 fn show_rows(
     releases: &Releases,
     signature: &[u8],
-    name: usize,
+    name: ConceptName,
     side: usize,
     rows: &mut [u32],
     work: &mut [u8],
 ) -> usize
     requires { ToShow signature.now releases.now rows.old work.old }
-    ensures { RowsShown signature.now releases.now side name rows.old rows.new work.old work.new result }
+    ensures { RowsShown signature.now releases.now side name.0 rows.old rows.new work.old work.new result }
 {
     let written = write_if_reported(releases, signature, name, side, rows, work);
     marks::clear(work, marks::work_length(releases.names));
@@ -126,9 +133,9 @@ pub fn show_concept(
     ensures { ShownAs first.now second.now signature.now side name.0 rows.old rows.new work.old work.new result }
 {
     // Local arrays, since there is no heap.
-    let mut first_table = [Row::BLANK; Table::LENGTH];
-    let mut second_table = [Row::BLANK; Table::LENGTH];
+    let mut first_table = Table::BLANK;
+    let mut second_table = Table::BLANK;
     let (counts, releases) = read_releases(first, second, &mut first_table, &mut second_table)?;
     judge_show(counts, signature, row_count(rows), work.len())?;
-    Ok(show_rows(&releases, signature, name.0, side, rows, work))
+    Ok(show_rows(&releases, signature, name, side, rows, work))
 }

@@ -1,5 +1,4 @@
 -- Turns one after the other, and passes: what all of them keep, and that nothing is left to take where a pass writes nothing.
-use mathlib.Core.Bool.{true}
 use mathlib.Core.Path.{◌≡◌, refl, sym, ◌∙◌}
 use mathlib.Core.List.{List}
 use Prim.Native.Nat.{ℕ, ◌+◌, ◌≤◌, ◌<◌}
@@ -9,19 +8,25 @@ use lib.ListN.{get_or}
 use Rattle.concept_rows.proofs.Rows.{agree_same}
 use Rattle.release.specs.Tables.{filler_at}
 use Rattle.marks.specs.declared.Square.{Square}
-use Rattle.marks.specs.Squares.{span, place}
+use Rattle.marks.specs.Squares.{span, place, First, Nowhere}
 use Rattle.marks.proofs.Squares.{place_below}
 use Rattle.layout.specs.declared.Layout.{Layout}
 use Rattle.layout.specs.declared.Given.{Given}
 use Rattle.layout.specs.Layouts.{first_square, second_square}
-use Rattle.layout.specs.Tables.{has_edge}
+use Rattle.layout.specs.Tables.{HasEdge}
 use Rattle.row_evaluation.specs.Cells.{cell, Holds, RowRoom}
 use Rattle.row_evaluation.proofs.Worlds.{world_after}
 use Rattle.row_evaluation.proofs.RowBytes.{cell_earlier, room_earlier}
 use Rattle.witness_above.specs.Joining.{line}
-use Rattle.witness_above.specs.Left.{State, Turned, NameTurned, HasEdge, EdgeTurned}
-use Rattle.witness_above.specs.Passes.{Chosen, RolesFit, NameQuiet, EdgeQuiet, ToGo, Went, Passed, Done}
+use Rattle.witness_above.specs.Left.{State, Turned, NameTurned, Edge, EdgeTurned}
+use Rattle.witness_above.specs.Passes.{Chosen, NameQuiet, EdgeQuiet, ToGo, Went, Passed, Done}
+use Rattle.witness_above.proofs.EdgeRoles.{role_before, roles_all, edge_end}
 use Rattle.witness_above.proofs.Reaching.{laid_after}
+
+-- turns for the roles of the edge of x that were found before `from`
+pub record RolesTurned (G : Given) (asked x from k : ℕ) (ys zs ps qs w v : List ℕ) (j : ℕ) : Type 0 where
+  pub went : Went G asked k ys zs ps qs w v j
+  pub quiet : Holds w G.layout.marks G.layout.names asked asked → j ≡ k → (r : ℕ) → r < from → Edge G x r → EdgeQuiet G w x r
 
 pub turned_none : (L : Layout) {asked k : ℕ} {ys ps w : List ℕ} → State L k ys ps w → Turned L asked k ys ys ps ps w w k
 turned_none L state = record {
@@ -60,12 +65,6 @@ turned_then {k = k} {j = j} {i = i} one two = record {
     sooner : i ≡ k → j ≡ k
     sooner e = omega (arith, one.more, two.more)
 
--- what is given is of use: the name of an edge has a row, its filler is a node
-pub edge_of : {G : Given} → RolesFit G → {x : ℕ} → x < G.layout.names → has_edge G.edges.now x ≡ true → HasEdge G x
-edge_of {G} fit {x} h e =
-    let kind = G.edges_found.restriction x h e in
-    record { row = record { row = omega (arith, G.first_rowed.rows) }; is_restriction = kind; filler = G.first_rowed.filler x h kind; role = fit.small x h e }
-
 module _ {G : Given} {asked : ℕ} where
   pub go_after : {k j : ℕ} {ys zs ps qs w v : List ℕ} → ToGo G asked k ys ps w → Turned G.layout asked k ys zs ps qs w v j
       → ToGo G asked j zs qs v
@@ -73,7 +72,6 @@ module _ {G : Given} {asked : ℕ} where
     asked_in = go.asked_in;
     state = turned.state;
     laid = laid_after turned.long go.laid;
-    roles = go.roles;
   }
 
   pub asked_room : {k : ℕ} {ys ps w : List ℕ} → ToGo G asked k ys ps w → RowRoom G.layout.marks G.layout.names asked w
@@ -87,13 +85,8 @@ module _ {G : Given} {asked : ℕ} where
       → Went G asked k ys zs ps qs w v j
   went_name {x = x} e turned = record { turned = turned.turned; keeps = λ o sig s t one two opened report. turned.keeps o sig s t one two (opened.chosen x e) report }
 
-  pub went_edge : {k x j : ℕ} {ys zs ps qs w v : List ℕ} → x < G.layout.names → has_edge G.edges.now x ≡ true → EdgeTurned G asked k x ys zs ps qs w v j
-      → Went G asked k ys zs ps qs w v j
-  went_edge {x = x} h e turned = record {
-    turned = turned.turned;
-    keeps = λ o sig s t one two opened report. turned.keeps o sig s t one two (opened.role x h e) (opened.leads x h e)
-        report;
-  }
+  pub went_edge : {k x r j : ℕ} {ys zs ps qs w v : List ℕ} → Edge G x r → EdgeTurned G asked k x r ys zs ps qs w v j → Went G asked k ys zs ps qs w v j
+  went_edge {x = x} {r = r} e turned = record { turned = turned.turned; keeps = λ o sig s t one two opened report. turned.keeps o sig s t one two (opened.role x r e) (opened.leads x r e) report }
 
   module _ {k j : ℕ} {ys zs ps qs w v : List ℕ} (go : ToGo G asked k ys ps w) where
     pub went_then : Went G asked k ys zs ps qs w v j → {xs rs u : List ℕ} {i : ℕ} → Went G asked j zs xs qs rs v u i
@@ -135,50 +128,76 @@ module _ {G : Given} {asked : ℕ} where
             record { is = rw (same_square (second_square G.layout) go.laid.second_apart y x (omega arith) (omega arith)) r.is };
       }
 
-      pub edge_back : {x : ℕ} → x < G.layout.names → HasEdge G x → EdgeQuiet G v x → EdgeQuiet G w x
-      edge_back {x} x_in edge quiet = record {
+      pub edge_back : {x r : ℕ} → Edge G x r → EdgeQuiet G v x r → EdgeQuiet G w x r
+      edge_back {x} edge quiet = record {
         lined = λ z y h l m k.
-            let r = quiet.lined z y h l (record { is = rw (same_square (first_square G.layout) go.laid.first_apart z x h (omega arith)) m.is }) (record { is = rw (same_node h l) k.is }) in
+            let r = quiet.lined z y h l (record { is = rw (same_square (first_square G.layout) go.laid.first_apart z x h (omega (arith, edge.is_name))) m.is })
+            (record { is = rw (same_node h l) k.is }) in
             record {
               by = r.by;
               is_name = r.is_name;
-              serves = record {
-                is_restriction = r.serves.is_restriction;
-                role = r.serves.role;
+              successor = record {
+                is_restriction = r.successor.is_restriction;
+                role = r.successor.role;
                 below = record {
-                  is = rw (← same_node {z = filler_at G.first.table.now x} {y = filler_at G.second.table.now r.by} edge.filler
-                      (omega (arith, G.second_rowed.filler r.by r.is_name r.serves.is_restriction))) r.serves.below.is;
+                  is = rw (← same_node {z = filler_at G.first.table.now x} {y = filler_at G.second.table.now r.by} (edge_end edge)
+                      (omega (arith, G.second_rowed.filler r.by r.is_name r.successor.is_restriction))) r.successor.below.is;
                 };
               };
               above = record { is = rw (← same_square (second_square G.layout) go.laid.second_apart y r.by (omega arith) (omega (arith, r.is_name))) r.above.is };
             };
       }
 
-      pub edge_on : {x : ℕ} → x < G.layout.names → HasEdge G x → EdgeQuiet G w x → EdgeQuiet G v x
-      edge_on {x} x_in edge quiet = record {
+      pub edge_on : {x r : ℕ} → Edge G x r → EdgeQuiet G w x r → EdgeQuiet G v x r
+      edge_on {x} edge quiet = record {
         lined = λ z y h l m k.
-            let r = quiet.lined z y h l (record { is = rw (← same_square (first_square G.layout) go.laid.first_apart z x h (omega arith)) m.is }) (record { is = rw (← same_node h l) k.is }) in
+            let r = quiet.lined z y h l (record { is = rw (← same_square (first_square G.layout) go.laid.first_apart z x h (omega (arith, edge.is_name))) m.is })
+            (record { is = rw (← same_node h l) k.is }) in
             record {
               by = r.by;
               is_name = r.is_name;
-              serves = record {
-                is_restriction = r.serves.is_restriction;
-                role = r.serves.role;
+              successor = record {
+                is_restriction = r.successor.is_restriction;
+                role = r.successor.role;
                 below = record {
-                  is = rw (same_node {z = filler_at G.first.table.now x} {y = filler_at G.second.table.now r.by} edge.filler
-                      (omega (arith, G.second_rowed.filler r.by r.is_name r.serves.is_restriction))) r.serves.below.is;
+                  is = rw (same_node {z = filler_at G.first.table.now x} {y = filler_at G.second.table.now r.by} (edge_end edge)
+                      (omega (arith, G.second_rowed.filler r.by r.is_name r.successor.is_restriction))) r.successor.below.is;
                 };
               };
               above = record { is = rw (same_square (second_square G.layout) go.laid.second_apart y r.by (omega arith) (omega (arith, r.is_name))) r.above.is };
             };
       }
 
+  -- the roles of an edge, one after the other
+  module _ {k x : ℕ} {ys ps w : List ℕ} (go : ToGo G asked k ys ps w) where
+    pub no_role_turned : RolesTurned G asked x 0 k ys ys ps ps w w k
+    no_role_turned = record { went = went_none go; quiet = λ held e q l edge. absurd (omega arith) }
+
+    pub role_turned : {from j r : ℕ} {zs qs v : List ℕ} → RolesTurned G asked x from k ys zs ps qs w v j → First (HasEdge G.edges.now x) (λ q. HasEdge G.edges.now x q → ⊥) 31 from r
+        → {xs rs u : List ℕ} {i : ℕ} → (Went G asked j zs xs qs rs v u i × (Holds v G.layout.marks G.layout.names asked asked → i ≡ j → EdgeQuiet G v x r))
+        → RolesTurned G asked x (r + 1) k ys xs ps rs w u i
+    role_turned {r = r} turned next edged =
+        let m = turned.went.turned.more in
+        let n = edged.0.turned.more in
+        record {
+          went = went_then go turned.went edged.0;
+          quiet = λ held e q l edge. elim (ℕ_discrete q r) [
+            | yes z ↦ edge_back go turned.went.turned (omega arith) edge
+                (rw z (edged.1 (held_same go turned.went.turned (omega arith) held) (omega arith)))
+            | no z ↦ turned.quiet held (omega arith) q (role_before G x next q (omega arith) edge.with_role) edge
+          ];
+        }
+
+    pub roles_turned : {from j : ℕ} {zs qs v : List ℕ} → RolesTurned G asked x from k ys zs ps qs w v j → Nowhere (λ q. HasEdge G.edges.now x q → ⊥) 31 from
+        → Holds w G.layout.marks G.layout.names asked asked → j ≡ k → (r : ℕ) → Edge G x r → EdgeQuiet G w x r
+    roles_turned turned past held e r edge = turned.quiet held e r (roles_all G x past edge) edge
+
   -- a pass
   module _ {k : ℕ} {ys ps w : List ℕ} (go : ToGo G asked k ys ps w) where
     pub passed_turn : {x j : ℕ} {zs qs v : List ℕ} → x < G.layout.names → Passed G asked x k ys zs ps qs w v j → {xs rs u : List ℕ} {i : ℕ}
         → (Went G asked j zs xs qs rs v u i × (Holds v G.layout.marks G.layout.names asked asked → i ≡ j → Chosen G x → NameQuiet G v x))
         → {xs' rs' u' : List ℕ} {i' : ℕ}
-        → (Went G asked i xs xs' rs rs' u u' i' × (Holds u G.layout.marks G.layout.names asked asked → i' ≡ i → has_edge G.edges.now x ≡ true → EdgeQuiet G u x))
+        → (Went G asked i xs xs' rs rs' u u' i' × (Holds u G.layout.marks G.layout.names asked asked → i' ≡ i → (r : ℕ) → HasEdge G.edges.now x r → EdgeQuiet G u x r))
         → Passed G asked (x + 1) k ys xs' ps rs' w u' i'
     passed_turn {x} {j} {zs} {qs} {v} x_in passed {i = i} named {i' = i'} edged =
         let both = went_then go passed.went named.0 in
@@ -192,10 +211,10 @@ module _ {G : Given} {asked : ℕ} where
             | yes z ↦ rw z (name_back go passed.went.turned (omega arith) x_in (named.1 (held_same go passed.went.turned (omega arith) held) (omega arith) (rw z at h)))
             | no z ↦ passed.names_quiet held (omega arith) y (omega arith) h
           ];
-          edges_quiet = λ held e y l h. elim (ℕ_discrete y x) [
-            | yes z ↦ rw z (edge_back go both.turned (omega arith) x_in (edge_of go.roles x_in (rw z at h))
-                (edged.1 (held_same go both.turned (omega arith) held) (omega arith) (rw z at h)))
-            | no z ↦ passed.edges_quiet held (omega arith) y (omega arith) h
+          edges_quiet = λ held e y r l h. elim (ℕ_discrete y x) [
+            | yes z ↦ rw z (edge_back go both.turned (omega arith) (record { is_name = x_in; with_role = rw z at h })
+                (edged.1 (held_same go both.turned (omega arith) held) (omega arith) r (rw z at h)))
+            | no z ↦ passed.edges_quiet held (omega arith) y r (omega arith) h
           ];
         }
 
@@ -207,5 +226,5 @@ module _ {G : Given} {asked : ℕ} where
       record {
         went = went_then go went passed.went;
         names_quiet = λ held x l h. name_on there passed.went.turned e l (passed.names_quiet (same_held there passed.went.turned e held) e x l h);
-        edges_quiet = λ held x l h. edge_on there passed.went.turned e l (edge_of go.roles l h) (passed.edges_quiet (same_held there passed.went.turned e held) e x l h);
+        edges_quiet = λ held x r edge. edge_on there passed.went.turned e edge (passed.edges_quiet (same_held there passed.went.turned e held) e x r edge.is_name edge.with_role);
       }

@@ -11,13 +11,14 @@ use native.Mathlib.Omega.{arith}
 use native.Mathlib.Numerals.{add-one}
 use native.Mathlib.Decide.{ℕ_discrete}
 use lib.ListN.{length, get_or}
-use Rattle.el.specs.Axioms.{Axiom}
+use Rattle.el.specs.Axioms.{Terminology}
 use Rattle.el.specs.Signatures.{Signature}
 use Rattle.el.specs.Concepts.{Concept}
 use Rattle.el.proofs.Tests.{Tells}
 use Rattle.concept_rows.specs.Lent.{row_at, rows_needed}
 use Rattle.concept_rows.specs.Rows.{concept_of_row}
-use Rattle.concept_rows.proofs.Rows.{Agree, agree_same, same_concept}
+use Rattle.concept_rows.specs.Written.{Agree}
+use Rattle.concept_rows.proofs.Rows.{agree_same, same_concept}
 use Rattle.concept_rows.proofs.Bounds.{left_rows_fit, square_small}
 use Rattle.marks.specs.declared.Square.{Square}
 use Rattle.marks.specs.Squares.{span, place, Room, Marked}
@@ -44,11 +45,11 @@ was_marked q w v apart before {x} {a} h l m =
     record { is = rw (← same) m.is }
 
 -- the same lines and concepts, later
-line_same : (u : List Axiom) (n base : ℕ) (o w v : List ℕ) → ((p : ℕ) → cell base n (line n) 0 ≤ p → get_or v p 0 ≡ get_or w p 0) → {x : ℕ} {c : Concept} → Line u n base o w x c
+line_same : (u : Terminology) (n base : ℕ) (o w v : List ℕ) → ((p : ℕ) → cell base n (line n) 0 ≤ p → get_or v p 0 ≡ get_or w p 0) → {x : ℕ} {c : Concept} → Line u n base o w x c
     → Line u n base o v x c
 line_same u n base o w v on lined = record { has = λ y y_in l d. record { is = on _ (cell_first base n (line n) _) ∙ (lined.has y y_in l d).is } }
 
-pub joins_later : {sig : Signature} {t u : List Axiom} {L : Layout} {a e k : ℕ} {ys zs ps o w v : List ℕ} → L.first + span L.names ≤ L.marks → a ≤ L.names → e < k
+pub joins_later : {sig : Signature} {t u : Terminology} {L : Layout} {a e k : ℕ} {ys zs ps o w v : List ℕ} → L.first + span L.names ≤ L.marks → a ≤ L.names → e < k
     → ((p : ℕ) → p < L.marks → get_or v p 0 ≡ get_or w p 0) → ((p : ℕ) → cell L.marks L.names (line L.names) 0 ≤ p → get_or v p 0 ≡ get_or w p 0) → Agree (row_at ys) (row_at zs) k
     → LeftReport sig t u L k ys ps o w → Joins sig t u L o w a e ys → Joins sig t u L o v a e zs
 joins_later {u = u} {L = L} {e = e} {ys = ys} {zs = zs} {o = o} {w = w} {v = v} apart a_in earlier before on agree report joins =
@@ -83,7 +84,7 @@ step_state x_in step exceeds rows few numbers bytes bound =
       bound = omega (arith, more.most, step_fewer x_in step.met exceeds);
     }
 
-pub step_keeps : {sig : Signature} {t u : List Axiom} {L : Layout} {x e k a : ℕ} {ys zs ps qs o w v : List ℕ} {j : ℕ} → x ≤ L.names → Joined L.marks L.names x e k ys zs ps qs w v j
+pub step_keeps : {sig : Signature} {t u : Terminology} {L : Layout} {x e k a : ℕ} {ys zs ps qs o w v : List ℕ} {j : ℕ} → x ≤ L.names → Joined L.marks L.names x e k ys zs ps qs w v j
     → e < k → Marked (first_square L) w x a → LeftReport sig t u L k ys ps o w → Joins sig t u L o w a e ys → LeftReport sig t u L j zs qs o v
 step_keeps {x = x} x_in step earlier below report joins = left_step x_in report earlier (joins.first x x_in below) (joins.second x x_in below) step
 
@@ -176,7 +177,7 @@ module _ {L : Layout} {asked a x e : ℕ} {ys ps w : List ℕ} (given : ToJoinAl
       earlier = omega (arith, first_wrote.more);
     }
 
-    as_suc : {sig : Signature} {t u : List Axiom} {o : List ℕ} → LeftReport sig t u L (suc e) ys ps o w → LeftReport sig t u L (e + 1) ys ps o w
+    as_suc : {sig : Signature} {t u : Terminology} {o : List ℕ} → LeftReport sig t u L (suc e) ys ps o w → LeftReport sig t u L (e + 1) ys ps o w
     as_suc {sig} {t} {u} {o} report = (let z : suc e ≡ e + 1 = omega arith in rw z at report)
 
     pub all_joined : {zs' qs' v' : List ℕ} {j' : ℕ} → OthersJoined L asked a e j zs zs' qs qs' v v' j' → JoinedAll L asked a e ys zs' ps qs' w v' j'
@@ -204,7 +205,7 @@ module _ {L : Layout} {asked a x e : ℕ} {ys ps w : List ℕ} (given : ToJoinAl
     fewer_held : held v L.marks L.names < held w L.marks L.names
     fewer_held = step_fewer given.places.asked_in met (rw is_asked at given.loses.exceeds)
 
-    last_above : {sig : Signature} {t u : List Axiom} {o : List ℕ} → Holds o L.marks L.names asked asked → LeftReport sig t u L (suc e) ys ps o w → Joins sig t u L o w a e ys
+    last_above : {sig : Signature} {t u : Terminology} {o : List ℕ} → Holds o L.marks L.names asked asked → LeftReport sig t u L (suc e) ys ps o w → Joins sig t u L o w a e ys
         → LastAbove sig t u L.names asked (suc e) ys
     last_above opened report joins =
         let below : Marked (first_square L) w asked a = rw is_asked at given.loses.below in

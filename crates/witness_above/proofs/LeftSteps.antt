@@ -11,13 +11,14 @@ use native.Mathlib.Omega.{arith}
 use native.Mathlib.Decide.{ℕ_discrete, dec_lt}
 use lib.ListN.{length, get_or}
 use Rattle.el.specs.Concepts.{Concept, Node, concept_of}
-use Rattle.el.specs.Axioms.{Axiom}
+use Rattle.el.specs.Axioms.{Terminology}
 use Rattle.el.specs.Derivability.{Derives}
 use Rattle.el.specs.Signatures.{Signature}
 use Rattle.el.specs.Terminologies.{IsNode}
 use Rattle.concept_rows.specs.Rows.{Row, concept_of_row}
 use Rattle.concept_rows.specs.Lent.{row_at}
-use Rattle.concept_rows.proofs.Rows.{Agree, agree_same}
+use Rattle.concept_rows.specs.Written.{Agree}
+use Rattle.concept_rows.proofs.Rows.{agree_same}
 use Rattle.concept_rows.proofs.LeftRows.{left_taken, left_joined, Moved}
 use Rattle.release.specs.Entries.{node_number}
 use Rattle.classification.specs.Inclusions.{node_at}
@@ -29,7 +30,8 @@ use borrow.Author.Tests.{eqb-true, eq-eqb, ne_eqb}
 use native.Mathlib.Nat.{suc-mul, mul-le-mul_right}
 use Rattle.concept_rows.proofs.Counting.{one_fewer}
 use Rattle.row_evaluation.proofs.RowBytes.{cell_earlier, cell_first}
-use Rattle.witness_above.specs.Joining.{RowPut, Met, Exceeds, RowsJoined, row_taken, rows_joined, Joined}
+use Rattle.row_evaluation.specs.RowForms.{RowPut}
+use Rattle.witness_above.specs.Joining.{Met, Exceeds, RowsJoined, row_taken, rows_joined, Joined}
 use Rattle.witness_above.specs.Left.{row_of, Lost, Line, LeftReport, held}
 
 pub holds_decided : (w : List ℕ) (base n x y : ℕ) → Dec (Holds w base n x y)
@@ -77,7 +79,7 @@ module _ (n x : ℕ) (x_in : x ≤ n) where
     | no e ↦ inr (λ i. e (ap (node_number n) i ∙ number), there (node_number n z) e)
   ]
 
-  takes : {u : List Axiom} {base : ℕ} {o w v : List ℕ} {c : Concept} → Met base n x w v → Line u n base o w x c → (a b : Node) → IsNode n a → IsNode n b → Lost n base o v a b
+  takes : {u : Terminology} {base : ℕ} {o w v : List ℕ} {c : Concept} → Met base n x w v → Line u n base o w x c → (a b : Node) → IsNode n a → IsNode n b → Lost n base o v a b
       → Lost n base o w a b ⊎ ((a ≡ node_at n x) × (Derives u (concept_of b) c → ⊥))
   takes {base = base} {w = w} met lined a b a_in b_in lost = elim (ℕ_discrete (node_number n a) x) [
     | no e ↦ inl (lost.0, λ h. lost.1 (other_row met (node_number n a) (node_number n b) (number_small n b b_in) e h))
@@ -87,7 +89,7 @@ module _ (n x : ℕ) (x_in : x ≤ n) where
     ]
   ]
 
-module _ {sig : Signature} {t u : List Axiom} {L : Layout} {x e k : ℕ} {ys ps o w : List ℕ} (x_in : x ≤ L.names) (report : LeftReport sig t u L k ys ps o w) (earlier : e < k)
+module _ {sig : Signature} {t u : Terminology} {L : Layout} {x e k : ℕ} {ys ps o w : List ℕ} (x_in : x ≤ L.names) (report : LeftReport sig t u L k ys ps o w) (earlier : e < k)
     (above : Derives t (concept_of (node_at L.names x)) (concept_of_row (row_at ys) e)) (lined : Line u L.names L.marks o w x (concept_of_row (row_at ys) e)) where
   number_of : (m : ℕ) → get_or ps x 0 ≡ m → row_of L.names ps (node_at L.names x) ≡ m
   number_of m is = rw (number L.names x x_in) is

@@ -4,6 +4,7 @@ pub mod LeftSteps
 pub mod JoinedRows
 pub mod Rooms
 pub mod NameTurns
+pub mod EdgeRoles
 pub mod EdgeTurns
 pub mod Reaching
 pub mod Going

@@ -12,17 +12,18 @@ use native.Mathlib.Omega.{arith}
 use lib.Dec.{eqb}
 use lib.ListN.{length, get_or}
 use Rattle.el.specs.Concepts.{name, Node, concept_of}
-use Rattle.el.specs.Axioms.{Axiom}
+use Rattle.el.specs.Axioms.{Terminology}
 use Rattle.el.specs.Derivability.{Derives}
 use Rattle.el.specs.Signatures.{Signature}
 use Rattle.el.specs.Terminologies.{IsNode}
 use Rattle.concept_rows.specs.Rows.{Row, row, is_name, concept_of_row}
 use Rattle.concept_rows.specs.Lent.{row_at}
-use Rattle.concept_rows.proofs.Rows.{Agree, agree_same, name_row}
+use Rattle.concept_rows.specs.Written.{Agree}
+use Rattle.concept_rows.proofs.Rows.{agree_same, name_row}
 use Rattle.concept_rows.proofs.Counting.{passing_same}
 use Rattle.concept_rows.proofs.Bounds.{left_rows_fit}
 use Rattle.concept_rows.proofs.LeftRows.{left_grown, left_fewer}
-use Rattle.release.specs.Files.{axioms_of}
+use Rattle.release.specs.Files.{content_of}
 use Rattle.release.specs.Entries.{node_number}
 use Rattle.marks.specs.declared.Square.{Square}
 use Rattle.marks.specs.Squares.{span, place, Room, Marked}
@@ -36,7 +37,8 @@ use Rattle.witness_above.proofs.LeftSteps.{holds_decided, put_agrees}
 use Rattle.witness_above.proofs.JoinedRows.{room_after}
 use Rattle.row_evaluation.proofs.Worlds.{marked_below, below_marked}
 use Rattle.row_evaluation.proofs.RowBytes.{room_same, cell_base, cell_first, cell_earlier}
-use Rattle.witness_above.specs.Joining.{line, most, RowPut, ToFindLosing, NoneLoses, NodeLoses}
+use Rattle.row_evaluation.specs.RowForms.{most, RowPut}
+use Rattle.witness_above.specs.Joining.{line, ToFindLosing, NoneLoses, NodeLoses}
 use Rattle.witness_above.specs.Left.{held, State, LeftReport, LeftProgress, Joins, Places, LineCleared, ToJoinAll, JoinedAll, ToTurn, Turned, FirstWorld, SecondWorld, NameTurned}
 
 -- the same bytes before the line: the same pairs held
@@ -78,7 +80,7 @@ module _ (L : Layout) {k : ℕ} {ys ps w u v : List ℕ} (state : State L k ys p
   pub node_holds : {x y : ℕ} → x ≤ L.names → y ≤ L.names → Holds w L.marks L.names x y → Holds v L.marks L.names x y
   node_holds {x} {y} h l k = record { is = before_line (cell L.marks L.names x y) (cell_earlier L.marks L.names (line L.names) x y (omega arith) l) ∙ k.is }
 
-  pub lined_report : {sig : Signature} {t s : List Axiom} {o : List ℕ} → LeftReport sig t s L k ys ps o w → LeftReport sig t s L k ys ps o v
+  pub lined_report : {sig : Signature} {t s : Terminology} {o : List ℕ} → LeftReport sig t s L k ys ps o w → LeftReport sig t s L k ys ps o v
   lined_report report = record {
     rows = left_fewer report.rows
         (λ x y x_in y_in lost. (lost.0, λ h. lost.1 (node_holds (number_small L.names x x_in) (number_small L.names y y_in) h)));
@@ -136,7 +138,7 @@ module _ (L : Layout) {k : ℕ} {ys ps w u v : List ℕ} (state : State L k ys p
         same_bytes = λ _ p l. before_line p l;
       }
 
-      pub idle_keeps : {sig : Signature} {t s : List Axiom} {o : List ℕ} → Holds w L.marks L.names asked asked → LeftProgress sig t s L asked k ys ps o w
+      pub idle_keeps : {sig : Signature} {t s : Terminology} {o : List ℕ} → Holds w L.marks L.names asked asked → LeftProgress sig t s L asked k ys ps o w
           → LeftProgress sig t s L asked k ys ps o v
       idle_keeps still progress = record { at_start = progress.at_start; going = λ h. lined_report (progress.going still); shown = λ lost. absurd (lost places.held) }
 
@@ -186,7 +188,7 @@ module _ {G : Given} {asked k a : ℕ} {ys ps w u v : List ℕ} (given : ToTurn 
   pub name_looks : ToFindLosing G.layout a v × (asked ≤ G.layout.names) × (G.layout.names ≤ 1023)
   name_looks = lined_looks G.layout given.state cleared lined places
 
-  node_below : {t : List ℕ} → SecondWorld t G w → (y : Node) → IsNode G.layout.names y → Derives (axioms_of t) (concept_of y) (name a)
+  node_below : {t : List ℕ} → SecondWorld t G w → (y : Node) → IsNode G.layout.names y → Derives (content_of t) (concept_of y) (name a)
       → Marked (second_square G.layout) w (node_number G.layout.names y) a
   node_below two y y_in d = below_marked two (node_number G.layout.names y) a (omega (arith, number_small G.layout.names y y_in))
       (omega (arith, given.name)) (rw (at_number G.layout.names y y_in) d)
@@ -204,13 +206,13 @@ module _ {G : Given} {asked k a : ℕ} {ys ps w u v : List ℕ} (given : ToTurn 
     name_asks = joining_asks G.layout given.state cleared lined places some (one_row wrote)
 
     module _ {sig : Signature} {s t : List ℕ} (o : List ℕ) (one : FirstWorld s G w) (two : SecondWorld t G w) (chosen : sig.has_name a ≡ true)
-        (report : LeftReport sig (axioms_of s) (axioms_of t) G.layout k ys ps o w) where
-      name_report : LeftReport sig (axioms_of s) (axioms_of t) G.layout (suc k) xs ps o v
+        (report : LeftReport sig (content_of s) (content_of t) G.layout k ys ps o w) where
+      name_report : LeftReport sig (content_of s) (content_of t) G.layout (suc k) xs ps o v
       name_report = record {
         rows = left_grown (lined_report G.layout given.state cleared lined report).rows (put_agrees wrote) (rw wrote.here (is_name refl chosen));
       }
 
-      name_joins : Joins sig (axioms_of s) (axioms_of t) G.layout o v a k xs
+      name_joins : Joins sig (content_of s) (content_of t) G.layout o v a k xs
       name_joins = let is : concept_of_row (row_at xs) k ≡ name a = name_row name_report.rows.formed wrote.here in record {
         first = λ z z_in m. rw is
             (marked_below one z a z_in given.name (square_back G.layout given.state cleared lined (first_square G.layout) given.laid.first_apart z_in (omega (arith, given.name)) m));
@@ -226,13 +228,13 @@ module _ {G : Given} {asked k a : ℕ} {ys ps w u v : List ℕ} (given : ToTurn 
       turned = turned G.layout given.state cleared lined places some (one_row wrote) all;
       keeps = λ o sig s t one two chosen progress.
           let report = progress.going given.held in
-          all.keeps o sig (axioms_of s) (axioms_of t) progress.at_start (name_report o one two chosen report) (name_joins o one two chosen report);
+          all.keeps o sig (content_of s) (content_of t) progress.at_start (name_report o one two chosen report) (name_joins o one two chosen report);
       quiet = λ e. absurd (omega (arith, all.more));
     }
 
 -- room for a row
 pub name_row_asks : {G : Given} {asked k a : ℕ} {ys ps w : List ℕ} → ToTurn G asked k a ys ps w
-    → (3 * k + 3 ≤ length ys) × (1 ≤ most) × (a ≤ most) × (0 ≤ most)
+    → (3 * k + 3 ≤ length ys) × (a ≤ most)
 name_row_asks {G = G} {k = k} given =
     let fits = left_rows_fit G.layout.names k (omega (arith, given.state.bound)) in
-    (omega (arith, given.state.rows), omega arith, omega (arith, given.name, given.state.few), omega arith)
+    (omega (arith, given.state.rows), omega (arith, given.name, given.state.few))

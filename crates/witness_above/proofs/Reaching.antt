@@ -18,20 +18,24 @@ use borrow.Author.Tests.{eqb-true, eq-eqb, ne_eqb}
 use lib.Dec.{eqb}
 use lib.ListN.{length, get_or, set, length-set}
 use lib.Seq.{get_or-set_same, get_or-set_other}
-use Rattle.el.proofs.Tests.{Tells, never, tells_as, tells_not, tells_eq}
+use Rattle.el.proofs.Tests.{Tells, which, not_both, never, tells_as, tells_not, tells_eq}
 use Rattle.concept_rows.proofs.Counting.{passing_most, fewer, one_fewer}
+use Rattle.release.specs.declared.table.Table.{Table}
+use Rattle.release.specs.declared.roles.RoleSet.{RoleSet}
+use Rattle.release.specs.Roles.{NoRole}
 use Rattle.release.specs.Files.{restricts}
-use Rattle.release.specs.Tables.{kind_at, role_at, filler_at}
+use Rattle.release.specs.Tables.{kind_at, filler_at}
 use Rattle.marks.specs.declared.Square.{Square}
 use Rattle.marks.specs.Squares.{span, place, Marked}
 use Rattle.marks.proofs.Squares.{place_below, refuted}
 use Rattle.layout.specs.declared.Given.{Given}
 use Rattle.layout.specs.Layouts.{first_square, second_square}
+use Rattle.layout.specs.Tables.{edges_at, Edges}
 use Rattle.row_evaluation.specs.Cells.{cell, Holds, RowRoom}
 use Rattle.row_evaluation.proofs.RowBytes.{place_is, place_inside, room_same, room_earlier, rows_below, cell_base, cell_first, cell_next, cell_earlier}
 use Rattle.witness_above.specs.Joining.{line}
 use Rattle.witness_above.specs.Left.{held, Laid}
-use Rattle.witness_above.specs.Reach.{Noted, New, Noting, NotedPair, Settled, LeadsTo, RowNoted, EdgeOf, Leading, ToReach, Expanded, Closing, Swept, Settling, Blank, Reached}
+use Rattle.witness_above.specs.Reach.{Noted, New, Noting, NotedPair, Settled, Serving, LeadsBy, LeadsTo, RowNoted, EdgeOf, Leading, ToReach, Expanded, Closing, Swept, Settling, Blank, Reached}
 use Rattle.witness_above.specs.Reach.{edge_row, last_row, ByEdge, Followed, BytesCleared, EdgesCleared, Grown, EdgeFollowed}
 use Rattle.witness_above.proofs.LeftSteps.{holds_decided}
 
@@ -123,15 +127,15 @@ pub reach_after : {G : Given} {w v : List ℕ} → length v ≡ length w → ToR
 reach_after e given = record { laid = laid_after e given.laid; bytes = room_same e given.bytes; edges = room_same e given.edges }
 
 -- the pairs of one edge
-module _ {G : Given} {r x y : ℕ} {w : List ℕ} where
-  module _ (given : ToReach G w) (y_in : y ≤ G.layout.names) {d : ℕ} {v : List ℕ} (d_in : d < G.layout.names) (so_far : RowNoted G r x y d w v) {z : Bool}
-      (tells : Tells z (LeadsTo G v r y d)) where
-    pub row_skip : z ≡ false → RowNoted G r x y (d + 1) w v
+module _ {G : Given} {set x y : ℕ} {w : List ℕ} where
+  module _ (given : ToReach G w) (y_in : y ≤ G.layout.names) {d : ℕ} {v : List ℕ} (d_in : d < G.layout.names) (so_far : RowNoted G set x y d w v) {z : Bool}
+      (tells : Tells z (LeadsBy G v set y d)) where
+    pub row_skip : z ≡ false → RowNoted G set x y (d + 1) w v
     row_skip e = record {
       noting = so_far.noting;
       each = λ c h leads. elim (ℕ_discrete c d) [
         | yes i ↦ absurd (refuted tells e
-            (let there : LeadsTo G v r y c = record {
+            (let there : LeadsBy G v set y c = record {
               is_restriction = leads.is_restriction;
               role = leads.role;
               above = marked_on so_far.noting.before (second_square G.layout) given.laid.second_apart
@@ -141,7 +145,7 @@ module _ {G : Given} {r x y : ℕ} {w : List ℕ} where
       ];
     }
 
-    pub row_more : z ≡ true → {node : ℕ} → node ≡ filler_at G.second.table.now d → {u : List ℕ} → NotedPair G.layout.marks G.layout.names x node v u → RowNoted G r x y (d + 1) w u
+    pub row_more : z ≡ true → {node : ℕ} → node ≡ filler_at G.second.table.now d → {u : List ℕ} → NotedPair G.layout.marks G.layout.names x node v u → RowNoted G set x y (d + 1) w u
     row_more e is pair = record {
       noting = noting_then so_far.noting pair.noting;
       each = λ c h leads. elim (ℕ_discrete c d) [
@@ -159,11 +163,11 @@ module _ {G : Given} {w : List ℕ} (given : ToReach G w) {v : List ℕ}
   pub edge_back : {c : ℕ} → c < G.layout.names → EdgeOf G v x c → EdgeOf G w x c
   edge_back h e = record { edge = e.edge; above = marked_back before (first_square G.layout) given.laid.first_apart x_in (omega arith) e.above }
 
-  pub leads_on : {r d : ℕ} → d < G.layout.names → LeadsTo G w r y d → LeadsTo G v r y d
-  leads_on h e = record { is_restriction = e.is_restriction; role = e.role; above = marked_on before (second_square G.layout) given.laid.second_apart y_in (omega arith) e.above }
+  pub leads_on : {c d : ℕ} → d < G.layout.names → LeadsTo G w c y d → LeadsTo G v c y d
+  leads_on h e = record { is_restriction = e.is_restriction; small = e.small; role = e.role; above = marked_on before (second_square G.layout) given.laid.second_apart y_in (omega arith) e.above }
 
-  pub leads_back : {r d : ℕ} → d < G.layout.names → LeadsTo G v r y d → LeadsTo G w r y d
-  leads_back h e = record { is_restriction = e.is_restriction; role = e.role; above = marked_back before (second_square G.layout) given.laid.second_apart y_in (omega arith) e.above }
+  pub leads_back : {c d : ℕ} → d < G.layout.names → LeadsTo G v c y d → LeadsTo G w c y d
+  leads_back h e = record { is_restriction = e.is_restriction; small = e.small; role = e.role; above = marked_back before (second_square G.layout) given.laid.second_apart y_in (omega arith) e.above }
 
   pub leading_back : {c d : ℕ} → c < G.layout.names → Leading G v x y c d → Leading G w x y c d
   leading_back h l = record { from = edge_back h l.from; is_name = l.is_name; to = leads_back l.is_name l.to }
@@ -268,8 +272,8 @@ pub edge_again : {G : Given} {c y : ℕ} {w : List ℕ} → Followed G w → c <
 edge_again {w = w} followed c_in y_in one = record { grown = grown_none w; by_edge = followed.each _ _ c_in y_in one }
 
 module _ {G : Given} {c y : ℕ} {w v u : List ℕ} (given : ToReach G w) (c_in : c < G.layout.names) (y_in : y ≤ G.layout.names)
-    (kind : restricts (kind_at G.first.table.now c) ≡ true) {role node : ℕ} (role_is : role ≡ role_at G.first.table.now c) (node_is : node ≡ filler_at G.first.table.now c)
-    (row : RowNoted G role node y G.layout.names w v) (settled : Settled G.layout.marks G.layout.names (edge_row G.layout.names c) y v u) where
+    (kind : restricts (kind_at G.first.table.now c) ≡ true) {set node : ℕ} (serving : Serving G c set) (node_is : node ≡ filler_at G.first.table.now c)
+    (row : RowNoted G set node y G.layout.names w v) (settled : Settled G.layout.marks G.layout.names (edge_row G.layout.names c) y v u) where
   abbrev here : ℕ
   here = cell G.layout.marks G.layout.names (edge_row G.layout.names c) y
 
@@ -295,7 +299,8 @@ module _ {G : Given} {c y : ℕ} {w v u : List ℕ} (given : ToReach G w) (c_in 
   by_edge = record {
     is_restriction = kind;
     each = λ d d_in leads.
-        let before : LeadsTo G w role y d = rw role_is (leads_back given edge_all_same y_in y_in d_in leads) in
+        let back = leads_back given edge_all_same y_in y_in d_in leads in
+        let before : LeadsBy G w set y d = record { is_restriction = leads.is_restriction; role = (serving.tells _ leads.small).1 leads.role; above = back.above } in
         noted_settled (filler_at G.first.table.now c) (filler_at G.second.table.now d) (G.first_rowed.filler c c_in kind) (G.second_rowed.filler d d_in leads.is_restriction)
         (rw (← node_is) (row.each d d_in before));
   }
@@ -328,8 +333,13 @@ module _ {G : Given} {c y : ℕ} {w v u : List ℕ} (given : ToReach G w) (c_in 
     by_edge = by_edge;
   }
 
+-- a name that has an edge is a restriction
+pub edge_restricts : {n : ℕ} {a : Table} {edges : List RoleSet} {x : ℕ} → Edges n a edges → x < n → (NoRole (edges_at edges x) → ⊥) → restricts (kind_at a x) ≡ true
+edge_restricts {a = a} {x = x} edges h some =
+    elim (which (restricts (kind_at a x))) [ inl e ↦ e | inr e ↦ absurd (some (record { none = λ r i. not_both (edges.restriction x r h i) e })) ]
+
 edge_filler : {G : Given} {w : List ℕ} {x c : ℕ} → EdgeOf G w x c → c < G.layout.names → filler_at G.first.table.now c ≤ G.layout.names
-edge_filler {G} {c = c} edge c_in = G.first_rowed.filler c c_in (G.edges_found.restriction c c_in edge.edge)
+edge_filler {G} {c = c} edge c_in = G.first_rowed.filler c c_in (edge_restricts G.edges_found c_in edge.edge)
 
 -- all that a pair leads to
 module _ {G : Given} {x y : ℕ} {w : List ℕ} where

@@ -1,4 +1,4 @@
--- Laws of what one step does: a row written, nodes taken from a row, the line emptied, a row joined, ∃ over the concept of a number.
+-- Laws of what one step does: nodes taken from a row, the line emptied, a row joined, ∃ over the concept of a number.
 use mathlib.Core.Path.{◌≡◌, refl, sym, ◌∙◌}
 use mathlib.Core.Bool.{Bool, true, false}
 use mathlib.Core.List.{List}
@@ -6,6 +6,7 @@ use Prim.Native.Nat.{ℕ, suc, ◌+◌, ◌-◌, ◌*◌, ◌≤◌, ◌<◌}
 use native.Mathlib.Omega.{arith}
 use native.Mathlib.Numerals.{add-one}
 use native.Mathlib.Decide.{ℕ_discrete}
+use Rattle.std.specs.Prelude.{Some}
 use lib.ListN.{length, get_or, set, length-set}
 use lib.Seq.{get_or-set_same, get_or-set_other}
 use Rattle.el.proofs.Tests.{Tells}
@@ -13,59 +14,13 @@ use Rattle.marks.proofs.Squares.{refuted}
 use Rattle.concept_rows.specs.Rows.{row}
 use Rattle.concept_rows.specs.Lent.{row_at}
 use Rattle.layout.specs.declared.Layout.{Layout}
+use Rattle.row_evaluation.specs.declared.rows.Form.TheVariants.{Top}
+use Rattle.row_evaluation.specs.RowForms.{form_of, RowPut}
+use Rattle.row_evaluation.proofs.RowForms.{form_row}
 use Rattle.row_evaluation.specs.Cells.{cell, Holds, RowRoom}
 use Rattle.row_evaluation.proofs.RowBytes.{place_is, place_inside, cell_first, cell_below, cell_one, cell_earlier}
-use Rattle.witness_above.specs.Joining.{line, RowPut, Taken, Met, Loses, rows_joined, Joined}
+use Rattle.witness_above.specs.Joining.{line, Taken, Met, Loses, rows_joined, Joined}
 use Rattle.witness_above.specs.Left.{TopFound, Restricted, over_row, over_top}
-
--- one row
-module _ (ys : List ℕ) (i a b c : ℕ) (room : 3 * i + 3 ≤ length ys) where
-  abbrev with_one : List ℕ
-  with_one = set ys (3 * i) a
-
-  abbrev with_two : List ℕ
-  with_two = set with_one (3 * i + 1) b
-
-  abbrev pub with_three : List ℕ
-  with_three = set with_two (3 * i + 2) c
-
-  pub long_one : length with_one ≡ length ys
-  long_one = simp length-set
-
-  pub long_two : length with_two ≡ length ys
-  long_two = simp length-set
-
-  apart : (p : ℕ) → (p ≡ 3 * i → ⊥) → (p ≡ 3 * i + 1 → ⊥) → (p ≡ 3 * i + 2 → ⊥) → get_or with_three p 0 ≡ get_or ys p 0
-  apart p x y z = get_or-set_other with_two (3 * i + 2) p c 0 z ∙ get_or-set_other with_one (3 * i + 1) p b 0 y ∙ get_or-set_other ys (3 * i) p a 0 x
-
-  third : get_or with_three (3 * i + 2) 0 ≡ c
-  third = get_or-set_same with_two (3 * i + 2) c 0 (omega (arith, long_two))
-
-  second : get_or with_three (3 * i + 1) 0 ≡ b
-  second = get_or-set_other with_two (3 * i + 2) (3 * i + 1) c 0 (λ e. omega arith) ∙ get_or-set_same with_one (3 * i + 1) b 0 (omega (arith, long_one))
-
-  first : get_or with_three (3 * i) 0 ≡ a
-  first = get_or-set_other with_two (3 * i + 2) (3 * i) c 0 (λ e. omega arith) ∙ get_or-set_other with_one (3 * i + 1) (3 * i) b 0 (λ e. omega arith) ∙ get_or-set_same ys (3 * i) a 0 (omega arith)
-
-  row_here : row_at with_three i ≡ row a b c
-  unfolding row_at
-  row_here = rw (first, second, third)
-
-  row_other : (j : ℕ) → (j ≡ i → ⊥) → row_at with_three j ≡ row_at ys j
-  unfolding row_at
-  row_other j h =
-      let x : get_or with_three (3 * j) 0 ≡ get_or ys (3 * j) 0 = apart (3 * j) (λ e. omega arith) (λ e. omega arith) (λ e. omega arith) in
-      let y : get_or with_three (3 * j + 1) 0 ≡ get_or ys (3 * j + 1) 0 = apart (3 * j + 1) (λ e. omega arith) (λ e. omega arith) (λ e. omega arith) in
-      let z : get_or with_three (3 * j + 2) 0 ≡ get_or ys (3 * j + 2) 0 = apart (3 * j + 2) (λ e. omega arith) (λ e. omega arith) (λ e. omega arith) in
-      rw (x, y, z)
-
-  pub row_put : {kind one other : ℕ} → a ≡ kind → b ≡ one → c ≡ other → RowPut i (row kind one other) ys with_three
-  row_put d e f = record {
-    long = simp length-set;
-    here = rw (← d, ← e, ← f) row_here;
-    other = row_other;
-    past = λ p h. apart p (λ e. omega arith) (λ e. omega arith) (λ e. omega arith);
-  }
 
 -- the line
 pub line_tells : {base n y : ℕ} {w : List ℕ} {z : Bool} → Tells z (Holds w base n (n + 1) y) → Tells z (Holds w base n (line n) y)
@@ -154,9 +109,8 @@ module _ {base n x e k m old : ℕ} {ys ps w v : List ℕ} (inside : x < length 
       one_more = elim (ℕ_discrete old 0) [ yes z ↦ absurd (some z) | no z ↦ omega arith ]
 
 -- the row of ⊤
-pub top_found : {k i : ℕ} {ys : List ℕ} → i < k → get_or ys (3 * i) 0 ≡ 0 → TopFound k ys i
-unfolding row_at
-top_found h e = record { earlier = h; kind = e }
+pub top_found : {k i : ℕ} {ys : List ℕ} → i < k → Some Top ≡ form_of (row_at ys i) → TopFound k ys i
+top_found {i = i} {ys = ys} h e = record { earlier = h; is_top = form_row (row_at ys i) (sym e) }
 
 -- ∃ over the concept of a number
 module _ {role number k : ℕ} {ys : List ℕ} where
@@ -165,7 +119,7 @@ module _ {role number k : ℕ} {ys : List ℕ} where
 
   module _ (none : number ≡ 0) {i : ℕ} (found : TopFound k ys i) where
     pub over_old_top : {zs : List ℕ} → RowPut k (row 3 role i) ys zs → Restricted role number k ys zs k
-    over_old_top put = over_top none found.earlier found.kind put refl
+    over_old_top put = over_top none found.earlier found.is_top put refl
 
 -- the line emptied
 pub record ClearedBefore (base n y : ℕ) (w v : List ℕ) : Type 0 where

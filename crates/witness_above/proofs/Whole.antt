@@ -6,18 +6,19 @@ use Prim.Native.Nat.{ℕ, ◌≤◌, ◌<◌}
 use native.Mathlib.Omega.{arith}
 use lib.ListN.{length, get_or}
 use Rattle.el.specs.Concepts.{name, concept_of}
-use Rattle.el.specs.Axioms.{Axiom}
+use Rattle.el.specs.Axioms.{Terminology}
 use Rattle.el.specs.Derivability.{Derives}
 use Rattle.el.specs.Signatures.{Signature}
 use Rattle.concept_rows.specs.Rows.{row, is_name, concept_of_row, above}
 use Rattle.concept_rows.specs.Lent.{row_at, Last}
+use Rattle.concept_rows.specs.Written.{Formed}
 use Rattle.concept_rows.proofs.Bounds.{left_rows_fit}
 use Rattle.concept_rows.proofs.LeftRows.{left_start}
-use Rattle.release.specs.Files.{axioms_of}
+use Rattle.release.specs.Files.{content_of}
+use Rattle.release.proofs.Linked.{role_small}
 use Rattle.release.specs.Entries.{node_number}
 use Rattle.layout.specs.declared.Given.{Given}
 use Rattle.layout.specs.Layouts.{chosen}
-use Rattle.layout.specs.Tables.{has_edge}
 use Rattle.layout.proofs.Findings.{name_handed}
 use Rattle.row_evaluation.specs.Cells.{Holds}
 use Rattle.row_evaluation.proofs.Worlds.{world_after}
@@ -25,13 +26,15 @@ use Rattle.row_evaluation.proofs.RowBytes.{room_same, cell_earlier}
 use Rattle.row_evaluation.proofs.Worlds.{marked_below, below_marked}
 use Rattle.classification.specs.Inclusions.{node_at}
 use Rattle.classification.proofs.Nodes.{at_name}
-use Rattle.concept_rows.proofs.Rows.{Formed, name_row}
-use Rattle.witness_above.specs.Joining.{line, RowPut}
-use Rattle.witness_above.specs.Left.{LastAbove, LeftProgress, FirstWorld, SecondWorld, LeadsOn}
+use Rattle.classification.proofs.AxiomRows as rows
+use Rattle.concept_rows.proofs.Rows.{name_row}
+use Rattle.row_evaluation.specs.RowForms.{RowPut}
+use Rattle.witness_above.specs.Joining.{line}
+use Rattle.witness_above.specs.Left.{LastAbove, LeftProgress, FirstWorld, SecondWorld, Edge, LeadsOn}
 use Rattle.witness_above.specs.Reach.{edge_row, Leading, Reached}
 use Rattle.witness_above.specs.Passes.{ToGo, Opened, Done}
 use Rattle.witness_above.specs.Whole.{ToStart, Started, NameDiffers, ToWrite, LeftWritten}
-use Rattle.witness_above.proofs.LeftEnd.{left_lost}
+use Rattle.witness_above.proofs.LeftEnd.{edge_opened, left_lost}
 use Rattle.witness_above.proofs.Reaching.{held_most, laid_after}
 
 module _ {G : Given} {asked : ℕ} {ys ps w : List ℕ} (given : ToStart G asked ys ps w) where
@@ -39,15 +42,22 @@ module _ {G : Given} {asked : ℕ} {ys ps w : List ℕ} (given : ToStart G asked
   start_room = omega (arith, given.rows, left_rows_fit G.layout.names 0 (omega arith))
 
   module _ {v : List ℕ} (reached : Reached G asked w v) where
-    leads : (s t : List ℕ) → FirstWorld s G v → SecondWorld t G v → (x : ℕ) → x < G.layout.names → has_edge G.edges.now x ≡ true → LeadsOn G v s t x
-    leads s t one two x x_in e = record {
-      on = λ d y z d_in y_in z_in held above kind role below.
+    leads : (s t : List ℕ) → FirstWorld s G v → SecondWorld t G v → (x r : ℕ) → Edge G x r → LeadsOn G v s t x r
+    leads s t one two x r edge = record {
+      on = λ d y z d_in y_in z_in held above kind serves below.
+          let f = rows.restricted two.release two.names d d_in kind in
+          let c = rows.is_restriction f kind in
           let leading : Leading G v y z x d = record {
-            from = record { edge = e; above = below_marked one y x y_in x_in above };
+            from = record { edge = λ none. none.none r edge.with_role; above = below_marked one y x y_in edge.is_name above };
             is_name = d_in;
-            to = record { is_restriction = kind; role = role; above = below_marked two z d z_in d_in below };
+            to = record {
+              is_restriction = kind;
+              small = rw (rows.role_is f c) (role_small t two.release.accepted f.member c);
+              role = record { role = r; edge = edge.with_role; serves = serves };
+              above = below_marked two z d z_in d_in below;
+            };
           } in
-          reached.closed y z x d y_in z_in x_in held leading;
+          reached.closed y z x d y_in z_in edge.is_name held leading;
     }
 
     pub started : Started G asked ys ps w v
@@ -68,7 +78,7 @@ module _ {G : Given} {asked : ℕ} {ys ps w : List ℕ} (given : ToStart G asked
     }
 
 -- once the pair of a name is lost
-shown_last : {sig : Signature} {t u : List Axiom} {n k side x : ℕ} {ys : List ℕ} → LastAbove sig t u n x k ys → side ≡ 1 → sig.has_name x ≡ true → x < n → Last sig t u side x ys k
+shown_last : {sig : Signature} {t u : Terminology} {n k side x : ℕ} {ys : List ℕ} → LastAbove sig t u n x k ys → side ≡ 1 → sig.has_name x ≡ true → x < n → Last sig t u side x ys k
 shown_last {n = n} {x = x} last is chosen x_in =
     let node : concept_of (node_at n x) ≡ name x = ap concept_of (at_name n x x_in) in
     record {
@@ -83,7 +93,6 @@ module _ {G : Given} {x : ℕ} {ys ps w : List ℕ} (given : ToWrite G x ys ps w
     asked_in = omega (arith, given.name);
     state = begun.state;
     laid = laid_after begun.long given.start.reach.laid;
-    roles = given.roles;
   }
 
   -- a name alone shows the difference
@@ -98,9 +107,9 @@ module _ {G : Given} {x : ℕ} {ys ps w : List ℕ} (given : ToWrite G x ys ps w
         let chosen_name : (chosen G.layout g).has_name c ≡ true = sym (name_handed handed c) ∙ differs.is_chosen in
         let formed : Formed (chosen G.layout g) (row_at zs) 1 = record { at = λ i h. let z : i ≡ 0 = omega arith in rw z (is_name put.here chosen_name) } in
         let concept : concept_of_row (row_at zs) 0 ≡ name c = name_row formed put.here in
-        let first_above : Derives (axioms_of s) (name x) (name c) = rw (at_name G.layout.names x given.name) at
+        let first_above : Derives (content_of s) (name x) (name c) = rw (at_name G.layout.names x given.name) at
         (marked_below one x c (omega (arith, given.name)) differs.is_name differs.above) in
-        let not_above : Derives (axioms_of t) (name x) (name c) → ⊥ = λ d. differs.not_second
+        let not_above : Derives (content_of t) (name x) (name c) → ⊥ = λ d. differs.not_second
         (below_marked two x c (omega (arith, given.name)) differs.is_name (rw (at_name G.layout.names x given.name) d)) in
         record {
           last = 0;
@@ -110,7 +119,7 @@ module _ {G : Given} {x : ℕ} {ys ps w : List ℕ} (given : ToWrite G x ys ps w
   }
 
   module _ {xs qs v u : List ℕ} {j : ℕ} (begun : Started G x ys ps w v) (all : Done G x ys xs ps qs v u j) where
-    start_progress : (sig : Signature) (t u : List Axiom) → LeftProgress sig t u G.layout x 0 ys ps v v
+    start_progress : (sig : Signature) (t u : Terminology) → LeftProgress sig t u G.layout x 0 ys ps v v
     start_progress sig t u = record { at_start = begun.asked_held; going = λ h. begun.report sig t u; shown = λ lost. absurd (lost begun.asked_held) }
 
     pub whole : LeftWritten G x ys xs w u j
@@ -136,10 +145,10 @@ module _ {G : Given} {x : ℕ} {ys ps w : List ℕ} (given : ToWrite G x ys ps w
           let two_start = world_after laid.second_apart begun.long begun.before two in
           let opened : Opened sig G v s t = record {
             chosen = λ y h. sym (name_handed handed y) ∙ h;
-            role = λ y l e. ((handed.found.tells y l).sound e).chosen_role;
+            role = λ y r edge. edge_opened handed edge;
             leads = begun.leads s t one_start two_start;
           } in
-          let progress = all.went.keeps v sig s t one_start two_start opened (start_progress sig (axioms_of s) (axioms_of t)) in
+          let progress = all.went.keeps v sig s t one_start two_start opened (start_progress sig (content_of s) (content_of t)) in
           let one_end = world_after laid.first_apart long before one in
           let two_end = world_after laid.second_apart long before two in
           let lost : Holds u G.layout.marks G.layout.names x x → ⊥ = λ still.

@@ -2,7 +2,6 @@
 -- Memory: where the marks of a comparison are, a byte for each two nodes, row x has the nodes of which nothing is lost above x; behind them one
 -- more row of bytes, the line, which has the nodes below the row to be joined. A number for each node: 0 while its concept is ⊤, else its row and 1.
 --   line n                          the number of the line among the rows of bytes
---   RowPut i r ys zs                the rows ys became zs: row i is r, and all else is as before
 --   Taken base n x y w v            row x lost the node y, and all else is as before
 --   Met base n x w v                row x lost the nodes that the line does not have, and all else is as before
 --   Exceeds w base n x              row x has a node that the line has not
@@ -13,24 +12,15 @@
 --   RowsJoined x e k ys zs ps m j   the number of x is m now: row e is its row, where its concept was ⊤; else a row is written, both
 --   Joined base n x e k ys zs ps qs w v j     so it is; j rows are written
 use Rattle.std.specs.Prelude.{◌≡◌, Option, MatchOption, List, ℕ, suc, ◌+◌, ◌*◌, ◌≤◌, ◌<◌, length, get_or}
-use Rattle.concept_rows.specs.Rows.{Row, row}
-use Rattle.concept_rows.specs.Lent.{row_at}
+use Rattle.concept_rows.specs.Rows.{row}
 use Rattle.marks.specs.Squares.{Room, Marked}
 use Rattle.layout.specs.declared.Layout.{Layout}
 use Rattle.layout.specs.Layouts.{first_square}
+use Rattle.row_evaluation.specs.RowForms.{most, RowPut}
 use Rattle.row_evaluation.specs.Cells.{cell, Holds, RowRoom}
 
 abbrev pub line : ℕ → ℕ
 line n = suc n
-
-abbrev pub most : ℕ
-most = 4294967295
-
-pub record RowPut (i : ℕ) (r : Row) (ys zs : List ℕ) : Type 0 where
-  pub long : length zs ≡ length ys
-  pub here : row_at zs i ≡ r
-  pub other : (j : ℕ) → (j ≡ i → ⊥) → row_at zs j ≡ row_at ys j
-  pub past : (p : ℕ) → 3 * i + 3 ≤ p → get_or zs p 0 ≡ get_or ys p 0
 
 pub record Taken (base n x y : ℕ) (w v : List ℕ) : Type 0 where
   pub long : length v ≡ length w

@@ -15,32 +15,32 @@
 --   second_rows G                   by what the line is filled: the second release, and the bytes of the pairs as rows
 --   Turned                          after turns
 --   FirstWorld s G w, SecondWorld t G w      a release that has the first table given, and its inclusions; and one that has the second
---   HasEdge G x                     the name x has an edge by the first release, with a role that fits in a row
---   LeadsOn G o s t c               the pairs held at the start are closed under the edge of the name c
+--   Edge G x r                      the name x has an edge by the first release, with the role r of the signature
+--   LeadsOn G o s t c r             the pairs held at the start are closed under the edge of the name c with the role r
 use Rattle.std.specs.Prelude.{◌≡◌, List, ℕ, suc, ◌+◌, ◌*◌, ◌≤◌, ◌<◌, eqb, length, get_or, true}
 use Rattle.el.specs.Concepts.{Concept, name, Node, concept_of}
-use Rattle.el.specs.Axioms.{Axiom}
+use Rattle.el.specs.Axioms.{Terminology}
 use Rattle.el.specs.Derivability.{Derives}
 use Rattle.el.specs.Signatures.{Signature}
 use Rattle.el.specs.Terminologies.{IsNode}
 use Rattle.concept_rows.specs.Rows.{row, concept_of_row}
 use Rattle.concept_rows.specs.Lent.{row_at, rows_needed}
-use Rattle.concept_rows.proofs.Rows.{Formed, Agree}
-use Rattle.concept_rows.proofs.Counting.{passing}
-use Rattle.concept_rows.proofs.LeftRows.{LeftRows}
+use Rattle.concept_rows.specs.Written.{Formed, Agree, passing, LeftRows}
 use Rattle.release.specs.Entries.{node_number}
-use Rattle.release.specs.Files.{most_names, axioms_of, restricts}
-use Rattle.release.specs.Tables.{kind_at, role_at, filler_at, HasRow}
+use Rattle.release.specs.Files.{most_names, restricts, content_of}
+use Rattle.release.specs.Tables.{kind_at, role_at, filler_at, serves_at}
 use Rattle.marks.specs.Squares.{span, Room, Marked}
 use Rattle.classification.specs.Inclusions.{node_at}
 use Rattle.layout.specs.declared.Layout.{Layout}
 use Rattle.layout.specs.declared.Given.{Given}
 use Rattle.layout.specs.Layouts.{first_square, second_square}
+use Rattle.layout.specs.Tables.{HasEdge}
 use Rattle.row_evaluation.specs.declared.Evaluation.{Evaluation}
 use Rattle.row_evaluation.specs.Cells.{cell, Holds, RowRoom}
 use Rattle.row_evaluation.specs.Worlds.{World, node_point}
 use Rattle.row_evaluation.specs.Below.{Reaches}
-use Rattle.witness_above.specs.Joining.{line, most, RowPut, Loses}
+use Rattle.row_evaluation.specs.RowForms.{most, RowPut}
+use Rattle.witness_above.specs.Joining.{line, Loses}
 
 abbrev pub row_of : ℕ → List ℕ → Node → ℕ
 row_of n ps z = get_or ps (node_number n z) 0
@@ -48,7 +48,7 @@ row_of n ps z = get_or ps (node_number n z) 0
 abbrev pub Lost : ℕ → ℕ → List ℕ → List ℕ → Node → Node → Type 0
 Lost n base o w x y = Holds o base n (node_number n x) (node_number n y) × (Holds w base n (node_number n x) (node_number n y) → ⊥)
 
-pub record Line (u : List Axiom) (n base : ℕ) (o w : List ℕ) (x : ℕ) (c : Concept) : Type 0 where
+pub record Line (u : Terminology) (n base : ℕ) (o w : List ℕ) (x : ℕ) (c : Concept) : Type 0 where
   pub has : (y : Node) → IsNode n y → Holds o base n x (node_number n y) → Derives u (concept_of y) c → Holds w base n (line n) (node_number n y)
 
 unfoldable pub held : List ℕ → ℕ → ℕ → ℕ
@@ -61,22 +61,22 @@ pub record State (L : Layout) (k : ℕ) (ys ps w : List ℕ) : Type 0 where
   pub bytes : RowRoom L.marks L.names (line L.names) w
   pub bound : k + 3 * held w L.marks L.names ≤ 3 * (suc L.names * suc L.names)
 
-pub record LeftReport (sig : Signature) (t u : List Axiom) (L : Layout) (k : ℕ) (ys ps o w : List ℕ) : Type 0 where
+pub record LeftReport (sig : Signature) (t u : Terminology) (L : Layout) (k : ℕ) (ys ps o w : List ℕ) : Type 0 where
   pub rows : LeftRows sig t u L.names (row_at ys) k (row_of L.names ps) (Lost L.names L.marks o w)
 
-pub record LastAbove (sig : Signature) (t u : List Axiom) (n x k : ℕ) (ys : List ℕ) : Type 0 where
+pub record LastAbove (sig : Signature) (t u : Terminology) (n x k : ℕ) (ys : List ℕ) : Type 0 where
   pub formed : Formed sig (row_at ys) k
   pub last : ℕ
   pub is_last : k ≡ suc last
   pub first : Derives t (concept_of (node_at n x)) (concept_of_row (row_at ys) last)
   pub second : Derives u (concept_of (node_at n x)) (concept_of_row (row_at ys) last) → ⊥
 
-pub record LeftProgress (sig : Signature) (t u : List Axiom) (L : Layout) (asked k : ℕ) (ys ps o w : List ℕ) : Type 0 where
+pub record LeftProgress (sig : Signature) (t u : Terminology) (L : Layout) (asked k : ℕ) (ys ps o w : List ℕ) : Type 0 where
   pub at_start : Holds o L.marks L.names asked asked
   pub going : Holds w L.marks L.names asked asked → LeftReport sig t u L k ys ps o w
   pub shown : (Holds w L.marks L.names asked asked → ⊥) → LastAbove sig t u L.names asked k ys
 
-pub record Joins (sig : Signature) (t u : List Axiom) (L : Layout) (o w : List ℕ) (a e : ℕ) (ys : List ℕ) : Type 0 where
+pub record Joins (sig : Signature) (t u : Terminology) (L : Layout) (o w : List ℕ) (a e : ℕ) (ys : List ℕ) : Type 0 where
   pub first : (x : ℕ) → x ≤ L.names → Marked (first_square L) w x a → Derives t (concept_of (node_at L.names x)) (concept_of_row (row_at ys) e)
   pub second : (x : ℕ) → x ≤ L.names → Marked (first_square L) w x a → Line u L.names L.marks o w x (concept_of_row (row_at ys) e)
 
@@ -116,7 +116,7 @@ pub record OthersJoined (L : Layout) (asked a e k : ℕ) (ys zs ps qs w v : List
   pub past : (p : ℕ) → 3 * j ≤ p → get_or zs p 0 ≡ get_or ys p 0
   pub weigh : j + 3 * held v L.marks L.names ≤ k + 3 * held w L.marks L.names
   pub still : Holds v L.marks L.names asked asked
-  pub keeps : (o : List ℕ) (sig : Signature) (t u : List Axiom) → LeftReport sig t u L k ys ps o w → Joins sig t u L o w a e ys
+  pub keeps : (o : List ℕ) (sig : Signature) (t u : Terminology) → LeftReport sig t u L k ys ps o w → Joins sig t u L o w a e ys
       → LeftReport sig t u L j zs qs o v
 
 pub record JoinedAll (L : Layout) (asked a e : ℕ) (ys zs ps qs w v : List ℕ) (j : ℕ) : Type 0 where
@@ -130,23 +130,22 @@ pub record JoinedAll (L : Layout) (asked a e : ℕ) (ys zs ps qs w v : List ℕ)
   pub agree : Agree (row_at ys) (row_at zs) (suc e)
   pub past : (p : ℕ) → 3 * j ≤ p → get_or zs p 0 ≡ get_or ys p 0
   pub weigh : j + 3 * held v L.marks L.names + 2 ≤ suc e + 3 * held w L.marks L.names
-  pub keeps : (o : List ℕ) (sig : Signature) (t u : List Axiom) → Holds o L.marks L.names asked asked → LeftReport sig t u L (suc e) ys ps o w → Joins sig t u L o w a e ys
+  pub keeps : (o : List ℕ) (sig : Signature) (t u : Terminology) → Holds o L.marks L.names asked asked → LeftReport sig t u L (suc e) ys ps o w → Joins sig t u L o w a e ys
       → LeftProgress sig t u L asked j zs qs o v
 
--- r is a row with the kind of ⊤
+-- r is a row of ⊤
 pub record TopFound (k : ℕ) (ys : List ℕ) (r : ℕ) : Type 0 where
   pub earlier : r < k
-  pub kind : (row_at ys r).kind ≡ 0
+  pub is_top : row_at ys r ≡ row 0 0 0
 
-pub record ToRestrict (role number k : ℕ) (ys : List ℕ) : Type 0 where
+pub record ToRestrict (number k : ℕ) (ys : List ℕ) : Type 0 where
   pub rows : 3 * (k + 2) ≤ length ys
   pub few : k + 2 ≤ most
-  pub small_role : role ≤ most
   pub small_number : number ≤ most
 
 pub data Restricted (role number k : ℕ) (ys zs : List ℕ) (r : ℕ) : Type 0 where
   over_row : {i : ℕ} → number ≡ suc i → RowPut k (row 3 role i) ys zs → r ≡ k → Restricted role number k ys zs r
-  over_top : {i : ℕ} → number ≡ 0 → i < k → (row_at ys i).kind ≡ 0 → RowPut k (row 3 role i) ys zs → r ≡ k → Restricted role number k ys zs r
+  over_top : {i : ℕ} → number ≡ 0 → i < k → row_at ys i ≡ row 0 0 0 → RowPut k (row 3 role i) ys zs → r ≡ k → Restricted role number k ys zs r
   over_new_top : {xs : List ℕ} → number ≡ 0 → RowPut k (row 0 0 0) ys xs → RowPut (k + 1) (row 3 role k) xs zs → r ≡ k + 1 → Restricted role number k ys zs r
 
 -- the line is empty, and all else is as before
@@ -197,27 +196,30 @@ pub record Turned (L : Layout) (asked k : ℕ) (ys zs ps qs w v : List ℕ) (j :
 pub record NameTurned (G : Given) (asked k x : ℕ) (ys zs ps qs w v : List ℕ) (j : ℕ) : Type 0 where
   pub turned : Turned G.layout asked k ys zs ps qs w v j
   pub keeps : (o : List ℕ) (sig : Signature) (s t : List ℕ) → FirstWorld s G w → SecondWorld t G w → sig.has_name x ≡ true
-      → LeftProgress sig (axioms_of s) (axioms_of t) G.layout asked k ys ps o w → LeftProgress sig (axioms_of s) (axioms_of t) G.layout asked j zs qs o v
+      → LeftProgress sig (content_of s) (content_of t) G.layout asked k ys ps o w → LeftProgress sig (content_of s) (content_of t) G.layout asked j zs qs o v
   pub quiet : j ≡ k → (z y : ℕ) → z ≤ G.layout.names → y ≤ G.layout.names → Marked (first_square G.layout) w z x → Holds w G.layout.marks G.layout.names z y
       → Marked (second_square G.layout) w y x
 
 -- the name x has an edge by the first release
-pub record HasEdge (G : Given) (x : ℕ) : Type 0 where
-  pub row : HasRow G.first.table.now x
-  pub is_restriction : restricts (kind_at G.first.table.now x) ≡ true
-  pub filler : filler_at G.first.table.now x ≤ G.layout.names
-  pub role : role_at G.first.table.now x ≤ most
+pub record Edge (G : Given) (x r : ℕ) : Type 0 where
+  pub is_name : x < G.layout.names
+  pub with_role : HasEdge G.edges.now x r
 
--- with the edge of the name c, and the edges of the same role by the second release
-pub record LeadsOn (G : Given) (o s t : List ℕ) (c : ℕ) : Type 0 where
+-- that role is of the signature, and that of the axiom serves for it
+pub record RoleOpened (G : Given) (sig : Signature) (x r : ℕ) : Type 0 where
+  pub chosen : sig.has_role r ≡ true
+  pub serves : serves_at G.first.table.now (role_at G.first.table.now x) r ≡ true
+
+-- with the edge of the name c, and the edges by the second release with a role that serves
+pub record LeadsOn (G : Given) (o s t : List ℕ) (c r : ℕ) : Type 0 where
   pub on : (d x y : ℕ) → d < G.layout.names → x ≤ G.layout.names → y ≤ G.layout.names → Holds o G.layout.marks G.layout.names x y
-      → Derives (axioms_of s) (node_point G.layout.names x) (name c) → restricts (kind_at G.second.table.now d) ≡ true
-      → role_at G.second.table.now d ≡ role_at G.first.table.now c → Derives (axioms_of t) (node_point G.layout.names y) (name d)
+      → Derives (content_of s) (node_point G.layout.names x) (name c) → restricts (kind_at G.second.table.now d) ≡ true
+      → serves_at G.second.table.now (role_at G.second.table.now d) r ≡ true → Derives (content_of t) (node_point G.layout.names y) (name d)
       → Holds o G.layout.marks G.layout.names (filler_at G.first.table.now c) (filler_at G.second.table.now d)
 
-pub record EdgeTurned (G : Given) (asked k x : ℕ) (ys zs ps qs w v : List ℕ) (j : ℕ) : Type 0 where
+pub record EdgeTurned (G : Given) (asked k x r : ℕ) (ys zs ps qs w v : List ℕ) (j : ℕ) : Type 0 where
   pub turned : Turned G.layout asked k ys zs ps qs w v j
-  pub keeps : (o : List ℕ) (sig : Signature) (s t : List ℕ) → FirstWorld s G w → SecondWorld t G w → sig.has_role (role_at G.first.table.now x) ≡ true → LeadsOn G o s t x
-      → LeftProgress sig (axioms_of s) (axioms_of t) G.layout asked k ys ps o w → LeftProgress sig (axioms_of s) (axioms_of t) G.layout asked j zs qs o v
+  pub keeps : (o : List ℕ) (sig : Signature) (s t : List ℕ) → FirstWorld s G w → SecondWorld t G w → RoleOpened G sig x r → LeadsOn G o s t x r
+      → LeftProgress sig (content_of s) (content_of t) G.layout asked k ys ps o w → LeftProgress sig (content_of s) (content_of t) G.layout asked j zs qs o v
   pub quiet : j ≡ k → (z y : ℕ) → z ≤ G.layout.names → y ≤ G.layout.names → Marked (first_square G.layout) w z x → Holds w G.layout.marks G.layout.names z y
-      → Reaches (second_rows G) w (filler_at G.first.table.now x) (role_at G.first.table.now x) y
+      → Reaches (second_rows G) w (filler_at G.first.table.now x) r y

@@ -4,7 +4,11 @@
 --   edge_row n c, last_row n     the number of such a row among the rows of bytes; the last there can be
 --   Noted w base n x y           the byte of the pair is not 0;  New: nor is it 1
 --   Noting base n w v            the memory w became v: some bytes of pairs that were 0 are 2
---   LeadsTo G w r y d            by the second release y has an edge with the role r, by the name d
+--   ServesEdge G c q             by the second release the role q serves for a role of the edge of the name c
+--   Serving G c set              the set has the roles that do, of those that have a bit
+--   LeadsBy G w set y d          by the second release y has an edge with a role of the set, by the name d
+--   LeadsTo G w c y d            it has one with a role that serves for a role of the edge of c, by the name d
+--   SomeEdge G c                 the edge of the name c has a role
 --   EdgeOf G w x c               by the first release x has an edge with a role of the signature, by the name c
 --   Leading G w x y c d          the pair x, y leads to the fillers of the names c and d
 --   ToReach G w                  what the functions ask: squares of both releases, and bytes behind them
@@ -16,13 +20,14 @@
 --   Closing G w                  what a pair with byte 1 leads to is noted
 --   Swept G D w v r              pairs that D holds of were expanded; r: there were new ones among them
 --   Reached G asked w v          the pair asked for has byte 1, and with a pair all that it leads to
-use Rattle.std.specs.Prelude.{◌≡◌, Bool, true, false, ◌⊎◌, List, ℕ, ◌+◌, ◌≤◌, ◌<◌, length, get_or}
-use Rattle.release.specs.Files.{restricts}
-use Rattle.release.specs.Tables.{kind_at, role_at, filler_at}
+use Rattle.std.specs.Prelude.{◌≡◌, ◌↔◌, Bool, true, false, ◌⊎◌, List, ℕ, ◌+◌, ◌≤◌, ◌<◌, length, get_or}
+use Rattle.release.specs.Files.{restricts, most_roles}
+use Rattle.release.specs.Roles.{HasRole, NoRole}
+use Rattle.release.specs.Tables.{kind_at, role_at, filler_at, serves_at}
 use Rattle.marks.specs.Squares.{Marked}
 use Rattle.layout.specs.declared.Given.{Given}
 use Rattle.layout.specs.Layouts.{first_square, second_square}
-use Rattle.layout.specs.Tables.{has_edge}
+use Rattle.layout.specs.Tables.{edges_at, HasEdge}
 use Rattle.row_evaluation.specs.Cells.{cell, Holds, RowRoom}
 use Rattle.witness_above.specs.Joining.{line}
 use Rattle.witness_above.specs.Left.{held, Laid}
@@ -56,23 +61,40 @@ pub record Settled (base n x y : ℕ) (w v : List ℕ) : Type 0 where
   pub here : Holds v base n x y
   pub other : (p : ℕ) → (p ≡ cell base n x y → ⊥) → get_or v p 0 ≡ get_or w p 0
 
-pub record LeadsTo (G : Given) (w : List ℕ) (r y d : ℕ) : Type 0 where
+pub record ServesEdge (G : Given) (c q : ℕ) : Type 0 where
+  pub role : ℕ
+  pub edge : HasEdge G.edges.now c role
+  pub serves : serves_at G.second.table.now q role ≡ true
+
+pub record Serving (G : Given) (c set : ℕ) : Type 0 where
+  pub tells : (q : ℕ) → q < most_roles → HasRole set q ↔ ServesEdge G c q
+
+pub record LeadsBy (G : Given) (w : List ℕ) (set y d : ℕ) : Type 0 where
   pub is_restriction : restricts (kind_at G.second.table.now d) ≡ true
-  pub role : role_at G.second.table.now d ≡ r
+  pub role : HasRole set (role_at G.second.table.now d)
   pub above : Marked (second_square G.layout) w y d
 
-pub record RowNoted (G : Given) (r x y e : ℕ) (w v : List ℕ) : Type 0 where
+pub record LeadsTo (G : Given) (w : List ℕ) (c y d : ℕ) : Type 0 where
+  pub is_restriction : restricts (kind_at G.second.table.now d) ≡ true
+  pub small : role_at G.second.table.now d < most_roles
+  pub role : ServesEdge G c (role_at G.second.table.now d)
+  pub above : Marked (second_square G.layout) w y d
+
+pub record RowNoted (G : Given) (set x y e : ℕ) (w v : List ℕ) : Type 0 where
   pub noting : Noting G.layout.marks G.layout.names w v
-  pub each : (d : ℕ) → d < e → LeadsTo G w r y d → Noted v G.layout.marks G.layout.names x (filler_at G.second.table.now d)
+  pub each : (d : ℕ) → d < e → LeadsBy G w set y d → Noted v G.layout.marks G.layout.names x (filler_at G.second.table.now d)
+
+abbrev pub SomeEdge : Given → ℕ → Type 0
+SomeEdge G c = NoRole (edges_at G.edges.now c) → ⊥
 
 pub record EdgeOf (G : Given) (w : List ℕ) (x c : ℕ) : Type 0 where
-  pub edge : has_edge G.edges.now c ≡ true
+  pub edge : SomeEdge G c
   pub above : Marked (first_square G.layout) w x c
 
 pub record Leading (G : Given) (w : List ℕ) (x y c d : ℕ) : Type 0 where
   pub from : EdgeOf G w x c
   pub is_name : d < G.layout.names
-  pub to : LeadsTo G w (role_at G.first.table.now c) y d
+  pub to : LeadsTo G w c y d
 
 pub record ToReach (G : Given) (w : List ℕ) : Type 0 where
   pub laid : Laid G w
@@ -81,7 +103,7 @@ pub record ToReach (G : Given) (w : List ℕ) : Type 0 where
 
 pub record ByEdge (G : Given) (w : List ℕ) (c y : ℕ) : Type 0 where
   pub is_restriction : restricts (kind_at G.first.table.now c) ≡ true
-  pub each : (d : ℕ) → d < G.layout.names → LeadsTo G w (role_at G.first.table.now c) y d → Noted w G.layout.marks G.layout.names (filler_at G.first.table.now c)
+  pub each : (d : ℕ) → d < G.layout.names → LeadsTo G w c y d → Noted w G.layout.marks G.layout.names (filler_at G.first.table.now c)
       (filler_at G.second.table.now d)
 
 pub record Followed (G : Given) (w : List ℕ) : Type 0 where

@@ -5,20 +5,20 @@
 --                                 where the marks of the comparison are, behind the squares
 --   LeftWritten                   r rows were written, and if the name is a left witness the last shows it; the others are as before
 use Rattle.std.specs.Prelude.{◌≡◌, true, List, ℕ, ◌*◌, ◌≤◌, ◌<◌, length, get_or}
-use Rattle.el.specs.Axioms.{Axiom}
+use Rattle.el.specs.Axioms.{Terminology}
 use Rattle.el.specs.Signatures.{Signature, LeftWitness}
 use Rattle.el.specs.Terminologies.{Comparable}
 use Rattle.concept_rows.specs.Lent.{rows_needed, Last}
-use Rattle.release.specs.Files.{axioms_of}
+use Rattle.release.specs.Files.{content_of}
 use Rattle.marks.specs.Squares.{Room, Marked}
 use Rattle.layout.specs.declared.Given.{Given}
 use Rattle.layout.specs.Layouts.{first_square, second_square, chosen}
-use Rattle.layout.specs.Tables.{has_edge}
+use Rattle.layout.specs.declared.edges.Position.TheVariants.{Above}
 use Rattle.layout.specs.Findings.{Handed}
 use Rattle.row_evaluation.specs.Cells.{cell, Holds}
-use Rattle.witness_above.specs.Left.{State, LeftReport, FirstWorld, SecondWorld, LeadsOn}
+use Rattle.witness_above.specs.Left.{State, LeftReport, FirstWorld, SecondWorld, Edge, LeadsOn}
 use Rattle.witness_above.specs.Reach.{edge_row, ToReach, Blank}
-use Rattle.witness_above.specs.Passes.{Chosen, RolesFit}
+use Rattle.witness_above.specs.Passes.{Chosen}
 
 pub record ToStart (G : Given) (asked : ℕ) (ys ps w : List ℕ) : Type 0 where
   pub rows : 3 * rows_needed G.layout.names ≤ length ys
@@ -34,12 +34,11 @@ pub record Started (G : Given) (asked : ℕ) (ys ps w v : List ℕ) : Type 0 whe
   pub before : (p : ℕ) → p < G.layout.marks → get_or v p 0 ≡ get_or w p 0
   pub beyond : (p : ℕ) → cell G.layout.marks G.layout.names (edge_row G.layout.names G.layout.names) 0 ≤ p → get_or v p 0 ≡ get_or w p 0
   pub asked_held : Holds v G.layout.marks G.layout.names asked asked
-  pub leads : (s t : List ℕ) → FirstWorld s G v → SecondWorld t G v → (x : ℕ) → x < G.layout.names → has_edge G.edges.now x ≡ true → LeadsOn G v s t x
-  pub report : (sig : Signature) (t u : List Axiom) → LeftReport sig t u G.layout 0 ys ps v v
+  pub leads : (s t : List ℕ) → FirstWorld s G v → SecondWorld t G v → (x r : ℕ) → Edge G x r → LeadsOn G v s t x r
+  pub report : (sig : Signature) (t u : Terminology) → LeftReport sig t u G.layout 0 ys ps v v
 
 pub record ToWrite (G : Given) (x : ℕ) (ys ps w : List ℕ) : Type 0 where
   pub start : ToStart G x ys ps w
-  pub roles : RolesFit G
   pub name : x < G.layout.names
 
 -- a chosen name lies above x by the first release and not by the second
@@ -60,6 +59,6 @@ pub record LeftWritten (G : Given) (x : ℕ) (ys zs w v : List ℕ) (r : ℕ) : 
   pub rows_long : length zs ≡ length ys
   pub beyond : (p : ℕ) → cell G.layout.marks G.layout.names (edge_row G.layout.names G.layout.names) 0 ≤ p → get_or v p 0 ≡ get_or w p 0
   pub past : (p : ℕ) → 3 * r ≤ p → get_or zs p 0 ≡ get_or ys p 0
-  pub shows : (g s t : List ℕ) (side : ℕ) → FirstWorld s G w → SecondWorld t G w → Handed g G → Comparable G.layout.names (chosen G.layout g) (axioms_of s) (axioms_of t)
-      → side ≡ 1 → (chosen G.layout g).has_name x ≡ true → LeftWitness (chosen G.layout g) (axioms_of s) (axioms_of t) x
-      → Last (chosen G.layout g) (axioms_of s) (axioms_of t) side x zs r
+  pub shows : (g s t : List ℕ) (side : ℕ) → FirstWorld s G w → SecondWorld t G w → Handed Above g G → Comparable G.layout.names (chosen G.layout g) (content_of s) (content_of t)
+      → side ≡ 1 → (chosen G.layout g).has_name x ≡ true → LeftWitness (chosen G.layout g) (content_of s) (content_of t) x
+      → Last (chosen G.layout g) (content_of s) (content_of t) side x zs r

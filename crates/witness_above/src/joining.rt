@@ -6,8 +6,9 @@ ghost use Rattle.witness_above.specs.Joining.{Loses, ToFindLosing, FirstLosing, 
 ghost use Rattle.witness_above.specs.Left.{ToJoinOthers, OthersJoined, ToJoinAll, JoinedAll};
 
 use crate::pairs::{exceeds, holds, meet};
-use crate::rows::{narrow, put_row, wide};
 use layout::Layout;
+use release::ConceptName;
+use row_evaluation::rows::{Form, narrow, put_row, wide};
 
 // Whether joining the line's row to the concept of x loses something.
 fn loses(layout: Layout, work: &[u8], name: usize, x: usize) -> bool
@@ -54,7 +55,7 @@ fn join(
         numbers[x] = narrow(row + 1);
         return count;
     }
-    put_row(rows, count, 2, old - 1, row);
+    put_row(rows, count, Form::Conjunction(old - 1, row));
     numbers[x] = narrow(count + 1);
     count + 1
 }
@@ -65,17 +66,17 @@ fn join_others(
     work: &mut [u8],
     rows: &mut [u32],
     numbers: &mut [u32],
-    asked: usize,
-    name: usize,
+    asked: ConceptName,
+    name: ConceptName,
     row: usize,
     count: usize,
 ) -> usize
-    requires { ToJoinOthers layout asked name row count rows.old numbers.old work.old }
-    ensures { OthersJoined layout asked name row count rows.old rows.new numbers.old numbers.new work.old work.new result }
+    requires { ToJoinOthers layout asked.0 name.0 row count rows.old numbers.old work.old }
+    ensures { OthersJoined layout asked.0 name.0 row count rows.old rows.new numbers.old numbers.new work.old work.new result }
 {
     let mut written = count;
     for x in 0..=layout.names {
-        if x != asked && loses(layout, work, name, x) {
+        if x != asked.0 && loses(layout, work, name.0, x) {
             written = join(layout, work, rows, numbers, x, row, written);
         }
     }
@@ -89,16 +90,16 @@ pub fn join_all(
     work: &mut [u8],
     rows: &mut [u32],
     numbers: &mut [u32],
-    asked: usize,
-    name: usize,
+    asked: ConceptName,
+    name: ConceptName,
     x: usize,
     row: usize,
 ) -> usize
-    requires { ToJoinAll layout asked name x row rows.old numbers.old work.old }
-    ensures { JoinedAll layout asked name row rows.old rows.new numbers.old numbers.new work.old work.new result }
+    requires { ToJoinAll layout asked.0 name.0 x row rows.old numbers.old work.old }
+    ensures { JoinedAll layout asked.0 name.0 row rows.old rows.new numbers.old numbers.new work.old work.new result }
 {
-    if x == asked && !holds(layout, work, layout.names + 1, asked) {
-        meet(layout, work, asked);
+    if x == asked.0 && !holds(layout, work, layout.names + 1, asked.0) {
+        meet(layout, work, asked.0);
         return row + 1;
     }
     let written = join(layout, work, rows, numbers, x, row, row + 1);

@@ -6,20 +6,21 @@ ghost use Rattle.witness_above.specs.Whole.{ToFind, NameDiffers, ToWrite, LeftWr
 
 use crate::passes::close;
 use crate::reach::reach;
-use crate::rows::put_row;
 use layout::Given;
+use release::ConceptName;
+use row_evaluation::rows::{Form, put_row};
 
 mod joining;
 mod pairs;
 mod passes;
 mod reach;
-pub mod rows;
+mod rows;
 mod turns;
 
 // A chosen name that lies above the name by the first release and not by the second.
-fn differing_name(given: &Given, work: &[u8], name: usize) -> Option<usize>
+fn differing_name(given: &Given, work: &[u8], name: usize) -> Option<ConceptName>
     requires { ToFind given.now work.now name }
-    ensures { IfSome result (NameDiffers given.now work.now name) }
+    ensures { IfSome result (λ other. NameDiffers given.now work.now name other.0) }
 {
     let first = given.layout.first_square();
     let second = given.layout.second_square();
@@ -28,7 +29,7 @@ fn differing_name(given: &Given, work: &[u8], name: usize) -> Option<usize>
             && first.is_marked(work, name, other)
             && !second.is_marked(work, name, other)
         {
-            return Some(other);
+            return Some(ConceptName(other));
         }
     }
     None
@@ -42,16 +43,16 @@ pub fn write_left(
     rows: &mut [u32],
     numbers: &mut [u32],
     notes: &mut [u32],
-    asked: usize,
+    asked: ConceptName,
 ) -> usize
-    requires write { ToWrite given.now asked rows.old numbers.old work.old }
+    requires write { ToWrite given.now asked.0 rows.old numbers.old work.old }
     requires notes { given.now.layout.names ≤ length notes.old }
-    ensures { LeftWritten given.now asked rows.old rows.new work.old work.new result }
+    ensures { LeftWritten given.now asked.0 rows.old rows.new work.old work.new result }
 {
-    if let Some(other) = differing_name(given, work, asked) {
-        put_row(rows, 0, 1, other, 0);
+    if let Some(other) = differing_name(given, work, asked.0) {
+        put_row(rows, 0, Form::Name(other));
         return 1;
     }
-    reach(given, work, asked);
+    reach(given, work, asked.0);
     close(given, work, rows, numbers, notes, asked)
 }

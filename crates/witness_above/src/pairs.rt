@@ -9,6 +9,7 @@ ghost use Rattle.witness_above.specs.Joining.{line, Taken, Met, Exceeds};
 ghost use Rattle.witness_above.specs.Left.{LineCleared, Laid, second_rows};
 
 use layout::{Given, Layout};
+use release::RoleName;
 use row_evaluation::Evaluation;
 use row_evaluation::cells::Cells;
 
@@ -94,11 +95,11 @@ pub fn line_name(given: &Given, work: &mut [u8], name: usize)
 }
 
 // Puts what lies below ∃ of the role over row node by the second release into the line.
-pub fn line_edge(given: &Given, work: &mut [u8], role: usize, node: usize)
+pub fn line_edge(given: &Given, work: &mut [u8], role: RoleName, node: usize)
     requires laid { Laid given.now work.old }
     requires room { RowRoom given.now.layout.marks given.now.layout.names (line given.now.layout.names) work.old }
     requires node_le_names { node ≤ given.now.layout.names }
-    ensures { Adds given.now.layout.marks given.now.layout.names (line given.now.layout.names) (Reaches (second_rows given.now) work.old node role) work.old
+    ensures { Adds given.now.layout.marks given.now.layout.names (line given.now.layout.names) (Reaches (second_rows given.now) work.old node role.0) work.old
         work.new }
 {
     second_rows(given).put_some(work, given.layout.names + 1, role, node);

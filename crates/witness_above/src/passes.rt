@@ -4,6 +4,7 @@ ghost use Rattle.witness_above.specs.Passes.{ToGo, ToNotice, Went, Passed, Done}
 
 use crate::turns::{turn_chosen, turn_edged};
 use layout::Given;
+use release::ConceptName;
 
 // Turns for all names.
 fn pass(
@@ -11,14 +12,15 @@ fn pass(
     work: &mut [u8],
     rows: &mut [u32],
     numbers: &mut [u32],
-    asked: usize,
+    asked: ConceptName,
     count: usize,
 ) -> usize
-    requires { ToGo given.now asked count rows.old numbers.old work.old }
-    ensures { Passed given.now asked given.now.layout.names count rows.old rows.new numbers.old numbers.new work.old work.new result }
+    requires { ToGo given.now asked.0 count rows.old numbers.old work.old }
+    ensures { Passed given.now asked.0 given.now.layout.names count rows.old rows.new numbers.old numbers.new work.old work.new result }
 {
     let mut written = count;
     for name in 0..given.layout.names {
+        let name = ConceptName(name);
         let named = turn_chosen(given, work, rows, numbers, asked, name, written);
         written = turn_edged(given, work, rows, numbers, asked, name, named);
     }
@@ -30,7 +32,7 @@ fn notice(given: &Given, numbers: &[u32], seen: &mut [u32], name: usize) -> bool
     requires { ToNotice given.now.layout.names name numbers.now seen.old }
     ensures { length seen.new ≡ length seen.old }
 {
-    if !given.edges[name] {
+    if given.edges[name].is_empty() {
         return false;
     }
     let number = numbers[given.first.filler(name)];
@@ -46,18 +48,26 @@ fn follow(
     rows: &mut [u32],
     numbers: &mut [u32],
     seen: &mut [u32],
-    asked: usize,
+    asked: ConceptName,
     count: usize,
 ) -> usize
-    requires go { ToGo given.now asked count rows.old numbers.old work.old }
+    requires go { ToGo given.now asked.0 count rows.old numbers.old work.old }
     requires notes { given.now.layout.names ≤ length seen.old }
-    ensures went { Went given.now asked count rows.old rows.new numbers.old numbers.new work.old work.new result }
+    ensures went { Went given.now asked.0 count rows.old rows.new numbers.old numbers.new work.old work.new result }
     ensures notes { length seen.new ≡ length seen.old }
 {
     let mut written = count;
     for name in 0..given.layout.names {
         if notice(given, numbers, seen, name) {
-            written = turn_edged(given, work, rows, numbers, asked, name, written);
+            written = turn_edged(
+                given,
+                work,
+                rows,
+                numbers,
+                asked,
+                ConceptName(name),
+                written,
+            );
         }
     }
     written
@@ -70,12 +80,12 @@ fn chase(
     rows: &mut [u32],
     numbers: &mut [u32],
     seen: &mut [u32],
-    asked: usize,
+    asked: ConceptName,
     count: usize,
 ) -> usize
-    requires go { ToGo given.now asked count rows.old numbers.old work.old }
+    requires go { ToGo given.now asked.0 count rows.old numbers.old work.old }
     requires notes { given.now.layout.names ≤ length seen.old }
-    ensures went { Went given.now asked count rows.old rows.new numbers.old numbers.new work.old work.new result }
+    ensures went { Went given.now asked.0 count rows.old rows.new numbers.old numbers.new work.old work.new result }
     ensures notes { length seen.new ≡ length seen.old }
 {
     let mut written = count;
@@ -95,11 +105,11 @@ pub fn close(
     rows: &mut [u32],
     numbers: &mut [u32],
     seen: &mut [u32],
-    asked: usize,
+    asked: ConceptName,
 ) -> usize
-    requires go { ToGo given.now asked 0 rows.old numbers.old work.old }
+    requires go { ToGo given.now asked.0 0 rows.old numbers.old work.old }
     requires notes { given.now.layout.names ≤ length seen.old }
-    ensures { Done given.now asked rows.old rows.new numbers.old numbers.new work.old work.new result }
+    ensures { Done given.now asked.0 rows.old rows.new numbers.old numbers.new work.old work.new result }
 {
     let mut written = 0;
     loop {

@@ -1,17 +1,17 @@
 // The pairs of nodes that the pair asked for leads to, by the edges of both releases. The byte of a pair is 0 until it is noted. Behind the line a row
 // of bytes for each name c has the nodes from which the edge by c was followed: so it is followed once from each, however many nodes have it.
-ghost use Rattle.std.specs.Prelude.{◌≡◌, true, ◌≤◌, ◌<◌, length};
+ghost use Rattle.std.specs.Prelude.{◌≡◌, ◌≤◌, ◌<◌, length};
 ghost use Rattle.el.proofs.Tests.{Tells};
 ghost use Rattle.marks.specs.Squares.{Room};
 ghost use Rattle.layout.specs.Layouts.{first_square, second_square};
-ghost use Rattle.layout.specs.Tables.{has_edge as edge_told};
 ghost use Rattle.row_evaluation.specs.Cells.{RowRoom};
 ghost use Rattle.witness_above.specs.Joining.{line};
-ghost use Rattle.witness_above.specs.Reach.{New, NotedPair, Settled, LeadsTo, RowNoted, EdgeOf, ToReach, Expanded};
+ghost use Rattle.witness_above.specs.Reach.{New, NotedPair, Settled, Serving, LeadsBy, RowNoted, SomeEdge, EdgeOf, ToReach, Expanded};
 ghost use Rattle.witness_above.specs.Reach.{edge_row, last_row, BytesCleared, EdgesCleared, Followed, EdgeFollowed, Swept, Settling, Blank, Reached};
 
 use crate::pairs::holds;
 use layout::{Given, Layout};
+use release::roles::RoleSet;
 
 // The byte of a pair that is noted.
 const NOTED: u8 = 2;
@@ -50,25 +50,40 @@ fn settle(layout: Layout, work: &mut [u8], x: usize, y: usize)
     work[layout.marks + (x * (layout.names + 1) + y)] = SETTLED;
 }
 
-// Whether y has an edge with the role by the name d, by the second release.
-fn leads(given: &Given, work: &[u8], role: usize, y: usize, d: usize) -> bool
+// The roles that serve, by the second release, for a role of the edge of the name c.
+fn serving(given: &Given, c: usize) -> RoleSet
+    requires { c < given.now.layout.names }
+    ensures { Serving given.now c result.0 }
+{
+    let roles = given.edges[c];
+    let mut serving = RoleSet::NONE;
+    let mut next = 0;
+    while let Some(role) = roles.next(next) {
+        next = role.0 + 1;
+        serving = serving.join(given.second.under(role));
+    }
+    serving
+}
+
+// Whether y has an edge with one of the roles by the name d, by the second release.
+fn leads(given: &Given, work: &[u8], roles: RoleSet, y: usize, d: usize) -> bool
     requires room { Room (second_square given.now.layout) work.now }
     requires y_le_names { (y ≤ given.now.layout.names) × (d < given.now.layout.names) }
-    ensures { Tells result (LeadsTo given.now work.now role y d) }
+    ensures { Tells result (LeadsBy given.now work.now roles.0 y d) }
 {
     given.second.is_restriction(d)
-        && given.second.role(d) == role
+        && roles.has(given.second.role(d))
         && given.layout.second_square().is_marked(work, y, d)
 }
 
-// Notes the pairs of x and each node that y has an edge to with the role.
-fn note_row(given: &Given, work: &mut [u8], role: usize, x: usize, y: usize)
+// Notes the pairs of x and each node that y has an edge to with one of the roles.
+fn note_row(given: &Given, work: &mut [u8], roles: RoleSet, x: usize, y: usize)
     requires reach { ToReach given.now work.old }
     requires x_le_names { (x ≤ given.now.layout.names) × (y ≤ given.now.layout.names) }
-    ensures { RowNoted given.now role x y given.now.layout.names work.old work.new }
+    ensures { RowNoted given.now roles.0 x y given.now.layout.names work.old work.new }
 {
     for d in 0..given.layout.names {
-        if leads(given, work, role, y, d) {
+        if leads(given, work, roles, y, d) {
             note(given.layout, work, x, given.second.filler(d));
         }
     }
@@ -78,7 +93,7 @@ fn note_row(given: &Given, work: &mut [u8], role: usize, x: usize, y: usize)
 fn follow(given: &Given, work: &mut [u8], c: usize, y: usize)
     requires reach { ToReach given.now work.old }
     requires c_lt_names { (c < given.now.layout.names) × (y ≤ given.now.layout.names) }
-    requires edge { edge_told given.now.edges.now c ≡ true }
+    requires edge { SomeEdge given.now c }
     requires followed { Followed given.now work.old }
     ensures { EdgeFollowed given.now c y work.old work.new }
 {
@@ -86,9 +101,9 @@ fn follow(given: &Given, work: &mut [u8], c: usize, y: usize)
     if holds(given.layout, work, row, y) {
         return;
     }
-    let role = given.first.role(c);
+    let roles = serving(given, c);
     let node = given.first.filler(c);
-    note_row(given, work, role, node, y);
+    note_row(given, work, roles, node, y);
     settle(given.layout, work, row, y);
 }
 
@@ -98,7 +113,7 @@ fn has_edge(given: &Given, work: &[u8], x: usize, c: usize) -> bool
     requires x_le_names { (x ≤ given.now.layout.names) × (c < given.now.layout.names) }
     ensures { Tells result (EdgeOf given.now work.now x c) }
 {
-    given.edges[c] && given.layout.first_square().is_marked(work, x, c)
+    !given.edges[c].is_empty() && given.layout.first_square().is_marked(work, x, c)
 }
 
 // Notes all that the pair x, y leads to.

@@ -17,6 +17,7 @@ use Rattle.marks.proofs.Squares.{place_below}
 use Rattle.classification.specs.Inclusions.{Inclusions}
 use Rattle.layout.specs.declared.Layout.{Layout}
 use Rattle.layout.specs.declared.Given.{Given}
+use Rattle.layout.specs.declared.edges.Position.TheVariants.{Below}
 use Rattle.layout.specs.Findings.{Handed}
 use Rattle.row_evaluation.specs.Worlds.{World}
 use Rattle.witness_above.proofs.Rooms.{right_room}
@@ -136,8 +137,8 @@ module _ {given : Given} {x : ℕ} {ys ps w : List ℕ} (asks : ToWriteRight giv
             zero = λ p h l. arranged.zero p (omega (arith, rw layout at h, arranged.is)) (omega (arith, rw layout at l, arranged.is));
           }
 
-      handed_here : {g : List ℕ} → Handed g given → Handed g here
-      handed_here handed = record { same_names = rw (names, layout) handed.same_names; found = rw (edges, first, layout) handed.found }
+      handed_here : {g : List ℕ} → Handed Below g given → Handed Below g here
+      handed_here handed = record { same_names = rw (names, layout) handed.same_names; found = rw (edges, first, second, layout) handed.found }
 
       pub reported : {zs u : List ℕ} {k : ℕ} → ArrangedWritten here x ys zs v u k → RightWritten given x ys zs w u k
       unfolding size

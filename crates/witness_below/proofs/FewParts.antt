@@ -1,6 +1,6 @@
--- A conjunction of an accepted release has at most 16 conjuncts, and no more than there are names, since they rise strictly; and roles are small.
+-- A conjunction of an accepted release has at most 16 conjuncts, and no more than there are names, since they rise strictly.
 use mathlib.Core.Path.{◌≡◌, refl, sym, ap, ◌∙◌}
-use mathlib.Core.Bool.{true, true≢false}
+use mathlib.Core.Bool.{true}
 use mathlib.Core.List.{List}
 use Prim.Native.Nat.{ℕ, zero, suc, ◌+◌, ◌≤◌, ◌<◌}
 use native.Mathlib.Omega.{arith}
@@ -9,13 +9,12 @@ use lib.Dec.{ltb, leb}
 use lib.ListN.{length, get_or}
 use Rattle.release.specs.Files.{number, most_conjuncts, width_of, first_place, names_of, roles_of, count_of, conjunction_fault, tail_fault, axiom_fault, axioms_fault}
 use Rattle.release.specs.Files.{axiom_length, joins}
-use Rattle.release.specs.Tables.{kind_at, role_at, count_at, Stands, here, there, Origin, blank, of_axiom, Release}
-use Rattle.release.proofs.Sound.{passed, Tail, joined, restricted}
-use Rattle.release.proofs.Decoding.{kind_is, both_none, holds, count_is}
-use Rattle.release.proofs.Checks.{header_sound}
-use Rattle.release.proofs.Linked.{no_header_fault, no_axiom_fault, sound_at}
+use Rattle.release.specs.Tables.{kind_at, count_at, Stands, here, there, Origin, blank, of_axiom, Release}
+use Rattle.release.proofs.Sound.{passed}
+use Rattle.release.proofs.Decoding.{kind_is, both_none, count_is}
+use Rattle.release.proofs.Linked.{no_axiom_fault}
 use Rattle.witness_above.proofs.Parts.{parts_few}
-use Rattle.release.specs.declared.table.Row as table
+use Rattle.release.specs.declared.table.Table.{Table}
 
 pub record FewConjuncts (k n : ℕ) : Type 0 where
   pub sixteen : k ≤ 16
@@ -46,7 +45,7 @@ stands_few n m (suc c) least s p q h here e = axiom_few (width_of s) n m least s
 stands_few n m (suc c) least s p q h (there i) e = stands_few n m c (suc (number (width_of s) s p)) s (p + axiom_length (width_of s) s p) q
     (both_none (axiom_fault (width_of s) n m least s p) (axioms_fault (width_of s) n m c (suc (number (width_of s) s p)) s (p + axiom_length (width_of s) s p)) h).1 i e
 
-module _ {s : List ℕ} {t : List table.Row} {n : ℕ} (r : Release s t) (names : n ≡ names_of s) {x : ℕ} (x_in : x < n) where
+module _ {s : List ℕ} {t : Table} {n : ℕ} (r : Release s t) (names : n ≡ names_of s) {x : ℕ} (x_in : x < n) where
   pub few_parts : kind_at t x ≡ 2 → FewConjuncts (count_at s t x) n
   few_parts kind = by_origin (r.decoded.origin x (omega arith))
     where
@@ -57,19 +56,3 @@ module _ {s : List ℕ} {t : List table.Row} {n : ℕ} (r : Release s t) (names 
           let few = stands_few (names_of s) (roles_of s) (count_of s) 0 s (first_place s) q (no_axiom_fault s r.accepted) i (rw is_kind refl) in
           let count : count_at s t x ≡ get_or s (q + width_of s + 1) 0 = ap (count_at s t) (sym z) ∙ count_is r.decoded i in
           record { sixteen = omega (arith, few.sixteen); names = omega (arith, few.names) }
-
-  pub small_role : kind_at t x ≡ 4 → role_at t x ≤ 4294967295
-  small_role kind = by_origin (r.decoded.origin x (omega arith))
-    where
-      by_origin : Origin (count_of s) s t x → role_at t x ≤ 4294967295
-      by_origin (blank z) = absurd (omega arith)
-      by_origin (of_axiom {q = q} i z) = by_tail (sound_at s r.accepted i).tail
-        where
-          is_kind : get_or s (q + width_of s) 0 ≡ 4
-          is_kind = sym (kind_is (roles_of s) r.decoded (no_axiom_fault s r.accepted) i) ∙ ap (kind_at t) z ∙ kind
-
-          by_tail : Tail (width_of s) (names_of s) (roles_of s) (get_or s (q + width_of s) 0) s (q + width_of s + 1) → role_at t x ≤ 4294967295
-          by_tail (joined e j) = absurd (true≢false (sym e ∙ rw is_kind refl))
-          by_tail (restricted e f k) =
-              let role : role_at t x ≡ get_or s (q + width_of s + 1) 0 = ap (role_at t) (sym z) ∙ (holds r.decoded i).role e in
-              omega (arith, k.role, (header_sound s (no_header_fault s r.accepted)).roles)

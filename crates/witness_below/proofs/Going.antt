@@ -17,16 +17,17 @@ use lib.ListN.{length}
 use Rattle.el.proofs.Tests.{which}
 use Rattle.release.specs.Tables.{kind_at, count_at}
 use Rattle.classification.proofs.AxiomRows.{ranges}
-use Rattle.layout.specs.Tables.{has_edge}
 use Rattle.layout.specs.declared.Given.{Given}
 use Rattle.witness_below.specs.declared.looking.Progress.{Progress}
+use Rattle.release.specs.declared.ConceptName.{ConceptName}
+use Rattle.row_evaluation.specs.declared.rows.Form.TheVariants.{Top, Name}
 use Rattle.witness_below.specs.Cells.{pair_of, Value}
 use Rattle.witness_below.specs.Finding.{ToColumn, ToParts, ToFiller, RoomFor, NoneLost, NameLost, JoinedColumn, PlainPair, Traced, ToFollow}
 use Rattle.witness_below.specs.Looking.{progress, NodeMarked, ColumnLooked, PartsLooked, FillerLooked}
 use Rattle.witness_below.specs.Tasks.{Stuck, todo, State, ToLook, Looked, Passed}
 use Rattle.witness_below.proofs.Numbering.{pair_one}
-use Rattle.witness_below.proofs.FewParts.{few_parts, small_role}
-use Rattle.witness_below.proofs.Outcomes.{room_for, by_column, by_everything, by_parts, by_name, by_kind, by_edge, by_filler}
+use Rattle.witness_below.proofs.FewParts.{few_parts}
+use Rattle.witness_below.proofs.Outcomes.{room_for, by_column, by_everything, by_parts, by_name, by_kind, by_filler}
 use Rattle.witness_below.proofs.Steps.{went_then}
 
 -- what a look asks
@@ -64,7 +65,6 @@ module _ {given : Given} {x y k : ℕ} {ys ps w : List ℕ} (look : ToLook given
       row = x_in;
       column = look.column;
       kind = sym is ∙ e;
-      role = small_role look.state.ready.first_world.release look.state.ready.first_world.names x_in (sym is ∙ e);
     }
 
   -- a look
@@ -73,7 +73,7 @@ module _ {given : Given} {x y k : ℕ} {ys ps w : List ℕ} (look : ToLook given
   column_looks joined looked = by_column look.state look.row look.column look.one joined.is_name joined.kind looked
 
   pub everything_looks : {zs qs v : List ℕ} {r : Progress} → (JoinedColumn given y → ⊥) → given.layout.names ≤ x
-      → NodeMarked given.layout x y 0 0 k ys zs w v r × (length qs ≡ length ps) → Looked given x y k ys zs ps qs w v r
+      → NodeMarked given.layout x y Top k ys zs w v r × (length qs ≡ length ps) → Looked given x y k ys zs ps qs w v r
   everything_looks plain h marks = by_everything look.state look.row look.column look.one (λ i e. plain (record { is_name = i; kind = e })) (omega (arith, look.row))
       marks.1 marks.0
 
@@ -86,7 +86,7 @@ module _ {given : Given} {x y k : ℕ} {ys ps w : List ℕ} (look : ToLook given
     plain_y : y < given.layout.names → kind_at given.second.table.now y ≡ 2 → ⊥
     plain_y h e = plain.plain (record { is_name = h; kind = e })
 
-    pub name_looks : {r : ℕ} {zs qs v : List ℕ} {o : Progress} → NameLost given w x y r → NodeMarked given.layout x y 1 r k ys zs w v o × (length qs ≡ length ps)
+    pub name_looks : {r : ConceptName} {zs qs v : List ℕ} {o : Progress} → NameLost given w x y r.0 → NodeMarked given.layout x y (Name r) k ys zs w v o × (length qs ≡ length ps)
         → Looked given x y k ys zs ps qs w v o
     name_looks name marks = by_name look.state look.row look.column look.one plain_y name.is_name name.lost marks.1 marks.0
 
@@ -94,12 +94,8 @@ module _ {given : Given} {x y k : ℕ} {ys ps w : List ℕ} (look : ToLook given
       pub kind_looks : (kind_at given.first.table.now x ≡ 4 → ⊥) → Looked given x y k ys ys ps ps w w (progress k false)
       kind_looks d = by_kind look.state look.row look.column look.one plain_y plain.is_name plain.not_joined none d
 
-      pub edge_looks : {o : Bool} → o ≡ has_edge given.edges.now x → o ≡ false → Looked given x y k ys ys ps ps w w (progress k false)
-      edge_looks is e = by_edge look.state look.row look.column look.one plain_y plain.is_name plain.not_joined none (sym is ∙ e)
-
-      pub filler_looks : {o : Bool} {zs v : List ℕ} {p : Progress} → kind_at given.first.table.now x ≡ 4 → o ≡ has_edge given.edges.now x → o ≡ true
-          → FillerLooked given x y k ys zs w v p → Looked given x y k ys zs ps ps w v p
-      filler_looks four is e looked = by_filler look.state look.row look.column look.one plain_y plain.is_name plain.not_joined none four (sym is ∙ e) looked
+      pub filler_looks : {zs v : List ℕ} {p : Progress} → kind_at given.first.table.now x ≡ 4 → FillerLooked given x y k ys zs w v p → Looked given x y k ys zs ps ps w v p
+      filler_looks four looked = by_filler look.state look.row look.column look.one plain_y plain.is_name plain.not_joined none four looked
 
 -- the pair of a number
 pub record PairAt (n p x y : ℕ) : Type 0 where

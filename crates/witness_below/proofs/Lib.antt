@@ -1,6 +1,7 @@
 -- Laws of writing a right report.
 pub mod Numbering
 pub mod Searching
+pub mod Partners
 pub mod Looks
 pub mod Reports
 pub mod Meaning

@@ -9,22 +9,24 @@ use native.Mathlib.Numerals.{add-one}
 use native.Mathlib.Decide.{ℕ_discrete}
 use lib.ListN.{length}
 use Rattle.concept_rows.specs.Rows.{row}
-use Rattle.release.specs.Tables.{role_at, filler_at, count_at, part_at}
+use Rattle.release.specs.Tables.{filler_at, count_at, part_at}
 use Rattle.layout.specs.declared.Layout.{Layout}
 use Rattle.layout.specs.declared.Given.{Given}
-use Rattle.witness_above.specs.Joining.{RowPut}
+use Rattle.row_evaluation.specs.declared.rows.Form.{Form}
+use Rattle.row_evaluation.specs.RowForms.{RowPut}
+use Rattle.witness_below.specs.declared.finding.Partner.{Partner}
 use Rattle.witness_below.specs.declared.looking.Progress.{Progress}
 use Rattle.witness_below.specs.Cells.{pair_of, cell_at, most_value, Value}
-use Rattle.witness_below.specs.Finding.{AllMarked, PartIs, PartnerTop, PartnerIs}
+use Rattle.witness_below.specs.Finding.{AllMarked, PartIs, PartnerOf}
 use Rattle.witness_below.specs.Looking.{progress, PairPut, NodeRowed, row_there, row_new, NodeMarked, marked_again, ColumnLooked, column_copied, column_asked}
-use Rattle.witness_below.specs.Looking.{Chain, chain_first, chain_more, PartAsked, part_asked, part_open, FillerLooked, filler_top}
+use Rattle.witness_below.specs.Looking.{Chain, chain_first, chain_more, PartAsked, part_asked, part_open, FillerLooked}
 use Rattle.witness_below.specs.Looking.{filler_asked, filler_open, filler_marked}
 
 -- by a name, or by ⊤
-module _ {l : Layout} {x y e b k r : ℕ} {ys zs w v : List ℕ} (put : PairPut l x y (r + 2) w v) where
-  pub by_old_row : {o : Progress} → NodeRowed e b k ys zs r → (r ≡ k → ⊥) → o ≡ progress k true → NodeMarked l x y e b k ys zs w v o
-  by_old_row (row_there there same) d f = marked_again there same put f
-  by_old_row (row_new is written) d f = absurd (d is)
+module _ {l : Layout} {x y k r : ℕ} {f : Form} {ys zs w v : List ℕ} (put : PairPut l x y (r + 2) w v) where
+  pub by_old_row : {o : Progress} → NodeRowed f k ys zs r → (r ≡ k → ⊥) → o ≡ progress k true → NodeMarked l x y f k ys zs w v o
+  by_old_row (row_there there same) d e = marked_again there same put e
+  by_old_row (row_new is written) d e = absurd (d is)
 
 -- by a conjunct of the column
 module _ {given : Given} {x y r : ℕ} {w : List ℕ} (found : PartIs given.second.file.now given.second.table.now given.layout.names y (λ z. (cell_at given.layout w x z ≡ 1 → ⊥)) r) where
@@ -90,26 +92,22 @@ module _ {given : Given} {x y r : ℕ} {w : List ℕ} (found : PartIs given.firs
         one i e g = elim (ℕ_discrete i 0) [ yes f ↦ absurd (d (e ∙ f)) | no f ↦ omega arith ]
 
 -- by the filler
-module _ {given : Given} {x y k role : ℕ} {ys w : List ℕ} (is_role : role ≡ role_at given.first.table.now x) where
-  pub top_filler : {o : Progress} → PartnerTop given y role → o ≡ progress k false → FillerLooked given x y k ys ys w w o
-  top_filler top e = filler_top (rw is_role at top) refl refl e
+module _ {given : Given} {x y k end kept : ℕ} {ys w : List ℕ} {p : Partner} (found : PartnerOf given x y p) (is_end : end ≡ filler_at given.first.table.now x)
+    (value : Value w given.layout.marks (pair_of given.layout.names end p.over) kept) where
+  pub asked_filler : {v : List ℕ} {o : Progress} → kept ≡ 0 → PairPut given.layout end p.over 1 w v → o ≡ progress k true → FillerLooked given x y k ys ys w v o
+  asked_filler e put f =
+      let there : kept ≡ cell_at given.layout w (filler_at given.first.table.now x) p.over = rw (← is_end) value.is in
+      filler_asked found (sym there ∙ e) (rw is_end at put) refl f
 
-  module _ {q kept end : ℕ} (is_end : end ≡ filler_at given.first.table.now x) (partners : PartnerIs given y role q)
-      (value : Value w given.layout.marks (pair_of given.layout.names end q) kept) where
-    pub asked_filler : {v : List ℕ} {o : Progress} → kept ≡ 0 → PairPut given.layout end q 1 w v → o ≡ progress k true → FillerLooked given x y k ys ys w v o
-    asked_filler e put f =
-        let there : kept ≡ cell_at given.layout w (filler_at given.first.table.now x) q = rw (← is_end) value.is in
-        filler_asked (rw is_role at partners) (sym there ∙ e) (rw is_end at put) refl f
+  pub open_filler : {o : Progress} → kept ≡ 1 → o ≡ progress k false → FillerLooked given x y k ys ys w w o
+  open_filler e f =
+      let there : kept ≡ cell_at given.layout w (filler_at given.first.table.now x) p.over = rw (← is_end) value.is in
+      filler_open found (sym there ∙ e) refl refl f
 
-    pub open_filler : {o : Progress} → kept ≡ 1 → o ≡ progress k false → FillerLooked given x y k ys ys w w o
-    open_filler e f =
-        let there : kept ≡ cell_at given.layout w (filler_at given.first.table.now x) q = rw (← is_end) value.is in
-        filler_open (rw is_role at partners) (sym there ∙ e) refl refl f
-
-    pub marked_filler : (kept ≡ 0 → ⊥) → (kept ≡ 1 → ⊥) → {zs v : List ℕ} {o : Progress} → RowPut k (row 3 role (kept - 2)) ys zs → PairPut given.layout x y (k + 2) w v
-        → o ≡ progress (k + 1) true → FillerLooked given x y k ys zs w v o
-    marked_filler d e put mark f =
-        let large : 2 ≤ kept = elim (ℕ_discrete kept 0) [ yes z ↦ absurd (d z) | no z ↦ elim (ℕ_discrete kept 1) [ yes g ↦ absurd (e g) | no g ↦ omega arith ] ] in
-        let there : kept ≡ cell_at given.layout w (filler_at given.first.table.now x) q = rw (← is_end) value.is in
-        let is : cell_at given.layout w (filler_at given.first.table.now x) q ≡ kept - 2 + 2 = omega (arith, there) in
-        filler_marked (rw is_role at partners) is (rw is_role at put) mark f
+  pub marked_filler : (kept ≡ 0 → ⊥) → (kept ≡ 1 → ⊥) → {zs v : List ℕ} {o : Progress} → RowPut k (row 3 p.role.0 (kept - 2)) ys zs → PairPut given.layout x y (k + 2) w v
+      → o ≡ progress (k + 1) true → FillerLooked given x y k ys zs w v o
+  marked_filler d e put mark f =
+      let large : 2 ≤ kept = elim (ℕ_discrete kept 0) [ yes z ↦ absurd (d z) | no z ↦ elim (ℕ_discrete kept 1) [ yes g ↦ absurd (e g) | no g ↦ omega arith ] ] in
+      let there : kept ≡ cell_at given.layout w (filler_at given.first.table.now x) p.over = rw (← is_end) value.is in
+      let is : cell_at given.layout w (filler_at given.first.table.now x) p.over ≡ kept - 2 + 2 = omega (arith, there) in
+      filler_marked found is put mark f

@@ -11,23 +11,24 @@ use native.Mathlib.Omega.{arith}
 use native.Mathlib.Decide.{ℕ_discrete}
 use Rattle.el.specs.Lists.{In}
 use Rattle.el.specs.Concepts.{name, both, everything, named, concept_of}
-use Rattle.el.specs.Axioms.{Axiom, parts_of, filler_of}
+use Rattle.el.specs.Axioms.{parts_of, filler_of, Terminology}
 use Rattle.el.specs.Derivability.{Derives, to_top, one, other}
 use Rattle.el.specs.Signatures.{Signature}
 use Rattle.el.specs.Answers.{node, name_under, partner}
 use Rattle.el.proofs.Tests.{which}
 use Rattle.el.proofs.Derivations.{◌▹◌}
-use Rattle.el.proofs.Classification.{Table}
+use Rattle.el.proofs.Classification.{InclusionTable}
 use Rattle.el.proofs.PlainNodes.{plain_name, from_parts_of}
 use Rattle.el.proofs.BackwardMarks.{Below, PlainColumn, plain_nothing, plain_node, Partner, filler, none, partner_is}
 use Rattle.concept_rows.proofs.Columns.{both_lost}
 use Rattle.concept_rows.specs.Rows.{row, is_both, concept_of_row}
 use Rattle.concept_rows.specs.Lent.{row_at}
-use Rattle.concept_rows.proofs.Rows.{Formed, same_concept, both_row}
-use Rattle.concept_rows.proofs.RightRows.{Lost, lost_of_part, lost_of_everything, lost_of_name, lost_of_role}
-use Rattle.release.specs.Files.{axioms_of}
+use Rattle.concept_rows.specs.Written.{Formed, Lost}
+use Rattle.concept_rows.proofs.Rows.{same_concept, both_row}
+use Rattle.concept_rows.proofs.RightRows.{lost_of_part, lost_of_everything, lost_of_name, lost_of_role}
+use Rattle.release.specs.Files.{content_of}
 use Rattle.release.specs.Entries.{node_number}
-use Rattle.release.specs.Tables.{kind_at, role_at, filler_at, count_at, part_at}
+use Rattle.release.specs.Tables.{kind_at, filler_at, count_at, part_at}
 use Rattle.marks.specs.Squares.{Marked}
 use Rattle.classification.specs.Inclusions.{node_at, says}
 use Rattle.classification.proofs.Nodes.{at_top, at_name, at_node, number_at, at_number, said, marked}
@@ -39,10 +40,11 @@ use Rattle.backward.proofs.Defined.{found_2, found_4, not_joined, fills_filled, 
 use Rattle.row_evaluation.proofs.Worlds.{filler_node_lem}
 use Rattle.witness_above.proofs.LeftSteps.{put_agrees}
 use Rattle.witness_above.proofs.LeftEnd.{world_table}
-use Rattle.witness_above.specs.Joining.{RowPut}
+use Rattle.row_evaluation.specs.RowForms.{RowPut}
 use Rattle.layout.specs.declared.Given.{Given}
 use Rattle.witness_below.specs.Cells.{cell_at}
-use Rattle.witness_below.specs.Finding.{LostName, PartnerIs, partner_filler, partner_nothing, PartnerTop}
+use Rattle.witness_below.specs.declared.finding.Partner.{Partner as RolePartner}
+use Rattle.witness_below.specs.Finding.{LostName, PartnerIs, partner_filler, partner_nothing, PartnerTop, PartnerOf}
 use Rattle.witness_below.specs.Looking.{Chain, chain_first, chain_more}
 use Rattle.witness_below.specs.Tasks.{Ready, Over, RowFor, RightReport}
 use Rattle.witness_below.proofs.Reports.{report_grown}
@@ -51,11 +53,11 @@ module _ {given : Given} {w : List ℕ} (ready : Ready given w) where
   abbrev n : ℕ
   n = given.layout.names
 
-  abbrev t : List Axiom
-  t = axioms_of given.first.file.now
+  abbrev t : Terminology
+  t = content_of given.first.file.now
 
-  abbrev u : List Axiom
-  u = axioms_of given.second.file.now
+  abbrev u : Terminology
+  u = content_of given.second.file.now
 
   -- plain columns
   pub plain_column : {y : ℕ} → y ≤ n → (y < n → kind_at given.second.table.now y ≡ 2 → ⊥) → PlainColumn u (column_at n y)
@@ -112,10 +114,10 @@ module _ {given : Given} {w : List ℕ} (ready : Ready given w) where
   ]
 
   module _ {sig : Signature} (over : Over sig given) {k : ℕ} {ys : List ℕ} (right : RightReport sig given k ys w) where
-    abbrev first_table : Table n t
+    abbrev first_table : InclusionTable n t
     first_table = world_table ready.first_world
 
-    abbrev second_table : Table n u
+    abbrev second_table : InclusionTable n u
     second_table = world_table ready.second_world
 
     pub row_of_part : {x y z j : ℕ} → x ≤ n → y < n → kind_at given.second.table.now y ≡ 2 → PartAt given.second.file.now given.second.table.now y z → z < n
@@ -149,33 +151,33 @@ module _ {given : Given} {w : List ℕ} (ready : Ready given w) where
         (sym (over.name b b_in) ∙ lost.chosen_name)
         (said (named b) (node_at n x) refl (number_at n x x_in) lost.first) (not_under y_in lost.not_second) inside is
 
-    pub row_of_role : {x y q m : ℕ} → x < n → y ≤ n → kind_at given.first.table.now x ≡ 4 → PlainColumn u (column_at n y)
-        → PartnerIs given y (role_at given.first.table.now x) q → cell_at given.layout w (filler_at given.first.table.now x) q ≡ m + 2 → {zs : List ℕ}
-        → RowPut k (row 3 (role_at given.first.table.now x) m) ys zs → Formed sig (row_at zs) (suc k) → RowFor given (suc k) zs x y k
-    row_of_role {x} {y} {q} {m} x_in y_in kind plain partners kept {zs} put well =
+    pub row_of_role : {x y m : ℕ} {p : RolePartner} → x < n → y ≤ n → kind_at given.first.table.now x ≡ 4 → PlainColumn u (column_at n y)
+        → PartnerOf given x y p → cell_at given.layout w (filler_at given.first.table.now x) p.over ≡ m + 2 → {zs : List ℕ}
+        → RowPut k (row 3 p.role.0 m) ys zs → Formed sig (row_at zs) (suc k) → RowFor given (suc k) zs x y k
+    row_of_role {x} {y} {m} {p} x_in y_in kind plain found kept {zs} put well =
         let f = found_4 ready.first_world.release ready.first_world.names x x_in kind in
         let d = defined_restriction f kind in
-        let fills = filled_by ready.first_world.release ready.first_world.names (record { is_name = x_in; kind = kind; role = refl }) f in
+        let fills = filled_by ready.first_world.release ready.first_world.names (record { is_name = x_in; kind = kind; role = over.serves x p.role.0 x_in found.edge }) f in
         let within = (ranges ready.first_world.release ready.first_world.names).filler x x_in (rw kind refl) in
         let is_filler_lem = filler_node_lem ready.first_world f d.0 in
-        let lost = rw (is_filler_lem, ← partner_number y_in partners) at (right.lost (filler_at given.first.table.now x) q m within (partner_in partners) kept) in
+        let lost = rw (is_filler_lem, ← partner_number y_in found.is) at (right.lost (filler_at given.first.table.now x) p.over m within (partner_in found.is) kept) in
         lost_of_role over.comparable first_table second_table right.formed plain f.member (name_is f x_in) fills lost (put_agrees put) well put.here
 
 -- conjunct by conjunct
 pub record Conjoined (given : Given) (k : ℕ) (ys : List ℕ) (x y i m : ℕ) : Type 0 where
   pub inside : m < k
-  pub first : (j : ℕ) → j < i → Derives (axioms_of given.first.file.now) (concept_of_row (row_at ys) m) (name (part_at given.first.file.now given.first.table.now x j))
-  pub second : Below (axioms_of given.second.file.now) (concept_of_row (row_at ys) m) (column_at given.layout.names y) → ⊥
+  pub first : (j : ℕ) → j < i → Derives (content_of given.first.file.now) (concept_of_row (row_at ys) m) (name (part_at given.first.file.now given.first.table.now x j))
+  pub second : Below (content_of given.second.file.now) (concept_of_row (row_at ys) m) (column_at given.layout.names y) → ⊥
 
 module _ {given : Given} {w : List ℕ} (ready : Ready given w) {sig : Signature} (over : Over sig given) {x y : ℕ} (x_in : x < given.layout.names) (y_in : y ≤ given.layout.names)
-    (kind : kind_at given.first.table.now x ≡ 2) (plain : PlainColumn (axioms_of given.second.file.now) (column_at given.layout.names y)) where
+    (kind : kind_at given.first.table.now x ≡ 2) (plain : PlainColumn (content_of given.second.file.now) (column_at given.layout.names y)) where
   part_name : (i : ℕ) → i < count_at given.first.file.now given.first.table.now x → part_at given.first.file.now given.first.table.now x i < given.layout.names
   part_name i h = (ranges ready.first_world.release ready.first_world.names).part x i x_in (rw kind refl) h
 
   -- a conjunct that is marked
   part_row : {k : ℕ} {ys : List ℕ} → RightReport sig given k ys w → (i m : ℕ) → i < count_at given.first.file.now given.first.table.now x
       → cell_at given.layout w (part_at given.first.file.now given.first.table.now x i) y ≡ m + 2
-      → Lost (axioms_of given.first.file.now) (axioms_of given.second.file.now) (row_at ys) k (named (part_at given.first.file.now given.first.table.now x i)) (column_at given.layout.names y) m
+      → Lost (content_of given.first.file.now) (content_of given.second.file.now) (row_at ys) k (named (part_at given.first.file.now given.first.table.now x i)) (column_at given.layout.names y) m
   part_row right i m h kept = rw (at_name given.layout.names (part_at given.first.file.now given.first.table.now x i) (part_name i h))
       at (right.lost (part_at given.first.file.now given.first.table.now x i) y m (omega (arith, part_name i h)) y_in kept)
 

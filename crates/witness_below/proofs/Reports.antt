@@ -9,7 +9,7 @@ use Rattle.el.specs.Signatures.{Signature}
 use Rattle.concept_rows.specs.Rows.{Row, WellFormed}
 use Rattle.concept_rows.proofs.Rows.{agreeing_formed, append}
 use Rattle.concept_rows.proofs.RightRows.{lost_grown}
-use Rattle.witness_above.specs.Joining.{RowPut}
+use Rattle.row_evaluation.specs.RowForms.{RowPut}
 use Rattle.witness_above.proofs.LeftSteps.{put_agrees}
 use Rattle.layout.specs.declared.Given.{Given}
 use Rattle.witness_below.specs.Cells.{pair_of, value_at, CellPut}

@@ -15,10 +15,10 @@ use Rattle.release.specs.Parts.{HasParts}
 use Rattle.release.proofs.PartWalks.{has_parts}
 use Rattle.layout.specs.declared.Given.{Given}
 use Rattle.witness_below.specs.Finding.{PartIs, NoPart, PartFound, LostName}
-use Rattle.release.specs.declared.table.Row as table
+use Rattle.release.specs.declared.table.Table.{Table}
 
 -- a walk of the conjuncts
-module _ {n x : ℕ} {s : List ℕ} {t : List table.Row} (shaped : Shaped n s t) (x_in : x < n) (kind : kind_at t x ≡ 2) where
+module _ {n x : ℕ} {s : List ℕ} {t : Table} (shaped : Shaped n s t) (x_in : x < n) (kind : kind_at t x ≡ 2) where
   pub to_walk : HasParts s t x
   to_walk = has_parts (record { shaped = shaped; is_name = x_in; is_conjunctive = rw kind refl })
 
@@ -26,10 +26,10 @@ module _ {n x : ℕ} {s : List ℕ} {t : List table.Row} (shaped : Shaped n s t)
   part_inside {i} h e = rw e (shaped.part x i x_in (rw kind refl) h)
 
 -- conjuncts
-pub record NoneBefore (s : List ℕ) (t : List table.Row) (z : ℕ) (D : ℕ → Type 0) (i : ℕ) : Type 0 where
+pub record NoneBefore (s : List ℕ) (t : Table) (z : ℕ) (D : ℕ → Type 0) (i : ℕ) : Type 0 where
   pub none : (j : ℕ) → j < i → D (part_at s t z j) → ⊥
 
-module _ {s : List ℕ} {t : List table.Row} {z : ℕ} {D : ℕ → Type 0} where
+module _ {s : List ℕ} {t : Table} {z : ℕ} {D : ℕ → Type 0} where
   pub none_start : NoneBefore s t z D 0
   none_start = record { none = λ j h. absurd (omega arith) }
 
@@ -43,11 +43,11 @@ module _ {s : List ℕ} {t : List table.Row} {z : ℕ} {D : ℕ → Type 0} wher
   part_found {i = i} h e small d = record { part = record { at = i; inside = h; is = sym e }; is_name = small; holds = d }
 
 -- the best conjunct so far
-pub data BestBefore (s : List ℕ) (t : List table.Row) (n z : ℕ) (D : ℕ → Type 0) (i : ℕ) : Option ℕ → Type 0 where
+pub data BestBefore (s : List ℕ) (t : Table) (n z : ℕ) (D : ℕ → Type 0) (i : ℕ) : Option ℕ → Type 0 where
   best_none : NoneBefore s t z D i → BestBefore s t n z D i None
   best_is : {p : ℕ} → PartIs s t n z D p → BestBefore s t n z D i (Some p)
 
-module _ {s : List ℕ} {t : List table.Row} {n z : ℕ} {D : ℕ → Type 0} where
+module _ {s : List ℕ} {t : Table} {n z : ℕ} {D : ℕ → Type 0} where
   -- one more that is not better, or is not looked at
   pub best_more : {i p : ℕ} {r : Option ℕ} → BestBefore s t n z D i r → p ≡ part_at s t z i → (D p → ⊥) → BestBefore s t n z D (i + 1) r
   best_more (best_none before) e k = best_none (none_more before e k)

@@ -14,7 +14,7 @@ use lib.ListN.{length, get_or}
 use Rattle.el.specs.Signatures.{Signature}
 use Rattle.concept_rows.specs.Rows.{Row, WellFormed}
 use Rattle.row_evaluation.proofs.Worlds.{world_after}
-use Rattle.witness_above.specs.Joining.{RowPut}
+use Rattle.row_evaluation.specs.RowForms.{RowPut}
 use Rattle.layout.specs.declared.Given.{Given}
 use Rattle.witness_below.specs.Cells.{pair_of, value_at, cell_at, CellPut}
 use Rattle.witness_below.specs.Looking.{progress}

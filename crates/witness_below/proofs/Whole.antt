@@ -20,19 +20,22 @@ use Rattle.el.specs.Signatures.{Signature, RightWitness}
 use Rattle.el.specs.Answers.{node}
 use Rattle.concept_rows.specs.Rows.{row}
 use Rattle.concept_rows.specs.Lent.{row_at, Last}
-use Rattle.concept_rows.proofs.RightRows.{Lost, right_found, right_last, right_again}
-use Rattle.release.specs.Files.{axioms_of}
-use Rattle.release.proofs.Linked.{terminology}
+use Rattle.concept_rows.specs.Written.{Lost}
+use Rattle.concept_rows.proofs.RightRows.{right_found, right_last, right_again}
+use Rattle.release.specs.Files.{content_of}
+use Rattle.release.proofs.Linked.{normalised, role_small}
 use Rattle.classification.proofs.Nodes.{at_name}
-use Rattle.classification.proofs.AxiomRows.{formed}
+use Rattle.classification.proofs.AxiomRows.{defined_restriction, role_is, formed}
 use Rattle.backward.proofs.Columns.{column_name}
-use Rattle.witness_above.specs.Joining.{RowPut}
+use Rattle.backward.proofs.Defined.{found_4}
+use Rattle.row_evaluation.specs.RowForms.{RowPut}
 use Rattle.witness_above.proofs.LeftSteps.{put_agrees}
 use Rattle.witness_above.proofs.LeftEnd.{world_table}
 use Rattle.layout.specs.declared.Given.{Given}
 use Rattle.layout.specs.Layouts.{chosen}
+use Rattle.layout.specs.declared.edges.Position.TheVariants.{Below}
 use Rattle.layout.specs.Findings.{Handed}
-use Rattle.layout.proofs.Findings.{name_handed}
+use Rattle.layout.proofs.Findings.{stands_itself, name_handed}
 use Rattle.layout.proofs.Comparing.{chosen_below}
 use Rattle.witness_below.specs.Cells.{pair_of, value_at, cell_at, CellPut, Value}
 use Rattle.witness_below.specs.Tasks.{Ready, Over, not_open, RightReport, opens, State, Settled, Done}
@@ -47,17 +50,25 @@ unfolding value_at
 zero_value w base p e f g = rw (e, f, g) refl
 
 -- a signature whose names and edges are given
-over : {given : Given} {w g : List ℕ} → Ready given w → Handed g given → Over (chosen given.layout g) given
+over : {given : Given} {w g : List ℕ} → Ready given w → Handed Below g given → Over (chosen given.layout g) given
 over {given} {g = g} ready handed = record {
   name = λ x h. name_handed handed x;
-  edge = λ x h restriction role. (handed.found.tells x h).complete (record { is_restriction = restriction; chosen_role = role });
-  role = λ x h e. ((handed.found.tells x h).sound e).chosen_role;
+  edge = λ x r x_in kind is_chosen serves.
+      let f = found_4 ready.first_world.release ready.first_world.names x x_in kind in
+      let d = defined_restriction f kind in
+      stands_itself (handed.found.complete given.second.file.now ready.second_world.release x r x_in (record {
+        is_restriction = rw kind refl;
+        small = rw (role_is f d.0) (role_small given.first.file.now ready.first_world.release.accepted f.member d.0);
+        role = record { in_signature = is_chosen; lies = serves };
+      }));
+  chosen_role = λ x r x_in edge. (handed.found.sound x r x_in edge).role.in_signature;
+  serves = λ x r x_in edge. (handed.found.sound x r x_in edge).role.lies;
   comparable = record {
     names_in = chosen_below given.layout g;
     first_formed = formed ready.first_world.release ready.first_world.names;
     second_formed = formed ready.second_world.release ready.second_world.names;
-    first_terms = terminology given.first.file.now ready.first_world.release.accepted;
-    second_terms = terminology given.second.file.now ready.second_world.release.accepted;
+    first_terms = normalised given.first.file.now ready.first_world.release.accepted;
+    second_terms = normalised given.second.file.now ready.second_world.release.accepted;
   };
 }
 
@@ -89,7 +100,7 @@ module _ {given : Given} {x : ℕ} {ys ps w : List ℕ} (asks : ToWriteArranged 
       last_room = omega (arith, done.went.state.rows, few_last done.went.state.few)
 
       -- the pair is marked
-      by_end : (sig : Signature) → Over sig given → RightWitness sig (axioms_of given.first.file.now) (axioms_of given.second.file.now) x
+      by_end : (sig : Signature) → Over sig given → RightWitness sig (content_of given.first.file.now) (content_of given.second.file.now) x
           → (2 ≤ cell_at given.layout u x x) ⊎ ((p : ℕ) → p < suc given.layout.names * suc given.layout.names → Settled given u p) → 2 ≤ cell_at given.layout u x x
       by_end sig over witness (inl h) = h
       by_end sig over witness (inr settled) =
@@ -103,7 +114,7 @@ module _ {given : Given} {x : ℕ} {ys ps w : List ℕ} (asks : ToWriteArranged 
 
       -- its row
       own_row : {kept m : ℕ} → Value u given.layout.marks (pair_of given.layout.names x x) kept → m + 2 ≡ kept → (sig : Signature) → Over sig given
-          → Lost (axioms_of given.first.file.now) (axioms_of given.second.file.now) (row_at xs) j (named x) (node (named x)) m
+          → Lost (content_of given.first.file.now) (content_of given.second.file.now) (row_at xs) j (named x) (node (named x)) m
       own_row {kept} {m} value is_row sig over =
           let is : cell_at given.layout u x x ≡ m + 2 = omega (arith, value.is) in
           let lost = (done.went.keeps sig over (start_report sig)).lost x x m (omega (arith, asks.name)) (omega (arith, asks.name)) is in
@@ -111,8 +122,8 @@ module _ {given : Given} {x : ℕ} {ys ps w : List ℕ} (asks : ToWriteArranged 
 
       -- what is written, but for a row more
       written : {os : List ℕ} {k : ℕ} → k ≤ j + 1 → length os ≡ length xs → ((p : ℕ) → 3 * k ≤ p → get_or os p 0 ≡ get_or ys p 0)
-          → ((sig : Signature) → Over sig given → sig.has_name x ≡ true → RightWitness sig (axioms_of given.first.file.now) (axioms_of given.second.file.now) x
-          → Last sig (axioms_of given.first.file.now) (axioms_of given.second.file.now) 2 x os k) → ArrangedWritten given x ys os w u k
+          → ((sig : Signature) → Over sig given → sig.has_name x ≡ true → RightWitness sig (content_of given.first.file.now) (content_of given.second.file.now) x
+          → Last sig (content_of given.first.file.now) (content_of given.second.file.now) 2 x os k) → ArrangedWritten given x ys os w u k
       written h long past shows = record {
         few = omega (arith, few_last done.went.state.few);
         long = done.went.long ∙ asked.long;

@@ -6,23 +6,28 @@
 --   PartFound s t n z D r         r is a conjunct of z of which D holds (PartIs), or D holds of none (NoPart)
 --   LostName given w x y b        b is a chosen name that lies below x by the first release, and not below y by the second
 --   NameFound given w x y r       r is such a name (NameLost), or there is none (NoneLost)
---   PartnerFound given y q r      r is the column of the filler of y by the second release, for the role q; or nothing, where y has no such
---                                 (PartnerIs); or there is none, since it is ⊤ (PartnerTop)
---   RowThere e b k r ys           row r is there, one of k, and is e b 0: that of ⊤ or of a name
+--   PartnerIs given y q r         r is the column of the filler of y by the second release, if the role q serves for y; else nothing
+--   PartnerTop given y q          q serves for y, and the filler is ⊤
+--   PartnerFound given x y r      r is a role of the edge of x, with its column; nothing, if some role of the edge has that (PartnerOf); or for each
+--                                 of them the filler is ⊤ (NoPartner)
+--   RowThere f k r ys             row r is there, one of k, and is of the form f
 --   JoinedColumn given y          y is defined by a conjunction;  PlainPair given x y: neither x nor y is
 --   Traced, ToFollow, NotesRoom      what following a pair to one that it waits for asks, and noting such pairs
 use Rattle.std.specs.Prelude.{◌≡◌, true, Option, MatchOption, List, ℕ, ◌+◌, ◌*◌, ◌≤◌, ◌<◌, length}
-use Rattle.concept_rows.specs.Rows.{row}
 use Rattle.concept_rows.specs.Lent.{row_at}
-use Rattle.release.specs.Tables.{kind_at, role_at, filler_at, count_at, part_at, Shaped}
+use Rattle.release.specs.Tables.{kind_at, filler_at, count_at, part_at, Shaped}
 use Rattle.marks.specs.Squares.{Room, Marked}
 use Rattle.classification.proofs.AxiomRows.{PartAt}
 use Rattle.layout.specs.declared.Given.{Given}
 use Rattle.layout.specs.Layouts.{first_square, second_square, chosen}
+use Rattle.layout.specs.Tables.{HasEdge}
 use Rattle.backward.specs.Rules.{Filled}
-use Rattle.witness_above.specs.Joining.{most}
+use Rattle.release.specs.declared.ConceptName.{ConceptName}
+use Rattle.row_evaluation.specs.declared.rows.Form.{Form}
+use Rattle.row_evaluation.specs.RowForms.{numbers_of}
+use Rattle.witness_below.specs.declared.finding.Partner.{Partner}
 use Rattle.witness_below.specs.Cells.{cell_at, most_value, CellRoom}
-use Rattle.release.specs.declared.table.Row as table
+use Rattle.release.specs.declared.table.Table.{Table}
 
 pub record ToColumn (given : Given) (w : List ℕ) (x y : ℕ) : Type 0 where
   pub shaped : Shaped given.layout.names given.second.file.now given.second.table.now
@@ -43,7 +48,6 @@ pub record ToFiller (given : Given) (w : List ℕ) (x y : ℕ) : Type 0 where
   pub row : x < given.layout.names
   pub column : y ≤ given.layout.names
   pub kind : kind_at given.first.table.now x ≡ 4
-  pub role : role_at given.first.table.now x ≤ most
 
 pub record ToName (given : Given) (w : List ℕ) (x y : ℕ) : Type 0 where
   pub first_room : Room (first_square given.layout) w
@@ -59,15 +63,15 @@ pub record AllMarked (given : Given) (w : List ℕ) (x y : ℕ) : Type 0 where
   pub at : (i : ℕ) → i < count_at given.first.file.now given.first.table.now x
       → 2 ≤ cell_at given.layout w (part_at given.first.file.now given.first.table.now x i) y
 
-pub record PartIs (s : List ℕ) (t : List table.Row) (n z : ℕ) (D : ℕ → Type 0) (p : ℕ) : Type 0 where
+pub record PartIs (s : List ℕ) (t : Table) (n z : ℕ) (D : ℕ → Type 0) (p : ℕ) : Type 0 where
   pub part : PartAt s t z p
   pub is_name : p < n
   pub holds : D p
 
-pub record NoPart (s : List ℕ) (t : List table.Row) (z : ℕ) (D : ℕ → Type 0) : Type 0 where
+pub record NoPart (s : List ℕ) (t : Table) (z : ℕ) (D : ℕ → Type 0) : Type 0 where
   pub none : (i : ℕ) → i < count_at s t z → D (part_at s t z i) → ⊥
 
-abbrev pub PartFound : List ℕ → List table.Row → ℕ → ℕ → (ℕ → Type 0) → Option ℕ → Type 0
+abbrev pub PartFound : List ℕ → Table → ℕ → ℕ → (ℕ → Type 0) → Option ℕ → Type 0
 PartFound s t n z D r = MatchOption r (NoPart s t z D) (PartIs s t n z D)
 
 pub record LostName (given : Given) (w : List ℕ) (x y b : ℕ) : Type 0 where
@@ -82,8 +86,8 @@ pub record NameLost (given : Given) (w : List ℕ) (x y b : ℕ) : Type 0 where
 pub record NoneLost (given : Given) (w : List ℕ) (x y : ℕ) : Type 0 where
   pub none : (b : ℕ) → b < given.layout.names → LostName given w x y b → ⊥
 
-abbrev pub NameFound : Given → List ℕ → ℕ → ℕ → Option ℕ → Type 0
-NameFound given w x y r = MatchOption r (NoneLost given w x y) (NameLost given w x y)
+abbrev pub NameFound : Given → List ℕ → ℕ → ℕ → Option ConceptName → Type 0
+NameFound given w x y r = MatchOption r (NoneLost given w x y) (λ b. NameLost given w x y b.0)
 
 pub data PartnerIs (given : Given) (y q r : ℕ) : Type 0 where
   partner_filler : Filled given.second.table.now given.layout.names y q → r ≡ filler_at given.second.table.now y → r < given.layout.names → PartnerIs given y q r
@@ -93,12 +97,20 @@ pub record PartnerTop (given : Given) (y q : ℕ) : Type 0 where
   pub filled : Filled given.second.table.now given.layout.names y q
   pub top : given.layout.names ≤ filler_at given.second.table.now y
 
-abbrev pub PartnerFound : Given → ℕ → ℕ → Option ℕ → Type 0
-PartnerFound given y q r = MatchOption r (PartnerTop given y q) (PartnerIs given y q)
+pub record PartnerOf (given : Given) (x y : ℕ) (p : Partner) : Type 0 where
+  pub edge : HasEdge given.edges.now x p.role.0
+  pub is : PartnerIs given y p.role.0 p.over
+  pub all_served : p.over < given.layout.names → (r : ℕ) → HasEdge given.edges.now x r → Filled given.second.table.now given.layout.names y r
 
-pub record RowThere (e b k r : ℕ) (ys : List ℕ) : Type 0 where
+pub record NoPartner (given : Given) (x y : ℕ) : Type 0 where
+  pub top : (r : ℕ) → HasEdge given.edges.now x r → PartnerTop given y r
+
+abbrev pub PartnerFound : Given → ℕ → ℕ → Option Partner → Type 0
+PartnerFound given x y r = MatchOption r (NoPartner given x y) (PartnerOf given x y)
+
+pub record RowThere (f : Form) (k r : ℕ) (ys : List ℕ) : Type 0 where
   pub inside : r < k
-  pub is : row_at ys r ≡ row e b 0
+  pub is : row_at ys r ≡ numbers_of f
 
 pub record JoinedColumn (given : Given) (y : ℕ) : Type 0 where
   pub is_name : y < given.layout.names

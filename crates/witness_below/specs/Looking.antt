@@ -1,7 +1,7 @@
 -- What one look at a pair x, y does, whose number is 1: rows ys became zs, memory w became v. It keeps a row for the pair (marks it), asks
 -- for another pair, or does nothing.
---   NodeRowed e b k ys zs r        r is a row e b 0, of ⊤ or of a name: an earlier one, or one written now
---   NodeMarked l x y e b k ..      such a row is kept for the pair
+--   NodeRowed f k ys zs r          r is a row of the form f: an earlier one, or one written now
+--   NodeMarked l x y f k ..        such a row is kept for the pair
 --   ColumnLooked given x y ..      y is defined by a conjunction of the second release: by one of its conjuncts
 --   Chain given w x y k ys i zs j m    m is the row of the first i conjuncts of x, all marked with y; j rows are written
 --   PartsJoined given w x y k ..   so it is, for all its conjuncts;  NoneJoined: it has none
@@ -10,33 +10,36 @@
 --   FillerLooked given x y k ..    x is defined by a restriction of the first release: by its filler
 use Rattle.std.specs.Prelude.{◌≡◌, Bool, true, false, List, ℕ, suc, ◌+◌, ◌≤◌, ◌<◌}
 use Rattle.concept_rows.specs.Rows.{row}
-use Rattle.release.specs.Tables.{role_at, filler_at, count_at, part_at}
+use Rattle.release.specs.Tables.{filler_at, count_at, part_at}
 use Rattle.classification.proofs.AxiomRows.{PartAt}
 use Rattle.layout.specs.declared.Layout.{Layout}
 use Rattle.layout.specs.declared.Given.{Given}
-use Rattle.witness_above.specs.Joining.{RowPut}
+use Rattle.row_evaluation.specs.declared.rows.Form.{Form}
+use Rattle.row_evaluation.specs.declared.rows.Form.TheVariants.{Top}
+use Rattle.row_evaluation.specs.RowForms.{numbers_of, RowPut}
+use Rattle.witness_below.specs.declared.finding.Partner.{Partner}
 use Rattle.witness_below.specs.declared.looking.Progress.{Progress}
 use Rattle.witness_below.specs.declared.looking.Joined.{Joined}
 use Rattle.witness_below.specs.declared.looking.Leaf.{Leaf}
 use Rattle.witness_below.specs.Cells.{pair_of, cell_at, most_value, CellPut}
-use Rattle.witness_below.specs.Finding.{AllMarked, PartnerTop, PartnerIs, RowThere}
+use Rattle.witness_below.specs.Finding.{AllMarked, PartnerOf, NoPartner, RowThere}
 
 abbrev pub progress : ℕ → Bool → Progress
 progress k b = record { rows = k; changed = b }
 
-abbrev pub leaf : ℕ → ℕ → ℕ → Leaf
-leaf z e b = record { node = z; kind = e; one = b }
+abbrev pub leaf : ℕ → Form → Leaf
+leaf z f = record { node = z; form = f }
 
 abbrev pub PairPut : Layout → ℕ → ℕ → ℕ → List ℕ → List ℕ → Type 0
 PairPut l x y v w u = CellPut l.marks (pair_of l.names x y) v w u
 
-pub data NodeRowed (e b k : ℕ) (ys zs : List ℕ) (r : ℕ) : Type 0 where
-  row_there : RowThere e b k r ys → zs ≡ ys → NodeRowed e b k ys zs r
-  row_new : r ≡ k → RowPut k (row e b 0) ys zs → NodeRowed e b k ys zs r
+pub data NodeRowed (f : Form) (k : ℕ) (ys zs : List ℕ) (r : ℕ) : Type 0 where
+  row_there : RowThere f k r ys → zs ≡ ys → NodeRowed f k ys zs r
+  row_new : r ≡ k → RowPut k (numbers_of f) ys zs → NodeRowed f k ys zs r
 
-pub data NodeMarked (l : Layout) (x y e b k : ℕ) (ys zs w v : List ℕ) (r : Progress) : Type 0 where
-  marked_again : {m : ℕ} → RowThere e b k m ys → zs ≡ ys → PairPut l x y (m + 2) w v → r ≡ progress k true → NodeMarked l x y e b k ys zs w v r
-  marked_new : RowPut k (row e b 0) ys zs → PairPut l x y (k + 2) w v → r ≡ progress (k + 1) true → NodeMarked l x y e b k ys zs w v r
+pub data NodeMarked (l : Layout) (x y : ℕ) (f : Form) (k : ℕ) (ys zs w v : List ℕ) (r : Progress) : Type 0 where
+  marked_again : {m : ℕ} → RowThere f k m ys → zs ≡ ys → PairPut l x y (m + 2) w v → r ≡ progress k true → NodeMarked l x y f k ys zs w v r
+  marked_new : RowPut k (numbers_of f) ys zs → PairPut l x y (k + 2) w v → r ≡ progress (k + 1) true → NodeMarked l x y f k ys zs w v r
 
 pub data ColumnLooked (given : Given) (x y : ℕ) (w v : List ℕ) (r : Bool) : Type 0 where
   column_copied : {z : ℕ} → PartAt given.second.file.now given.second.table.now y z → z < given.layout.names → 2 ≤ cell_at given.layout w x z
@@ -70,16 +73,15 @@ pub data PartAsked (given : Given) (x y : ℕ) (w v : List ℕ) (r : Bool) : Typ
 
 pub data PartsLooked (given : Given) (x y k : ℕ) (ys zs w v : List ℕ) (r : Progress) : Type 0 where
   parts_asked : {b : Bool} → PartAsked given x y w v b → zs ≡ ys → r ≡ progress k b → PartsLooked given x y k ys zs w v r
-  parts_none : count_at given.first.file.now given.first.table.now x ≡ 0 → NodeMarked given.layout x y 0 0 k ys zs w v r → PartsLooked given x y k ys zs w v r
+  parts_none : count_at given.first.file.now given.first.table.now x ≡ 0 → NodeMarked given.layout x y Top k ys zs w v r → PartsLooked given x y k ys zs w v r
   parts_joined : {j m : ℕ} → Chain given w x y k ys (count_at given.first.file.now given.first.table.now x) zs j m → PairPut given.layout x y (m + 2) w v
       → r ≡ progress j true → PartsLooked given x y k ys zs w v r
 
 pub data FillerLooked (given : Given) (x y k : ℕ) (ys zs w v : List ℕ) (r : Progress) : Type 0 where
-  filler_top : PartnerTop given y (role_at given.first.table.now x) → v ≡ w → zs ≡ ys → r ≡ progress k false → FillerLooked given x y k ys zs w v r
-  filler_asked : {q : ℕ} → PartnerIs given y (role_at given.first.table.now x) q → cell_at given.layout w (filler_at given.first.table.now x) q ≡ 0
-      → PairPut given.layout (filler_at given.first.table.now x) q 1 w v → zs ≡ ys → r ≡ progress k true → FillerLooked given x y k ys zs w v r
-  filler_open : {q : ℕ} → PartnerIs given y (role_at given.first.table.now x) q → cell_at given.layout w (filler_at given.first.table.now x) q ≡ 1 → v ≡ w → zs ≡ ys
+  filler_top : NoPartner given x y → v ≡ w → zs ≡ ys → r ≡ progress k false → FillerLooked given x y k ys zs w v r
+  filler_asked : {p : Partner} → PartnerOf given x y p → cell_at given.layout w (filler_at given.first.table.now x) p.over ≡ 0
+      → PairPut given.layout (filler_at given.first.table.now x) p.over 1 w v → zs ≡ ys → r ≡ progress k true → FillerLooked given x y k ys zs w v r
+  filler_open : {p : Partner} → PartnerOf given x y p → cell_at given.layout w (filler_at given.first.table.now x) p.over ≡ 1 → v ≡ w → zs ≡ ys
       → r ≡ progress k false → FillerLooked given x y k ys zs w v r
-  filler_marked : {q m : ℕ} → PartnerIs given y (role_at given.first.table.now x) q → cell_at given.layout w (filler_at given.first.table.now x) q ≡ m + 2
-      → RowPut k (row 3 (role_at given.first.table.now x) m) ys zs → PairPut given.layout x y (k + 2) w v → r ≡ progress (k + 1) true
-      → FillerLooked given x y k ys zs w v r
+  filler_marked : {p : Partner} {m : ℕ} → PartnerOf given x y p → cell_at given.layout w (filler_at given.first.table.now x) p.over ≡ m + 2
+      → RowPut k (row 3 p.role.0 m) ys zs → PairPut given.layout x y (k + 2) w v → r ≡ progress (k + 1) true → FillerLooked given x y k ys zs w v r

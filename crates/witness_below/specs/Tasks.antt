@@ -3,7 +3,7 @@
 --   Over sig given                      the names and edges are those of the signature
 --   RightReport sig given k ys w        k rows are written; that of each marked pair lies below its node by the first release, and not
 --                                       below its column by the second
---   not_open given w                    the pairs that are marked or not asked for, as a test
+--   not_open given w                    the pairs that are marked or not asked for, as a test; but what is open with nothing is open with all
 --   Stuck given w x y                   no rule gives the pair x, y from those
 --   opens w base n, fresh w base n      how many pairs have no row yet, and how many of these are not asked for
 --   State given k ys ps w               room for what is written, at most 15 rows and at most n + 1 for a mark
@@ -12,25 +12,23 @@
 --   Looked given x y ..                 after a look at the pair x, y;  Passed given e ..: after looks at the pairs before e
 --   Chased given ..                     after looks at any pairs: no more is left to do than before
 --   Done given x ..                     the pair x, x is marked, or nothing is left to do
-use Rattle.std.specs.Prelude.{◌≡◌, true, false, not, ◌⊎◌, List, ℕ, suc, ◌+◌, ◌*◌, ◌≤◌, ◌<◌, eqb, leb, length, get_or}
+use Rattle.std.specs.Prelude.{◌≡◌, Bool, true, false, not, ◌&&◌, ◌⊎◌, List, ℕ, suc, ◌+◌, ◌*◌, ◌≤◌, ◌<◌, eqb, leb, length, get_or}
 use Rattle.el.specs.Concepts.{Node, everything, named}
 use Rattle.el.specs.Signatures.{Signature}
 use Rattle.el.specs.Answers.{Test, Column, nothing, node}
 use Rattle.el.specs.Terminologies.{Comparable}
 use Rattle.el.proofs.BackwardMarks.{Backward}
 use Rattle.concept_rows.specs.Lent.{row_at, rows_needed}
-use Rattle.concept_rows.proofs.Rows.{Formed}
-use Rattle.concept_rows.proofs.RightRows.{Lost}
-use Rattle.concept_rows.proofs.Counting.{passing}
-use Rattle.release.specs.Files.{axioms_of, restricts}
+use Rattle.concept_rows.specs.Written.{Formed, Lost, passing}
+use Rattle.release.specs.Files.{content_of}
 use Rattle.release.specs.Entries.{node_number}
-use Rattle.release.specs.Tables.{kind_at, role_at}
+use Rattle.release.specs.Tables.{kind_at, role_at, serves_at}
 use Rattle.marks.specs.Squares.{span}
 use Rattle.classification.specs.Inclusions.{node_at, says}
 use Rattle.layout.specs.declared.Layout.{Layout}
 use Rattle.layout.specs.declared.Given.{Given}
 use Rattle.layout.specs.Layouts.{first_square, second_square, chosen}
-use Rattle.layout.specs.Tables.{has_edge}
+use Rattle.layout.specs.Tables.{HasEdge}
 use Rattle.backward.specs.Backward.{column_at}
 use Rattle.row_evaluation.specs.Worlds.{World}
 use Rattle.witness_below.specs.declared.looking.Progress.{Progress}
@@ -45,25 +43,31 @@ pub record Ready (given : Given) (w : List ℕ) : Type 0 where
 
 pub record Over (sig : Signature) (given : Given) : Type 0 where
   pub name : (x : ℕ) → x < given.layout.names → (chosen given.layout given.chosen_names.now).has_name x ≡ sig.has_name x
-  pub edge : (x : ℕ) → x < given.layout.names → restricts (kind_at given.first.table.now x) ≡ true → sig.has_role (role_at given.first.table.now x) ≡ true → has_edge given.edges.now x ≡ true
-  pub role : (x : ℕ) → x < given.layout.names → has_edge given.edges.now x ≡ true → sig.has_role (role_at given.first.table.now x) ≡ true
-  pub comparable : Comparable given.layout.names sig (axioms_of given.first.file.now) (axioms_of given.second.file.now)
+  pub edge : (x r : ℕ) → x < given.layout.names → kind_at given.first.table.now x ≡ 4 → sig.has_role r ≡ true
+      → serves_at given.first.table.now r (role_at given.first.table.now x) ≡ true → HasEdge given.edges.now x r
+  pub chosen_role : (x r : ℕ) → x < given.layout.names → HasEdge given.edges.now x r → sig.has_role r ≡ true
+  pub serves : (x r : ℕ) → x < given.layout.names → HasEdge given.edges.now x r → serves_at given.first.table.now r (role_at given.first.table.now x) ≡ true
+  pub comparable : Comparable given.layout.names sig (content_of given.first.file.now) (content_of given.second.file.now)
 
 abbrev pub RowFor : Given → ℕ → List ℕ → ℕ → ℕ → ℕ → Type 0
-RowFor given k ys x y j = Lost (axioms_of given.first.file.now) (axioms_of given.second.file.now) (row_at ys) k (node_at given.layout.names x) (column_at given.layout.names y) j
+RowFor given k ys x y j = Lost (content_of given.first.file.now) (content_of given.second.file.now) (row_at ys) k (node_at given.layout.names x) (column_at given.layout.names y) j
 
 pub record RightReport (sig : Signature) (given : Given) (k : ℕ) (ys w : List ℕ) : Type 0 where
   pub formed : Formed sig (row_at ys) k
   pub lost : (x y j : ℕ) → x ≤ given.layout.names → y ≤ given.layout.names → cell_at given.layout w x y ≡ j + 2 → RowFor given k ys x y j
 
 -- the column ⊤ is never marked
+abbrev pub is_open : Given → List ℕ → Node → ℕ → Bool
+is_open given w x y = eqb (cell_at given.layout w (node_number given.layout.names x) y) 1
+
 abbrev pub not_open : Given → List ℕ → Test Node Column
-not_open given w x nothing = not (eqb (cell_at given.layout w (node_number given.layout.names x) given.layout.names) 1)
+not_open given w x nothing = not (is_open given w x given.layout.names)
 not_open given w x (node everything) = false
-not_open given w x (node (named y)) = not (eqb (cell_at given.layout w (node_number given.layout.names x) y) 1)
+not_open given w x (node (named y)) = not (is_open given w x y) && not (is_open given w x given.layout.names)
 
 abbrev pub Rule : Signature → Given → List ℕ → Node → Column → Type 0
-Rule sig given w x y = Backward sig (axioms_of given.first.file.now) (axioms_of given.second.file.now) (says (first_square given.layout) w) (says (second_square given.layout) w) (not_open given w) x y
+Rule sig given w x y = Backward sig (content_of given.first.file.now) (content_of given.second.file.now) (says (first_square given.layout) w) (says (second_square given.layout) w)
+    (not_open given w) x y
 
 pub record Stuck (given : Given) (w : List ℕ) (x y : ℕ) : Type 0 where
   pub none : (sig : Signature) → Over sig given → Rule sig given w (node_at given.layout.names x) (column_at given.layout.names y) → ⊥

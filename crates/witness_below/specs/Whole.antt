@@ -6,16 +6,17 @@
 use Rattle.std.specs.Prelude.{◌≡◌, true, List, ℕ, suc, ◌+◌, ◌*◌, ◌≤◌, ◌<◌, length, get_or}
 use Rattle.el.specs.Signatures.{RightWitness}
 use Rattle.concept_rows.specs.Lent.{rows_needed, Last}
-use Rattle.release.specs.Files.{axioms_of}
+use Rattle.release.specs.Files.{content_of}
 use Rattle.layout.specs.declared.Given.{Given}
 use Rattle.layout.specs.Layouts.{chosen}
+use Rattle.layout.specs.declared.edges.Position.TheVariants.{Below}
 use Rattle.layout.specs.Findings.{Handed}
 use Rattle.witness_below.specs.Tasks.{Ready}
 
 pub record RightShown (given : Given) (x : ℕ) (zs : List ℕ) (r : ℕ) : Type 0 where
-  pub of_signature : (g : List ℕ) → Handed g given → (chosen given.layout g).has_name x ≡ true
-      → RightWitness (chosen given.layout g) (axioms_of given.first.file.now) (axioms_of given.second.file.now) x
-      → Last (chosen given.layout g) (axioms_of given.first.file.now) (axioms_of given.second.file.now) 2 x zs r
+  pub of_signature : (g : List ℕ) → Handed Below g given → (chosen given.layout g).has_name x ≡ true
+      → RightWitness (chosen given.layout g) (content_of given.first.file.now) (content_of given.second.file.now) x
+      → Last (chosen given.layout g) (content_of given.first.file.now) (content_of given.second.file.now) 2 x zs r
 
 pub record ToWriteArranged (given : Given) (x : ℕ) (ys ps w : List ℕ) : Type 0 where
   pub ready : Ready given w

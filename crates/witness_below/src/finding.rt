@@ -1,13 +1,14 @@
 // What is looked for before anything is written.
 ghost use Rattle.std.specs.Prelude.{◌≡◌, ◌≤◌, ◌<◌, IfSome};
 ghost use Rattle.el.proofs.Tests.{Tells};
-ghost use Rattle.backward.specs.Rules.{Filled};
+ghost use Rattle.backward.specs.Rules.{Restricted, Serving};
 ghost use Rattle.witness_below.specs.Cells.{cell_at};
 ghost use Rattle.witness_below.specs.Finding.{ToColumn, ToParts, ToName, PartFound, LostName, NameFound, PartnerFound, JoinedColumn};
 
 use crate::cells::{OPEN, UNASKED, cell};
 use layout::Given;
-use release::Kind;
+use release::roles::RoleSet;
+use release::{ConceptName, Kind, RoleName};
 
 // The first conjunct of the column y that is marked with x; else the first that is not asked for with x.
 pub fn find_column_part(given: &Given, work: &[u8], x: usize, y: usize) -> Option<usize>
@@ -67,40 +68,63 @@ fn is_lost(given: &Given, work: &[u8], x: usize, y: usize, name: usize) -> bool
 }
 
 // The first name of the signature that lies below x by the first release and not below y by the second.
-pub fn find_name(given: &Given, work: &[u8], x: usize, y: usize) -> Option<usize>
+pub fn find_name(given: &Given, work: &[u8], x: usize, y: usize) -> Option<ConceptName>
     requires { ToName given.now work.now x y }
     ensures { NameFound given.now work.now x y result }
 {
     for name in 0..given.layout.names {
         if is_lost(given, work, x, y, name) {
-            return Some(name);
+            return Some(ConceptName(name));
         }
     }
     None
 }
 
-// Whether y is defined by a restriction with the role.
-fn is_filled(given: &Given, y: usize, role: usize) -> bool
-    ensures { Tells result (Filled given.now.second.table.now given.now.layout.names y role) }
+// Whether y is defined by a restriction. Crate backward tests this too, and finds the roles below, but has definitions of both alone for other
+// crates.
+fn is_restriction(given: &Given, y: usize) -> bool
+    ensures { Tells result (Restricted given.now.second.table.now given.now.layout.names y) }
 {
-    y < given.layout.names
-        && given.second.has_kind(y, Kind::DefinedRestriction)
-        && given.second.role(y) == role
+    y < given.layout.names && given.second.has_kind(y, Kind::DefinedRestriction)
 }
 
-// For a role, the column that a filler has to be asked for with, for y: its own filler; nothing, where y is not defined by a restriction
-// with the role. None for a filler ⊤, below which all lies.
-pub fn partner(given: &Given, y: usize, role: usize) -> Option<usize>
-    ensures { PartnerFound given.now y role result }
+// The roles that x has an edge with and that serve for y: none where y is not defined by a restriction.
+fn serving(given: &Given, x: usize, y: usize) -> RoleSet
+    requires { x < given.now.layout.names }
+    ensures { Serving given.now x y result.0 }
 {
-    if !is_filled(given, y, role) {
-        return Some(given.layout.names);
+    if is_restriction(given, y) {
+        return given.edges[x].meet(given.second.under(given.second.role(y)));
     }
-    let filler = given.second.filler(y);
-    if given.layout.names <= filler {
+    RoleSet::NONE
+}
+
+// A role of the edge of a name, and the column that the filler of the name has to be asked for with by it.
+#[derive(Clone, Copy)]
+pub struct Partner {
+    pub role: RoleName,
+    pub over: usize,
+}
+
+// Of the roles of the edge of x, one by which most is lost below y, with its column: nothing, for a role that does not serve for y; else the filler
+// of y. None, where x has no edge, or that filler is ⊤, below which all lies.
+pub fn find_partner(given: &Given, x: usize, y: usize) -> Option<Partner>
+    requires { x < given.now.layout.names }
+    ensures { PartnerFound given.now x y result }
+{
+    let serving = serving(given, x, y);
+    if let Some(role) = given.edges[x].without(serving).next(0) {
+        return Some(Partner {
+            role,
+            over: given.layout.names,
+        });
+    }
+    let role = serving.next(0)?;
+    let over = given.second.filler(y);
+    if given.layout.names <= over {
         return None;
     }
-    Some(filler)
+    Some(Partner { role, over })
 }
 
 // Whether y is defined by a conjunction.

@@ -9,7 +9,8 @@ use crate::arranging::arrange;
 use crate::cells::{OPEN, ROW, cell, put_cell};
 use crate::passes::close;
 use layout::{Given, Layout};
-use witness_above::rows::put_row;
+use release::ConceptName;
+use row_evaluation::rows::{Form, put_row};
 
 mod arranging;
 mod cells;
@@ -28,22 +29,22 @@ fn write_arranged(
     rows: &mut [u32],
     numbers: &mut [u32],
     notes: &mut [u32],
-    name: usize,
+    name: ConceptName,
 ) -> usize
-    requires to_write { ToWriteArranged given.now name rows.old numbers.old work.old }
+    requires to_write { ToWriteArranged given.now name.0 rows.old numbers.old work.old }
     requires noting { NotesRoom notes.old }
-    ensures { ArrangedWritten given.now name rows.old rows.new work.old work.new result }
+    ensures { ArrangedWritten given.now name.0 rows.old rows.new work.old work.new result }
 {
-    put_cell(work, given.layout, name, name, OPEN);
+    put_cell(work, given.layout, name.0, name.0, OPEN);
     let written = close(given, work, rows, numbers, notes, name);
-    let Some(row) = cell(work, given.layout, name, name).checked_sub(ROW) else {
+    let Some(row) = cell(work, given.layout, name.0, name.0).checked_sub(ROW) else {
         return written;
     };
     // the last row is the one that shows the name
     if row + 1 == written {
         return written;
     }
-    put_row(rows, written, 2, row, row);
+    put_row(rows, written, Form::Conjunction(row, row));
     written + 1
 }
 
@@ -56,11 +57,11 @@ pub fn write_right(
     rows: &mut [u32],
     numbers: &mut [u32],
     notes: &mut [u32],
-    name: usize,
+    name: ConceptName,
 ) -> usize
-    requires to_write { ToWriteRight given.now name rows.old numbers.old work.old }
+    requires to_write { ToWriteRight given.now name.0 rows.old numbers.old work.old }
     requires noting { NotesRoom notes.old }
-    ensures { RightWritten given.now name rows.old rows.new work.old work.new result }
+    ensures { RightWritten given.now name.0 rows.old rows.new work.old work.new result }
 {
     let span = arrange(work, given.layout.names);
     let mut arranged = *given;

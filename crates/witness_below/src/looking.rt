@@ -1,15 +1,17 @@
 // A look at one pair x, y: a row is kept for it, another pair is asked for, or nothing is done.
-ghost use Rattle.std.specs.Prelude.{◌≡◌, true, ◌*◌, ◌≤◌, ◌<◌, length, MatchOption};
-ghost use Rattle.release.specs.Files.{most_names};
+ghost use Rattle.std.specs.Prelude.{◌≡◌, true, ◌+◌, ◌*◌, ◌≤◌, ◌<◌, length, MatchOption};
 ghost use Rattle.release.specs.Tables.{count_at};
+ghost use Rattle.concept_rows.specs.Lent.{row_at};
+ghost use Rattle.row_evaluation.specs.RowForms.{Narrow, numbers_of};
 ghost use Rattle.witness_below.specs.Cells.{CellRoom};
 ghost use Rattle.witness_below.specs.Finding.{ToColumn, ToParts, ToFiller, RoomFor, AllMarked, RowThere};
 ghost use Rattle.witness_below.specs.Looking.{NodeRowed, NodeMarked, ColumnLooked, NoneAsked, PartAsked, NoneJoined, PartsJoined, PartsLooked, FillerLooked};
 
 use crate::cells::{OPEN, ROW, UNASKED, cell, put_cell};
-use crate::finding::{find_column_part, find_row_part, partner};
+use crate::finding::{find_column_part, find_partner, find_row_part};
 use layout::Given;
-use witness_above::rows::{narrow, put_row, wide};
+use release::ConceptName;
+use row_evaluation::rows::{Form, narrow, put_row, read_row, wide};
 
 // How many rows are written, and whether something changed.
 #[derive(Clone, Copy)]
@@ -48,61 +50,63 @@ pub struct Joined {
     pub rows: usize,
 }
 
-// A node whose row is made of no others, ⊤ or a name: its number, and the kind and the first number of the row.
+// A node whose row is made of no others, ⊤ or a name: its number, and the form of the row.
 #[derive(Clone, Copy)]
 pub struct Leaf {
     pub node: usize,
-    pub kind: usize,
-    pub one: usize,
+    pub form: Form,
 }
 
 impl Leaf {
     ghost use Rattle.std.specs.Prelude.{◌≡◌};
+    ghost use Rattle.row_evaluation.specs.declared.rows.Form.TheVariants.{Top, Name};
     ghost use Rattle.witness_below.specs.Looking.{leaf};
 
     pub fn top(names: usize) -> Leaf
-        ensures { result ≡ leaf names 0 0 }
+        ensures { result ≡ leaf names Top }
     {
         Leaf {
             node: names,
-            kind: 0,
-            one: 0,
+            form: Form::Top,
         }
     }
 
-    pub fn name(name: usize) -> Leaf
-        ensures { result ≡ leaf name 1 name }
+    pub fn name(name: ConceptName) -> Leaf
+        ensures { result ≡ leaf name.0 (Name name) }
     {
         Leaf {
-            node: name,
-            kind: 1,
-            one: name,
+            node: name.0,
+            form: Form::Name(name),
         }
     }
 }
 
-// Whether row i is there and is the row of ⊤ or of a name. A no may be wrong: then the row is written once more.
-fn is_row(rows: &[u32], i: usize, leaf: Leaf, count: usize) -> bool
-    requires { 3 * count ≤ length rows.now }
-    ensures { result ≡ true → RowThere leaf.kind leaf.one count i rows.now }
+// Whether row i is of the form, that of ⊤ or of a name. A no may be wrong: then the row is written once more.
+fn is_row(rows: &[u32], i: usize, form: Form) -> bool
+    requires { 3 * i + 3 ≤ length rows.now }
+    ensures { result ≡ true → row_at rows.now i ≡ numbers_of form }
 {
-    i < count
-        && wide(rows[3 * i]) == leaf.kind
-        && wide(rows[3 * i + 1]) == leaf.one
-        && rows[3 * i + 2] == 0
+    let Some(read) = read_row(rows, i) else {
+        return false;
+    };
+    match (read, form) {
+        (Form::Top, Form::Top) => true,
+        (Form::Name(own), Form::Name(name)) => own.0 == name.0,
+        _ => false,
+    }
 }
 
 // The row of ⊤ or of a name: the one that is noted for the node, or else a new one, which is noted.
 fn node_row(rows: &mut [u32], numbers: &mut [u32], leaf: Leaf, count: usize) -> usize
     requires room_for { RoomFor count 1 rows.old }
-    requires leaf_small { (leaf.kind ≤ most_names) × (leaf.one ≤ most_names) × (leaf.node < length numbers.old) }
-    ensures { NodeRowed leaf.kind leaf.one count rows.old rows.new result × (length numbers.new ≡ length numbers.old) }
+    requires leaf_small { Narrow leaf.form × (leaf.node < length numbers.old) }
+    ensures { NodeRowed leaf.form count rows.old rows.new result × (length numbers.new ≡ length numbers.old) }
 {
     let noted = wide(numbers[leaf.node]);
-    if is_row(rows, noted, leaf, count) {
+    if noted < count && is_row(rows, noted, leaf.form) {
         return noted;
     }
-    put_row(rows, count, leaf.kind, leaf.one, 0);
+    put_row(rows, count, leaf.form);
     numbers[leaf.node] = narrow(count);
     count
 }
@@ -119,8 +123,8 @@ pub fn mark_node(
     count: usize,
 ) -> Progress
     requires cell_room { CellRoom given.now.layout work.old × (x ≤ given.now.layout.names) × (y ≤ given.now.layout.names) }
-    requires room_for { RoomFor count 1 rows.old × (leaf.kind ≤ most_names) × (leaf.one ≤ most_names) × (leaf.node < length numbers.old) }
-    ensures { NodeMarked given.now.layout x y leaf.kind leaf.one count rows.old rows.new work.old work.new result
+    requires room_for { RoomFor count 1 rows.old × Narrow leaf.form × (leaf.node < length numbers.old) }
+    ensures { NodeMarked given.now.layout x y leaf.form count rows.old rows.new work.old work.new result
         × (length numbers.new ≡ length numbers.old) }
 {
     let row = node_row(rows, numbers, leaf, count);
@@ -181,7 +185,7 @@ fn join_parts(
     let mut written = count;
     for part in parts {
         let kept = cell(work, given.layout, part, y);
-        put_row(rows, written, 2, row, kept - ROW);
+        put_row(rows, written, Form::Conjunction(row, kept - ROW));
         row = written;
         written += 1;
     }
@@ -230,20 +234,19 @@ pub fn look_at_filler(
     requires { ToFiller given.now work.old x y × RoomFor count 1 rows.old }
     ensures { FillerLooked given.now x y count rows.old rows.new work.old work.new result }
 {
-    let role = given.first.role(x);
-    let filler = given.first.filler(x);
-    let Some(over) = partner(given, y, role) else {
+    let Some(partner) = find_partner(given, x, y) else {
         return Progress::idle(count);
     };
-    let kept = cell(work, given.layout, filler, over);
+    let filler = given.first.filler(x);
+    let kept = cell(work, given.layout, filler, partner.over);
     if kept == UNASKED {
-        put_cell(work, given.layout, filler, over, OPEN);
+        put_cell(work, given.layout, filler, partner.over, OPEN);
         return Progress::made(count);
     }
     if kept == OPEN {
         return Progress::idle(count);
     }
-    put_row(rows, count, 3, role, kept - ROW);
+    put_row(rows, count, Form::Restriction(partner.role, kept - ROW));
     put_cell(work, given.layout, x, y, count + ROW);
     Progress::made(count + 1)
 }

@@ -9,7 +9,7 @@ use crate::finding::{find_name, is_joined};
 use crate::looking::{Leaf, Progress, look_at_column, look_at_filler, look_at_parts, mark_node};
 use crate::tracing::{Walk, go_on};
 use layout::Given;
-use release::Kind;
+use release::{ConceptName, Kind};
 
 // Looks at the pair x, y, where x is a name that is not defined by a conjunction of the first release, and y by none of the second.
 fn look_at_name(
@@ -27,7 +27,7 @@ fn look_at_name(
     if let Some(name) = find_name(given, work, x, y) {
         return mark_node(given, work, rows, numbers, x, y, Leaf::name(name), count);
     }
-    if given.first.has_kind(x, Kind::DefinedRestriction) && given.edges[x] {
+    if given.first.has_kind(x, Kind::DefinedRestriction) {
         return look_at_filler(given, work, rows, x, y, count);
     }
     Progress::idle(count)
@@ -69,10 +69,10 @@ fn pass(
     work: &mut [u8],
     rows: &mut [u32],
     numbers: &mut [u32],
-    name: usize,
+    name: ConceptName,
     count: usize,
 ) -> Progress
-    requires { State given.now count rows.old numbers.old work.old × (name ≤ given.now.layout.names) }
+    requires { State given.now count rows.old numbers.old work.old × (name.0 ≤ given.now.layout.names) }
     ensures { Passed given.now (suc given.now.layout.names * suc given.now.layout.names) count rows.old rows.new numbers.old numbers.new work.old work.new result }
 {
     let columns = given.layout.names + 1;
@@ -86,7 +86,7 @@ fn pass(
         let step = look(given, work, rows, numbers, x, y, so_far.rows);
         so_far.rows = step.rows;
         so_far.changed |= step.changed;
-        if step.changed && OPEN < cell(work, given.layout, name, name) {
+        if step.changed && OPEN < cell(work, given.layout, name.0, name.0) {
             return so_far;
         }
     }
@@ -141,16 +141,16 @@ fn chase(
     rows: &mut [u32],
     numbers: &mut [u32],
     notes: &mut [u32],
-    name: usize,
+    name: ConceptName,
     count: usize,
 ) -> usize
-    requires { State given.now count rows.old numbers.old work.old × (name < given.now.layout.names) × NotesRoom notes.old }
+    requires { State given.now count rows.old numbers.old work.old × (name.0 < given.now.layout.names) × NotesRoom notes.old }
     ensures { Chased given.now count rows.old rows.new numbers.old numbers.new work.old work.new result × (length notes.new ≡ length notes.old) }
 {
     let columns = given.layout.names + 1;
     let end = columns * columns;
     let mut walk = Walk {
-        at: name * columns + name,
+        at: name.0 * columns + name.0,
         depth: 0,
         low: 0,
     };
@@ -177,15 +177,15 @@ pub fn close(
     rows: &mut [u32],
     numbers: &mut [u32],
     notes: &mut [u32],
-    name: usize,
+    name: ConceptName,
 ) -> usize
-    requires { State given.now 0 rows.old numbers.old work.old × (name < given.now.layout.names) × NotesRoom notes.old }
-    ensures { Done given.now name 0 rows.old rows.new numbers.old numbers.new work.old work.new result × (length notes.new ≡ length notes.old) }
+    requires { State given.now 0 rows.old numbers.old work.old × (name.0 < given.now.layout.names) × NotesRoom notes.old }
+    ensures { Done given.now name.0 0 rows.old rows.new numbers.old numbers.new work.old work.new result × (length notes.new ≡ length notes.old) }
 {
     let mut written = 0;
     loop {
         written = chase(given, work, rows, numbers, notes, name, written);
-        if OPEN < cell(work, given.layout, name, name) {
+        if OPEN < cell(work, given.layout, name.0, name.0) {
             return written;
         }
         let step = pass(given, work, rows, numbers, name, written);

@@ -1,13 +1,13 @@
 // Which pair a pair waits for, and the pairs that wait. Only hints: whatever they answer, the passes find what is left.
 ghost use Rattle.std.specs.Prelude.{◌≡◌, suc, ◌*◌, ◌-◌, ◌/◌, ◌≤◌, ◌<◌, length, max, IfSome, ◌+◌};
-ghost use Rattle.witness_above.specs.Joining.{most};
+ghost use Rattle.row_evaluation.specs.RowForms.{most};
 ghost use Rattle.witness_below.specs.Finding.{block, Traced, ToFollow, NotesRoom};
 
 use crate::cells::pair;
-use crate::finding::{asked_column_part, find_row_part, is_joined, partner};
+use crate::finding::{asked_column_part, find_partner, find_row_part, is_joined};
 use layout::Given;
 use release::Kind;
-use witness_above::rows::{narrow, wide};
+use row_evaluation::rows::{narrow, wide};
 
 // A pair that the pair x, y may wait for, if there is one.
 fn follow(given: &Given, work: &[u8], x: usize, y: usize) -> Option<usize>
@@ -29,8 +29,8 @@ fn follow(given: &Given, work: &[u8], x: usize, y: usize) -> Option<usize>
     if !given.first.has_kind(x, Kind::DefinedRestriction) {
         return None;
     }
-    let over = partner(given, y, given.first.role(x))?;
-    Some(pair(layout, given.first.filler(x), over))
+    let partner = find_partner(given, x, y)?;
+    Some(pair(layout, given.first.filler(x), partner.over))
 }
 
 // Pairs that wait are noted in blocks of so many: those of the last two blocks one by one, and behind them the first pair of each block.

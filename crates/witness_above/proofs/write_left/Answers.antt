@@ -4,7 +4,7 @@ use Rattle.witness_above.proofs.Whole.{started, go_start, start_room, name_whole
 use Rattle.witness_above.proofs.write_left.Goals as goal
 
 pub put_row-requires : goal.put_row-requires
-put_row-requires c = (start_room c.requires.write.start, omega arith, omega (arith, c.in-Some.ensures.is_name, c.args.given.now.layout.few), omega arith)
+put_row-requires c = record { inside = start_room c.requires.write.start; narrow = omega (arith, c.in-Some.ensures.is_name, c.args.given.now.layout.few) }
 
 pub returns-in-Some : goal.returns-in-Some
 returns-in-Some c = name_whole c.requires.write c.in-Some.ensures c.put_row.ensures

@@ -15,7 +15,10 @@ returns-then-row-written c =
 
 pub put_row-requires : goal.put_row-requires
 put_row-requires c =
-    (last_room c.requires.to_write c.put_cell.ensures c.close-written.ensures.0, omega arith, omega (arith, c.cell.ensures.small), omega (arith, c.cell.ensures.small))
+    record {
+      inside = last_room c.requires.to_write c.put_cell.ensures c.close-written.ensures.0;
+      narrow = (omega (arith, c.in-Some.ensures.1, c.cell.ensures.small), omega (arith, c.in-Some.ensures.1, c.cell.ensures.small));
+    }
 
 pub returns : goal.returns
 returns c = whole_again c.requires.to_write c.put_cell.ensures c.close-written.ensures.0 c.cell.ensures c.in-Some.row (omega (arith, c.in-Some.ensures.0, c.in-Some.ensures.1)) c.put_row.ensures

@@ -6,7 +6,7 @@ use Rattle.witness_above.specs.Passes.{Went}
 use Rattle.witness_above.proofs.passes.chase.Given as goal
 
 abbrev pub invariant-loop-written : goal.invariant-loop-written
-invariant-loop-written l = Went l.given l.asked l.count l.initial.rows l.rows l.initial.numbers l.numbers l.initial.work l.work l.written × (length l.seen ≡ length l.initial.seen)
+invariant-loop-written l = Went l.given l.asked.0 l.count l.initial.rows l.rows l.initial.numbers l.numbers l.initial.work l.work l.written × (length l.seen ≡ length l.initial.seen)
 
 abbrev pub decreases-loop-written : goal.decreases-loop-written
 decreases-loop-written l = held l.work l.given.layout.marks l.given.layout.names

@@ -1,6 +1,5 @@
 -- `looking::look_at_parts` meets its contract: one law for each answer.
 use mathlib.Core.Path.{refl}
-use native.Mathlib.Omega.{arith}
 use Rattle.witness_below.specs.Looking.{parts_asked, parts_none, parts_joined}
 use Rattle.witness_below.proofs.looking.look_at_parts.Goals as goal
 
@@ -15,7 +14,7 @@ join_parts-requires-clause-all_marked c = rw c.in_default.ensures.same c.in_defa
 
 pub mark_node-requires-clause-room_for : goal.mark_node-requires-clause-room_for
 mark_node-requires-clause-room_for c =
-    rw (c.top-top.ensures, c.in_default-join_parts.ensures.same) (c.requires.room_for.1, omega arith, omega arith, c.requires.numbers)
+    rw (c.top-top.ensures, c.in_default-join_parts.ensures.same) (c.requires.room_for.1, tt, c.requires.numbers)
 
 pub returns-in_default-join_parts : goal.returns-in_default-join_parts
 returns-in_default-join_parts c =

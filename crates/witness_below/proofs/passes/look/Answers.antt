@@ -13,7 +13,7 @@ pub returns-then-is_joined : goal.returns-then-is_joined
 returns-then-is_joined c = column_looks c.requires (c.is_joined.ensures.sound c.if-is_joined.true) c.look_at_column-changed.ensures
 
 pub mark_node-requires-clause-room_for : goal.mark_node-requires-clause-room_for
-mark_node-requires-clause-room_for c = let given = c.requires in rw c.top-top.ensures (room_one given, omega arith, omega arith, omega (arith, given.row, given.state.numbers))
+mark_node-requires-clause-room_for c = let given = c.requires in rw c.top-top.ensures (room_one given, tt, omega (arith, given.row, given.state.numbers))
 
 pub returns-then-given-x : goal.returns-then-given-x
 returns-then-given-x c = everything_looks c.requires (refuted c.is_joined.ensures c.if-is_joined.false) c.if-given-x.true (rw c.top-top.ensures at c.mark_node.ensures)

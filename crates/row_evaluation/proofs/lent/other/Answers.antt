@@ -1,7 +1,0 @@
--- `lent::other` meets its contract: the third number of the row is in the numbers lent.
-use Rattle.concept_rows.specs.Lent.{row_at}
-use Rattle.row_evaluation.proofs.lent.other.Goals as goal
-
-pub returns : goal.returns
-unfolding row_at
-returns c = c.wide_32.ensures
