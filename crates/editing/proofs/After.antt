@@ -12,6 +12,7 @@ use lib.ListN.{take}
 use Rattle.el.specs.Lists.{pick}
 use Rattle.el.specs.Axioms.{Axiom}
 use Rattle.el.specs.Comparison.{AreBytes}
+use Rattle.el.specs.NoPairs.{without}
 use Rattle.release.specs.Files.{names_of, roles_of, axioms_of, conjunct_defined}
 use Rattle.signature.specs.Bytes.{signature_fault, signature_of}
 use Rattle.rewriting.specs.Bytes.{release_bytes}
@@ -90,7 +91,7 @@ module _ (s : Session) (whole : Whole s) (al : List Axiom) (filed : Filed (names
 
 -- the bytes b start with those of comparing the axioms x with y, for n names, m roles and the signature g
 abbrev pub Start : ℕ → ℕ → List ℕ → List Axiom → List Axiom → List ℕ → Type 0
-Start n m g x y b = AreBytes n (signature_of n m g) x y (take n b)
+Start n m g x y b = AreBytes n (signature_of n m g) (without x) (without y) (take n b)
 
 pub start_as : {n m i j : ℕ} {g h : List ℕ} {x y z w : List Axiom} (b : List ℕ) → n ≡ i → m ≡ j → g ≡ h → x ≡ z → y ≡ w → Start n m g x y b → Start i j h z w b
 start_as {n} {m} {i} {j} {g} {h} {x} {y} {z} {w} b e f k p q are =

@@ -1,22 +1,25 @@
 -- A session's start: the version, the refusals in their order, and the comparison of the files given.
 --   Begins s t c      the files s and t have version 1 and the counts c
 use mathlib.Core.Path.{◌≡◌, refl, sym, ap, ap₂, subst, ◌∙◌}
-use mathlib.Core.Bool.{Bool, true, false, ◌&&◌, not}
+use mathlib.Core.Bool.{Bool, true, false, ◌&&◌, not, true≢false, false≢true}
 use mathlib.Core.List.{List, ◌++◌}
 use Prim.Native.Nat.{ℕ, zero, suc, ◌+◌, ◌≤◌, ◌<◌}
 use native.Mathlib.Omega.{arith}
+use native.Mathlib.Decide.{ℕ_discrete}
 use borrow.Author.Tests.{le-leb, lt-leb, eq-eqb, ne_eqb, eqb-true, not-false}
 use lib.Dec.{eqb, ltb}
 use lib.ListN.{length, take, drop, replicate, length-replicate}
 use lib.Seq.{take_at}
 use Rattle.std.specs.Prelude.{Result, Ok, Err, IfOk}
 use Rattle.el.specs.Lists.{pick, all}
-use Rattle.release.specs.Files.{mark, starts_with, version_of, most_names, most_roles, names_of, roles_of, axioms_of, fault}
+use Rattle.release.specs.Files.{mark, starts_with, is_version, version_of, most_names, most_roles, names_of, roles_of, axioms_of, fault}
 use Rattle.release.specs.Readings.{checked, counts_in}
 use Rattle.release.specs.Refusals.{Numbers, file_refusal, told, answer}
 use Rattle.release.specs.declared.Counts.{Counts}
 use Rattle.release.specs.declared.refusals.FileRefusal.{FileRefusal}
 use Rattle.release.proofs.Numbers.{is_width}
+use Rattle.release.specs.Versions.{said_version}
+use Rattle.release.proofs.Headers.{says_it}
 use Rattle.release.proofs.Checks.{header_sound}
 use Rattle.release.proofs.Limits.{few_counts}
 use Rattle.release.proofs.Linked.{no_header_fault}
@@ -33,7 +36,7 @@ use Rattle.meanings.specs.declared.refusals.CompareRefusal.TheVariants.{Signatur
 use Rattle.meanings.proofs.Judging.{same_counts_lem}
 use Rattle.splicing.specs.Places.{most_bytes, IsFile}
 use Rattle.splicing.proofs.Splices.{file_short}
-use Rattle.splicing.proofs.Filed.{few_names, few_roles_of}
+use Rattle.splicing.proofs.Filed.{pairs_1, few_names, few_roles_of}
 use Rattle.editing.specs.declared.held.HeldFile.{HeldFile}
 use Rattle.editing.specs.declared.Session.{Session}
 use Rattle.editing.specs.declared.refusals.EditRefusal.{EditRefusal}
@@ -44,22 +47,18 @@ use Rattle.editing.specs.Steps.{first_named}
 use Rattle.editing.specs.Starting.{other_version, start_fault, checked_as1, start_refusals, started, counts_of}
 use Rattle.editing.specs.Judging.{Comparable, Compares, Opens}
 use Rattle.editing.proofs.Sessions.{Whole, is_session_lem}
-use Rattle.editing.proofs.Finishing.{answer_first, holding_text}
+use Rattle.editing.proofs.Finishing.{squares_fit, answer_first, holding_text}
 use Rattle.editing.proofs.After.{Start, start_as}
 
 -- the version
 module _ (s : List ℕ) where
-  pub version_short : length s < 8 → false ≡ other_version s
+  pub says_other : {v : ℕ} → v ≡ said_version s → (v ≡ 0 → ⊥) → not (eqb v 1) ≡ other_version s
   unfolding other_version
-  version_short h = sym (simp (lt-leb 8 (length s) h))
+  says_other {v} e n = rw (← e, ne_eqb v 0 n) refl
 
-  pub version_unmarked : 8 ≤ length s → starts_with mark s ≡ false → false ≡ other_version s
+  pub says_no_other : {v : ℕ} → v ≡ said_version s → v ≡ 0 → not (eqb v 0) ≡ other_version s
   unfolding other_version
-  version_unmarked long h = sym (simp (le-leb 8 (length s) long, h))
-
-  pub version_told : 8 ≤ length s → starts_with mark s ≡ true → {v : ℕ} → v ≡ version_of s → not (eqb v 1) ≡ other_version s
-  unfolding other_version
-  version_told long h i = rw i (sym (simp (le-leb 8 (length s) long, h)))
+  says_no_other e z = rw (← e, z) refl
 
   pub as_3 : {b : Bool} → b ≡ other_version s → b ≡ true → Err (record { number = 3; side = 1 }) ≡ checked_as1 s
   unfolding checked_as1 start_fault
@@ -74,13 +73,22 @@ module _ (s : List ℕ) where
   unfolding start_fault other_version
   none_file h = by_other (other_version s) refl h
     where
+      by_value : (v : ℕ) → not (eqb v 0) && not (eqb v 1) ≡ false → is_version v ≡ true → v ≡ 1
+      by_value v a b = elim (ℕ_discrete v 1) [
+        | yes e ↦ e
+        | no n ↦ elim (ℕ_discrete v 0) [
+          | yes z ↦ absurd (false≢true (rw z at b))
+          | no k ↦ absurd (true≢false (rw (ne_eqb v 0 k, ne_eqb v 1 n) at a))
+        ]
+      ]
+
       by_other : (b : Bool) → other_version s ≡ b → ◌≡◌ {A = ℕ} (pick b 3 (fault s)) 0 → IsFile s
       by_other true e z = absurd (omega arith)
       by_other false e z =
           let head = header_sound s (no_header_fault s z) in
           let long : 8 ≤ length s = omega (arith, head.long, (is_width s).some) in
-          let one : not (eqb (version_of s) 1) ≡ false = rw (le-leb 8 (length s) long, head.marked) at e in
-          record { accepted = z; version = eqb-true (version_of s) 1 (not-false (eqb (version_of s) 1) one) }
+          let said : said_version s ≡ version_of s = sym (says_it s long head.marked refl) in
+          record { accepted = z; version = by_value (version_of s) (rw said at e) head.version }
 
   pub limited : (r : Result Counts FileRefusal) → told file_refusal r ≡ checked_as1 s → IfOk r (λ c. (c.names ≤ most_names) × (c.roles ≤ most_roles))
   unfolding checked_as1
@@ -226,10 +234,10 @@ module _ (s t g : List ℕ) {c : Compared} (agree : Ok c ≡ agreed (checked_as1
           abbrev comparing : Compares (started s t g) q w v r
           comparing = subst (λ (x : Session). Compares x q w v r) is compares
 
-          says : Says s t g (replicate result_room 0) q.result w v r
+          says : Says s t g (replicate result_room 0) q.result comparing.roles_lent comparing.role_result w v r
           unfolding started
           says =
-              let on : List ℕ → List ℕ → List ℕ → Type 0 = λ x y z. Says x y z (replicate result_room 0) q.result w v r in
+              let on : List ℕ → List ℕ → List ℕ → Type 0 = λ x y z. Says x y z (replicate result_room 0) q.result comparing.roles_lent comparing.role_result w v r in
               let one = subst (λ (x : List ℕ). on x (text_of (holding t blank)) (take (names_of x + roles_of x) longer)) (holding_text s blank) comparing.says in
               let two = subst (λ (y : List ℕ). on s y (take (names_of s + roles_of s) longer)) (holding_text t blank) one in
               subst (on s t) (take_at g (drop (length g) (replicate signature_room 0)) (names_of s + roles_of s) sized) two
@@ -238,7 +246,8 @@ module _ (s t g : List ℕ) {c : Compared} (agree : Ok c ≡ agreed (checked_as1
           told_is =
               let z : eqb (signature_fault (names_of s) (roles_of s) g) 0 ≡ true = eq-eqb (signature_fault (names_of s) (roles_of s) g) 0 signed in
               let room : names_of s ≤ length {A = ℕ} (replicate result_room 0) = omega (arith, few.0, length-replicate {A = ℕ} result_room 0) in
-              let answer = answer_first (names_of s) (roles_of s) g (length {A = ℕ} (replicate result_room 0)) (length w) signed room s t refl both.same_names refl both.same_roles false
+              let answer = answer_first (names_of s) (roles_of s) g (length {A = ℕ} (replicate result_room 0)) (length comparing.roles_lent) (length w) signed room
+              (squares_fit few.1 comparing.enough) s t refl both.same_names refl both.same_roles false
               both.first.accepted both.second.accepted in
               says.answer ∙ answer ∙ sym (follows (length w) (rw z refl))
 
@@ -260,7 +269,7 @@ module _ (s t g : List ℕ) {c : Compared} (agree : Ok c ≡ agreed (checked_as1
                   session = comparing.kept;
                   past = res.past;
                   valid = ap is_session comparing.kept ∙ is_session_lem (with_result q.result (started s t g)) (started_whole q.result);
-                  current = subst Current (sym comparing.kept) (started_current q.result res.bytes);
+                  current = subst Current (sym comparing.kept) (started_current q.result (rw (pairs_1 s both.first.version, pairs_1 t both.second.version) at res.bytes));
                 };
             cleared = λ _. (says.accepted i).work;
           }

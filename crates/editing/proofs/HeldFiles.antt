@@ -1,10 +1,11 @@
 -- A held file: its text, its copy, what checking it answers, and the file that it holds after an edit.
 use mathlib.Core.Path.{◌≡◌, refl, sym, ap, ap₂, ◌∙◌}
-use mathlib.Core.Bool.{Bool, true, false, ◌||◌}
+use mathlib.Core.Bool.{Bool, true, false, ◌||◌, false≢true}
 use mathlib.Core.Logic.{◌⊎◌, inl, inr, ⊎_elim}
 use mathlib.Core.List.{List}
 use Prim.Native.Nat.{ℕ, ◌+◌, ◌≤◌, ◌<◌, min}
 use native.Mathlib.Omega.{arith}
+use native.Mathlib.Decide.{ℕ_discrete}
 use borrow.Author.Tests.{le-leb, lt-leb, eq-eqb, ne_eqb, eqb-true}
 use lib.Dec.{eqb}
 use lib.ListN.{length, take, drop, replicate, take-append-drop, length-replicate}
@@ -15,7 +16,11 @@ use Rattle.release.specs.Files.{version_of, width_of, fault}
 use Rattle.release.specs.Readings.{checked, counts_in}
 use Rattle.release.specs.Refusals.{Numbers}
 use Rattle.release.specs.declared.Counts.{Counts}
-use Rattle.release.proofs.Numbers.{version_1_width, version_2_width}
+use Rattle.release.specs.Versions.{version_number, width}
+use Rattle.release.specs.declared.number.Version.{Version}
+use Rattle.release.specs.declared.number.Version.TheVariants.{Two, Three}
+use Rattle.release.proofs.Numbers.{version_1_width}
+use Rattle.release.proofs.Versions.{version_width}
 use Rattle.release.proofs.Checks.{header_sound}
 use Rattle.release.proofs.Linked.{no_header_fault}
 use Rattle.release.proofs.Refusing.{is_refused, is_accepted}
@@ -70,19 +75,18 @@ module _ (f : HeldFile) (long : length f.bytes ≡ most_bytes) where
 
 -- an accepted file has version 1 exactly where its names take one byte
 module _ (s : List ℕ) (ok : fault s ≡ 0) where
-  either_version : (a b : Bool) → a || b ≡ true → (a ≡ true) ⊎ (b ≡ true)
-  either_version true b h = inl refl
-  either_version false b h = inr h
-
   version_by : (w : ℕ) → w ≡ width_of s → eqb (version_of s) 1 ≡ eqb w 1
-  version_by w e = by_version (either_version (eqb (version_of s) 1) (eqb (version_of s) 2) (header_sound s (no_header_fault s ok)).version)
+  version_by w e = by_version (ℕ_discrete (version_of s) 1) (ℕ_discrete (version_of s) 2) (ℕ_discrete (version_of s) 3)
     where
-      by_version : (eqb (version_of s) 1 ≡ true) ⊎ (eqb (version_of s) 2 ≡ true) → eqb (version_of s) 1 ≡ eqb w 1
-      by_version (inl h) = h ∙ sym (eq-eqb w 1 (e ∙ version_1_width s (eqb-true _ 1 h)))
-      by_version (inr h) =
-          let v : version_of s ≡ 2 = eqb-true (version_of s) 2 h in
-          let x : w ≡ 2 = e ∙ version_2_width s v in
-          ne_eqb (version_of s) 1 (λ z. omega arith) ∙ sym (ne_eqb w 1 (λ z. omega arith))
+      other : (v : Version) → version_number v ≡ version_of s → (version_of s ≡ 1 → ⊥) → width v ≡ 2 → eqb (version_of s) 1 ≡ eqb w 1
+      other v is n wide = let x : w ≡ 2 = e ∙ (version_width s v is ∙ wide) in ne_eqb (version_of s) 1 n ∙ sym (ne_eqb w 1 (λ z. omega arith))
+
+      by_version : Dec (version_of s ≡ 1) → Dec (version_of s ≡ 2) → Dec (version_of s ≡ 3) → eqb (version_of s) 1 ≡ eqb w 1
+      by_version (yes h) d f = eq-eqb (version_of s) 1 h ∙ sym (eq-eqb w 1 (e ∙ version_1_width s h))
+      by_version (no n) (yes h) f = other Two (sym h) n refl
+      by_version (no n) (no m) (yes h) = other Three (sym h) n refl
+      by_version (no n) (no m) (no k) = absurd
+          (false≢true (rw (ne_eqb (version_of s) 1 n, ne_eqb (version_of s) 2 m, ne_eqb (version_of s) 3 k) at (header_sound s (no_header_fault s ok)).version))
 
 -- what checking answers
 module _ (f : HeldFile) where
@@ -109,8 +113,8 @@ module _ (f : HeldFile) where
       unfolding is_held
       held_by w e = simp (le-leb f.length most_bytes fits, eq-eqb (fault (text_of f)) 0 ok.0, version_by (text_of f) ok.0 w (rw text at e))
 
-      pub held_other : 2 ≡ width_of s → is_held f ≡ false
-      held_other e = held_by 2 e
+      pub held_other : {w : ℕ} → w ≡ width_of s → (w ≡ 1 → ⊥) → is_held f ≡ false
+      held_other {w} e n = held_by w e ∙ ne_eqb w 1 n
 
       pub held_counts : 1 ≡ width_of s → (is_held f ≡ true) × (c ≡ counts_in (text_of f))
       held_counts e = (held_by 1 e, ok.1)

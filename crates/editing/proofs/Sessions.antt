@@ -4,14 +4,14 @@ use mathlib.Core.Path.{◌≡◌, refl, sym, ap, ap₂, ◌∙◌}
 use mathlib.Core.Bool.{Bool, true, false, ◌&&◌}
 use mathlib.Core.Logic.{◌⊎◌, inl, inr}
 use mathlib.Core.List.{List}
-use Prim.Native.Nat.{ℕ, ◌+◌, ◌≤◌}
+use Prim.Native.Nat.{ℕ, ◌+◌, ◌*◌, ◌≤◌}
 use native.Mathlib.Omega.{arith}
 use borrow.Author.Tests.{leb-true, le-leb, eqb-true, eq-eqb, ne_eqb}
 use lib.Dec.{eqb, leb}
-use lib.ListN.{take}
+use lib.ListN.{length, take}
 use Rattle.std.specs.Prelude.{Result, Ok, Err}
 use Rattle.el.proofs.Tests.{and_left, and_right}
-use Rattle.release.specs.Files.{version_of, names_of, roles_of, accepted, fault}
+use Rattle.release.specs.Files.{most_roles, version_of, names_of, roles_of, accepted, fault}
 use Rattle.release.specs.Readings.{counts_in}
 use Rattle.release.specs.Refusals.{Numbers, answer}
 use Rattle.release.specs.declared.Counts.{Counts}
@@ -153,9 +153,9 @@ module _ (s : Session) where
             (simp (first.0, second.0, n, m, z), ap₂ (λ (i j : ℕ). record { names = i; roles = j }) x_names x_roles)
 
   -- its comparison
-  pub compared : {c : Compared} {x y g bytes w v : List ℕ} {r : Result Compared CompareRefusal} {k : ℕ} → Comparable s c → x ≡ text_of s.first → y ≡ text_of s.second → k ≡ c.names + c.roles
-      → g ≡ take k s.signature → Says x y g s.result bytes w v r → Compares s (with_result bytes s) w v r
+  pub compared : {c : Compared} {x y g bytes p q w v : List ℕ} {r : Result Compared CompareRefusal} {k : ℕ} → Comparable s c → x ≡ text_of s.first → y ≡ text_of s.second → k ≡ c.names + c.roles
+      → g ≡ take k s.signature → most_roles * most_roles ≤ length p → Says x y g s.result bytes p q w v r → Compares s (with_result bytes s) w v r
   unfolding with_result
-  compared {c} {x} {y} {g} {bytes} {w} {v} {r} h e f i j says =
+  compared {c} {x} {y} {g} {bytes} {p} {q} {w} {v} {r} h e f i j enough says =
       let chosen : g ≡ signature_in s = j ∙ ap (λ (l : ℕ). take l s.signature) (i ∙ ap₂ (λ (n m : ℕ). n + m) h.names h.roles) in
-      record { says = rw (e, f, chosen) at says; kept = refl }
+      record { roles_lent = p; role_result = q; enough = enough; says = rw (e, f, chosen) at says; kept = refl }

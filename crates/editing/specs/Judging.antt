@@ -8,9 +8,9 @@
 --   Tries refusals side al s t w v r   a step in place, from s to t: where it is refused, nothing is said of t
 --   Opens s t g q w v r      a start in place, which leaves q
 --   HandsBack s t a r        r is the step from s that answered a and made t
-use Rattle.std.specs.Prelude.{◌≡◌, true, false, ◌&&◌, List, ◌++◌, ℕ, ◌+◌, ◌≤◌, length, drop, replicate, Option, MatchOption, Result, MatchResult, Ok, Err}
+use Rattle.std.specs.Prelude.{◌≡◌, true, false, ◌&&◌, List, ◌++◌, ℕ, ◌+◌, ◌*◌, ◌≤◌, length, drop, replicate, Option, MatchOption, Result, MatchResult, Ok, Err}
 use Rattle.el.specs.Axioms.{Axiom}
-use Rattle.release.specs.Files.{names_of, roles_of, axioms_of}
+use Rattle.release.specs.Files.{most_roles, names_of, roles_of, axioms_of}
 use Rattle.release.specs.Readings.{counts_in}
 use Rattle.release.specs.Refusals.{told}
 use Rattle.release.specs.declared.Counts.{Counts}
@@ -63,7 +63,10 @@ pub record Comparable (s : Session) (c : Compared) : Type 0 where
   pub few : c.names + c.roles ≤ signature_room
 
 pub record Compares (s t : Session) (w v : List ℕ) (r : Result Compared CompareRefusal) : Type 0 where
-  pub says : Says (text_of s.first) (text_of s.second) (signature_in s) s.result t.result w v r
+  pub roles_lent : List ℕ
+  pub role_result : List ℕ
+  pub enough : most_roles * most_roles ≤ length roles_lent
+  pub says : Says (text_of s.first) (text_of s.second) (signature_in s) s.result t.result roles_lent role_result w v r
   pub kept : t ≡ with_result t.result s
 
 pub record Tries (refusals : Refusals) (side : ℕ) (al : List Axiom) (s t : Session) (w v : List ℕ) (r : Result Compared EditRefusal) : Type 0 where

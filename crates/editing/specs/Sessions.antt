@@ -12,6 +12,7 @@ use Rattle.std.specs.Prelude.{◌≡◌, Bool, ◌&&◌, ◌||◌, List, ◌++�
 use Rattle.el.specs.Lists.{pick}
 use Rattle.el.specs.Axioms.{Axiom}
 use Rattle.el.specs.Comparison.{AreBytes}
+use Rattle.el.specs.NoPairs.{without}
 use Rattle.release.specs.Files.{most_names_of, most_roles, version_of, names_of, roles_of, axioms_of, accepted}
 use Rattle.signature.specs.Bytes.{signature_fault, signature_of}
 use Rattle.rewriting.specs.Bytes.{Bytes}
@@ -79,8 +80,9 @@ is_session s =
     && (eqb (roles_in s) (roles_of (text_of s.second))
     && eqb (signature_fault (names_in s) (roles_in s) (signature_in s)) 0)))
 
+-- files of version 1 have no role pairs
 pub record Current (s : Session) : Type 0 where
-  pub bytes : AreBytes (names_in s) (signature_of (names_in s) (roles_in s) (signature_in s)) (axioms_on 1 s) (axioms_on 2 s) (result_in s)
+  pub bytes : AreBytes (names_in s) (signature_of (names_in s) (roles_in s) (signature_in s)) (without (axioms_on 1 s)) (without (axioms_on 2 s)) (result_in s)
 
 -- what every value of the type has
 pub record IsValue (s : Session) : Type 0 where

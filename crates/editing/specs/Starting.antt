@@ -5,11 +5,12 @@
 --   started s t g           the session of two files and a signature, all bytes past their ends 0, and no result yet
 --   empty_session            the session of two releases and a signature with n = m = 0, whose files are `empty_file`
 --   Starts s t g w v r      what starting promises of its answer, of the session and of the work memory
-use Rattle.std.specs.Prelude.{◌≡◌, Bool, true, ◌&&◌, not, List, [], ◌∷◌, ◌++◌, ℕ, eqb, ltb, leb, length, drop, replicate, Result, Ok, Err}
+use Rattle.std.specs.Prelude.{◌≡◌, Bool, true, ◌&&◌, not, List, [], ◌∷◌, ◌++◌, ℕ, eqb, ltb, length, drop, replicate, Result, Ok, Err}
 use Rattle.el.specs.Lists.{pick}
-use Rattle.release.specs.Files.{mark, starts_with, version_of, header_length, names_of, roles_of, fault}
+use Rattle.release.specs.Files.{mark, names_of, roles_of, fault}
 use Rattle.release.specs.Readings.{counts_in}
 use Rattle.release.specs.Refusals.{Numbers, told, answer}
+use Rattle.release.specs.Versions.{said_version}
 use Rattle.release.specs.declared.Counts.{Counts}
 use Rattle.signature.specs.Bytes.{signature_fault}
 use Rattle.meanings.specs.Comparing.{work_length}
@@ -23,7 +24,7 @@ use Rattle.editing.specs.Steps.{Refusals, refusal, first_named}
 
 -- past 1 and 2, and of another version: 3, before any later check
 unfoldable pub other_version : List ℕ → Bool
-other_version s = leb (header_length 1) (length s) && (starts_with mark s && not (eqb (version_of s) 1))
+other_version s = not (eqb (said_version s) 0) && not (eqb (said_version s) 1)
 
 unfoldable pub start_fault : List ℕ → ℕ
 start_fault s = pick (other_version s) 3 (fault s)

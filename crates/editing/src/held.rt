@@ -48,10 +48,10 @@ impl HeldFile {
         let Ok(counts) = check_release(file) else {
             return None;
         };
-        match Version::of(file) {
-            Version::One => Some(counts),
-            Version::Two => None,
+        if Version::of(file).width() == 1 {
+            return Some(counts);
         }
+        None
     }
 
     // Puts an axiom into the file.

@@ -45,11 +45,14 @@ impl Session {
         ensures { Compares self.old self.new work.old work.new result }
     {
         let chosen = usize::from(counts.names) + usize::from(counts.roles);
+        // Releases of version 1 have no role pairs, so nobody asks for this.
+        let mut role_result = [0u8; Compared::ROLE_RESULT];
         compare_releases(
             self.first.text(),
             self.second.text(),
             &self.signature[..chosen],
             &mut self.result,
+            &mut role_result,
             work,
         )
     }

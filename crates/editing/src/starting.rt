@@ -8,22 +8,17 @@ ghost use Rattle.editing.specs.Judging.{Opens};
 
 use crate::{EditRefusal, HeldFile, Session};
 use meanings::{Compared, agree};
-use release::number::Version;
+use release::header::said_version;
 use release::{Counts, FileRefusal, Release, check_release};
 use signature::signature_fault;
 use writing::put_text;
 
-// Whether a file has the mark and another version than 1.
+// Whether a file says another version than 1.
 fn has_other_version(file: &[u8]) -> bool
     ensures { result ≡ other_version file.now }
 {
-    if file.len() < Version::One.header_length() {
-        return false;
-    }
-    if !file.starts_with(&Release::MARK) {
-        return false;
-    }
-    Version::Two.number(file, 3) != Version::One.width()
+    let version = said_version(file);
+    version != 0 && version != 1
 }
 
 // Checks a release that is to have version 1.

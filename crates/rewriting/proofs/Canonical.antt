@@ -15,11 +15,14 @@ use lib.Seq.{drop-cons}
 use Rattle.release.specs.Files.{number, numbers, mark, starts_with, version_of, width_of, top_number, first_place, names_of, roles_of, count_of, joins, filler_node, right_at, axiom_at}
 use Rattle.release.specs.Files.{axiom_length, axioms_from, axioms_of, fault, kind_of}
 use Rattle.release.specs.Tables.{here, there}
+use Rattle.el.proofs.Tests.{not_both}
+use Rattle.release.specs.declared.number.Version.TheVariants.{Three}
 use Rattle.release.proofs.Numbers.{version_1_width, version_2_width}
+use Rattle.release.proofs.Versions.{version_listing, first_plain}
 use Rattle.release.proofs.Checks.{Header, header_sound}
 use Rattle.release.proofs.Linked.{no_header_fault}
 use Rattle.rewriting.specs.Bytes.{Bytes, number_bytes, names_bytes, filler_number, tail_bytes, axiom_bytes, axioms_bytes, release_bytes}
-use Rattle.rewriting.specs.Rewriting.{rewritten}
+use Rattle.rewriting.specs.Rewriting.{rewritten, Rewritable}
 use Rattle.rewriting.specs.Stands.{TailStands, AxiomStands}
 use Rattle.rewriting.proofs.Pieces.{number_length, numbers_length}
 use Rattle.rewriting.proofs.Lengths.{own_length, header_bytes, accepted_ends, count_length}
@@ -115,19 +118,23 @@ module _ (s : List ℕ) (bytes : Bytes s) where
       at_both (axiom_at_lem w p (h.each here)) (at_place (ap (λ (l : ℕ). p + l) (own_length w s p)) rest)
 
   -- the header
-  module _ (ok : fault s ≡ 0) where
+  module _ (ok : Rewritable s) where
     header : Header s
-    header = header_sound s (no_header_fault s ok)
+    header = header_sound s (no_header_fault s ok.accepted)
 
     abbrev w : ℕ
     w = width_of s
 
     pub version_width : version_of s ≡ w
-    version_width = by_version (or_either (eqb (version_of s) 1) (eqb (version_of s) 2) header.version)
+    version_width = by_version (or_either _ (eqb (version_of s) 3) header.version)
       where
-        by_version : (eqb (version_of s) 1 ≡ true) ⊎ (eqb (version_of s) 2 ≡ true) → version_of s ≡ width_of s
-        by_version (inl e) = let f : version_of s ≡ 1 = eqb-true (version_of s) 1 e in f ∙ sym (version_1_width s f)
-        by_version (inr e) = let f : version_of s ≡ 2 = eqb-true (version_of s) 2 e in f ∙ sym (version_2_width s f)
+        by_plain : (eqb (version_of s) 1 ≡ true) ⊎ (eqb (version_of s) 2 ≡ true) → version_of s ≡ width_of s
+        by_plain (inl e) = let f : version_of s ≡ 1 = eqb-true (version_of s) 1 e in f ∙ sym (version_1_width s f)
+        by_plain (inr e) = let f : version_of s ≡ 2 = eqb-true (version_of s) 2 e in f ∙ sym (version_2_width s f)
+
+        by_version : (eqb (version_of s) 1 || eqb (version_of s) 2 ≡ true) ⊎ (eqb (version_of s) 3 ≡ true) → version_of s ≡ width_of s
+        by_version (inl e) = by_plain (or_either (eqb (version_of s) 1) (eqb (version_of s) 2) e)
+        by_version (inr e) = absurd (not_both (version_listing s Three (sym (eqb-true (version_of s) 3 e))) ok.plain)
 
     version_at : At s 3 (number_bytes 2 w)
     version_at = subst (λ (x : ℕ). At s 3 (number_bytes 2 x)) version_width (number_at 2 3 (omega (arith, header.long)))
@@ -148,7 +155,7 @@ module _ (s : List ℕ) (bytes : Bytes s) where
     from_count = number_bytes w (length (axioms_of s)) ++ axioms_bytes w (axioms_of s)
 
     from_count_at : At s (6 + w) from_count
-    from_count_at = then_at w (length (axioms_of s)) (6 + w) count_of_at (at_place {q = 6 + w + w} (omega arith) (axioms_at (count_of s) (first_place s) (all_stand s ok)))
+    from_count_at = then_at w (length (axioms_of s)) (6 + w) count_of_at (at_place {q = 6 + w + w} (omega (arith, first_plain s ok.plain)) (axioms_at (count_of s) (first_place s) (all_stand s ok)))
 
     all_at : At s 0 (rewritten w s)
     unfolding rewritten release_bytes
@@ -159,7 +166,8 @@ module _ (s : List ℕ) (bytes : Bytes s) where
     pub canonical : s ≡ rewritten (width_of s) s
     unfolding rewritten
     canonical =
-        let l : length s ≡ length (rewritten w s) = accepted_ends s ok ∙ sym (header_bytes w (names_of s) (roles_of s) (axioms_of s)) in
+        let l : length s ≡ length (rewritten w s) = accepted_ends s ok ∙ ap (λ (k : ℕ). k + length (axioms_bytes w (axioms_of s))) (first_plain s ok.plain) ∙ sym
+        (header_bytes w (names_of s) (roles_of s) (axioms_of s)) in
         let long = ap length all_at.is ∙ length-append (rewritten w s) all_at.rest in
         all_at.is ∙ (ap (λ (x : List ℕ). rewritten w s ++ x) (empty all_at.rest (omega arith)) ∙ append-nil (rewritten w s))
       where

@@ -16,9 +16,10 @@ use Rattle.release.proofs.Numbers.{is_width}
 use Rattle.release.proofs.Sound.{axiom_sound, tail_within, passed}
 use Rattle.release.proofs.Decoding.{both_none}
 use Rattle.release.proofs.Checks.{header_sound}
-use Rattle.release.proofs.Linked.{no_header_fault, no_axiom_fault}
+use Rattle.release.proofs.Linked.{no_header_fault, no_axiom_fault, first_inside}
+use Rattle.release.proofs.Versions.{header_near, first_is, few_pairs, first_plain}
 use Rattle.rewriting.specs.Bytes.{number_bytes, names_bytes, filler_number, tail_bytes, axiom_bytes, axioms_bytes, release_bytes}
-use Rattle.rewriting.specs.Rewriting.{rewritten}
+use Rattle.rewriting.specs.Rewriting.{rewritten, Rewritable}
 use Rattle.rewriting.proofs.Pieces.{number_length, numbers_length}
 
 -- names on a right side, and in axioms
@@ -102,9 +103,16 @@ axioms_end n m (suc c) least s p h l =
       few = omega (arith, r.few, t.1 (is_width s).few, (is_width s).few);
     }
 
-module _ (s : List ℕ) (ok : fault s ≡ 0) where
+-- an accepted file of any version, with 255 pairs at most and 1,023 axioms of 36 bytes
+pub accepted_few : (s : List ℕ) → fault s ≡ 0 → get_or s 10 0 ≤ 255 → length s ≤ 37349
+accepted_few s ok byte =
+    let end = axioms_end (names_of s) (roles_of s) (count_of s) 0 s (first_place s) (no_axiom_fault s ok) (first_inside s ok) in
+    let header = header_sound s (no_header_fault s ok) in
+    omega (arith, end.few, first_is s, header_near s, few_pairs s byte, header.names, header.count)
+
+module _ (s : List ℕ) (ok : Rewritable s) where
   end : Ends (count_of s) s (first_place s)
-  end = axioms_end (names_of s) (roles_of s) (count_of s) 0 s (first_place s) (no_axiom_fault s ok) (header_sound s (no_header_fault s ok)).long
+  end = axioms_end (names_of s) (roles_of s) (count_of s) 0 s (first_place s) (no_axiom_fault s ok.accepted) (first_inside s ok.accepted)
 
   pub accepted_ends : length s ≡ first_place s + length (axioms_bytes (width_of s) (axioms_of s))
   accepted_ends = end.is
@@ -113,7 +121,7 @@ module _ (s : List ℕ) (ok : fault s ≡ 0) where
   all_numbers = 2 + numbers_in (axioms_of s)
 
   accepted_length : length s ≡ 6 + 2 * count_of s + width_of s * all_numbers
-  accepted_length = omega (arith, end.is, axioms_length (width_of s) (axioms_of s), count_length (count_of s) s (first_place s))
+  accepted_length = omega (arith, end.is, first_plain s ok.plain, axioms_length (width_of s) (axioms_of s), count_length (count_of s) s (first_place s))
 
   rewritten_length : (v : ℕ) → length (rewritten v s) ≡ 6 + 2 * count_of s + v * all_numbers
   unfolding rewritten
@@ -132,12 +140,19 @@ module _ (s : List ℕ) (ok : fault s ≡ 0) where
 
     pub length_few : (v : ℕ) → v ≤ 2 → v * ((length s - (6 + 2 * a)) / w) ≤ 2 * 36838
     length_few v h =
-        let few : length s ≤ 36838 = omega (arith, end.few, (is_width s).few, (header_sound s (no_header_fault s ok)).names, (header_sound s (no_header_fault s ok)).count) in
+        let few : length s ≤ 36838 = omega (
+          arith,
+          end.few,
+          first_plain s ok.plain,
+          (is_width s).few,
+          (header_sound s (no_header_fault s ok.accepted)).names,
+          (header_sound s (no_header_fault s ok.accepted)).count,
+        ) in
         let d : (length s - (6 + 2 * a)) / w ≤ 36838 = omega (arith, div-le_self (length s - (6 + 2 * a)) w) in
         mul-le-mul h d
 
   pub count_few : count_of s ≤ 1023
-  count_few = omega (arith, (header_sound s (no_header_fault s ok)).names, (header_sound s (no_header_fault s ok)).count)
+  count_few = omega (arith, (header_sound s (no_header_fault s ok.accepted)).names, (header_sound s (no_header_fault s ok.accepted)).count)
 
   pub singles_within : 6 + 2 * count_of s ≤ length s
   singles_within = omega (arith, accepted_length)

@@ -11,32 +11,33 @@ use borrow.Author.Tests.{le-ltb, ltb-false}
 use lib.Dec.{ltb}
 use lib.ListN.{length, take, drop}
 use lib.Seq.{take_at}
-use Rattle.release.specs.Files.{version_of, width_of, most_names_of, names_of, fault, IsWidth}
+use Rattle.release.specs.Files.{version_of, width_of, most_names_of, names_of, IsWidth}
 use Rattle.release.proofs.Checks.{header_sound}
 use Rattle.release.proofs.Linked.{no_header_fault}
 use Rattle.std.specs.Prelude.{Result, Ok}
 use Rattle.release.specs.Refusals.{Numbers}
 use Rattle.rewriting.specs.Bytes.{Bytes}
-use Rattle.rewriting.specs.Rewriting.{rewritten, refusal, fitted, answer_to, output_after, Rewrites, Same, Returned}
+use Rattle.rewriting.specs.Rewriting.{rewritten, refusal, fitted, source_fault, answer_to, output_after, Rewritable, Rewrites, Same, Returned}
 use Rattle.rewriting.proofs.Accepted.{read_back}
+use Rattle.rewriting.proofs.Answers.{source_none, source_rewritable}
 use Rattle.rewriting.proofs.Canonical.{canonical, version_width}
 
 -- not refused: the release is accepted, has names few enough, and its file fits the output
 pub record Wrote (w : ℕ) (s o : List ℕ) (k : ℕ) : Type 0 where
-  pub accepted : fault s ≡ 0
+  pub accepted : Rewritable s
   pub names : names_of s ≤ most_names_of w
   pub long : k ≡ length (rewritten w s)
   pub room : k ≤ length o
 
-pub not_refused : (w : ℕ) (s o : List ℕ) → fault s ≡ 0 → names_of s ≤ most_names_of w → length (rewritten w s) ≤ length o → answer_to w s o ≡ Ok (length (rewritten w s))
+pub not_refused : (w : ℕ) (s o : List ℕ) → Rewritable s → names_of s ≤ most_names_of w → length (rewritten w s) ≤ length o → answer_to w s o ≡ Ok (length (rewritten w s))
 unfolding answer_to fitted
 not_refused w s o ok names room =
     let few : ltb (most_names_of w) (names_of s) ≡ false = le-ltb _ _ names in
     let fits : ltb (length o) (length (rewritten w s)) ≡ false = le-ltb _ _ room in
-    simp (answer_to, ok, fitted, few, fits)
+    simp (answer_to, source_none s ok, fitted, few, fits)
 
 module _ (w : ℕ) (s o : List ℕ) (k : ℕ) where
-  fitted_wrote : fault s ≡ 0 → Ok k ≡ fitted w s o → Wrote w s o k
+  fitted_wrote : Rewritable s → Ok k ≡ fitted w s o → Wrote w s o k
   unfolding fitted
   fitted_wrote ok h = by_tests (ltb (most_names_of w) (names_of s)) (ltb (length o) (length (rewritten w s))) refl refl
     where
@@ -56,10 +57,10 @@ module _ (w : ℕ) (s o : List ℕ) (k : ℕ) where
 
   pub wrote : Ok k ≡ answer_to w s o → Wrote w s o k
   unfolding answer_to
-  wrote h = by_fault (fault s) refl
+  wrote h = by_fault (source_fault s) refl
     where
-      by_fault : (f : ℕ) → fault s ≡ f → Wrote w s o k
-      by_fault zero e = fitted_wrote e (h ∙ rw e)
+      by_fault : (f : ℕ) → source_fault s ≡ f → Wrote w s o k
+      by_fault zero e = fitted_wrote (source_rewritable s e) (h ∙ rw e)
       by_fault (suc f) e =
           let i : Ok k ≡ refusal (suc f) 1 = h ∙ rw e in
           let z : ◌≡◌ {A = ℕ} 0 1 = cc in
@@ -75,7 +76,7 @@ module _ {w : ℕ} {s o q : List ℕ} {k : ℕ} (call : Rewrites w s o q (Ok k))
       let given = wrote w s o k call.answers in
       subst (Same w s) (sym written_bytes) (read_back w s width given.accepted given.names)
 
-pub copied : (s : List ℕ) → Bytes s → fault s ≡ 0 → rewritten (version_of s) s ≡ s
+pub copied : (s : List ℕ) → Bytes s → Rewritable s → rewritten (version_of s) s ≡ s
 copied s bytes ok = rw (version_width s bytes ok) (sym (canonical s bytes ok))
 
 -- a release that says the same has the same file in each version
@@ -86,12 +87,12 @@ same_file v same = rw (same.names, same.roles, same.axioms)
 pub round_trip : (s : List ℕ) → Bytes s → {w : ℕ} → IsWidth w → {o q o' q' : List ℕ} {k : ℕ} {answer : Result ℕ Numbers} → Rewrites w s o q (Ok k)
     → Rewrites (version_of s) (take k q) o' q' answer → length s ≤ length o' → Returned s o' q' answer
 round_trip s bytes {w} width {o} {q} {o'} {q'} {k} {answer} forth back room =
-    let ok : fault s ≡ 0 = (wrote w s o k forth.answers).accepted in
+    let ok : Rewritable s = (wrote w s o k forth.answers).accepted in
     let t = take k q in
     let v = version_of s in
     let same : Same w s t = written_same forth width in
     let again : rewritten v t ≡ s = same_file v same ∙ copied s bytes ok in
-    let few : names_of s ≤ most_names_of (width_of s) = (header_sound s (no_header_fault s ok)).names_by_width in
+    let few : names_of s ≤ most_names_of (width_of s) = (header_sound s (no_header_fault s ok.accepted)).names_by_width in
     let names : names_of t ≤ most_names_of v = rw (same.names, version_width s bytes ok) few in
     let full : answer_to v t o' ≡ Ok (length (rewritten v t)) = not_refused v t o' same.accepted names (rw again room) in
     let answers : answer ≡ Ok (length s) = back.answers ∙ full ∙ ap (λ (x : List ℕ). Ok (length x)) again in

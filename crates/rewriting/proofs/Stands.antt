@@ -1,6 +1,6 @@
 -- What stands in an accepted file where the code reads.
 --   AllStand c s p     each of the c axioms from place p on stands in the file s
-use mathlib.Core.Path.{◌≡◌, ap}
+use mathlib.Core.Path.{refl, ◌≡◌, ap}
 use mathlib.Core.List.{List}
 use Prim.Native.Nat.{ℕ, suc, ◌+◌, ◌-◌, ◌*◌, ◌≤◌, ◌<◌}
 use native.Mathlib.Omega.{arith}
@@ -11,9 +11,10 @@ use Rattle.release.specs.Readings.{counts_in}
 use Rattle.release.specs.Tables.{Stands, here, there}
 use Rattle.release.proofs.Sound.{tail_within}
 use Rattle.release.proofs.Checks.{header_sound}
+use Rattle.rewriting.specs.Rewriting.{Rewritable}
 use Rattle.release.proofs.Linked.{sound_at, axiom_kind, no_header_fault}
 use Rattle.release.specs.declared.number.Version.{Version}
-use Rattle.release.specs.declared.number.Version.TheVariants.{One, Two}
+use Rattle.release.specs.declared.number.Version.TheVariants.{One, Two, Three}
 use Rattle.release.specs.Versions.{width}
 use Rattle.rewriting.specs.Stands.{TailStands, AxiomStands}
 
@@ -35,10 +36,10 @@ module _ (w : ℕ) (s : List ℕ) (p : ℕ) where
 pub record AllStand (c : ℕ) (s : List ℕ) (p : ℕ) : Type 0 where
   pub each : {q : ℕ} → Stands c s p q → AxiomStands (width_of s) s q
 
-pub all_stand : (s : List ℕ) → fault s ≡ 0 → AllStand (count_of s) s (first_place s)
+pub all_stand : (s : List ℕ) → Rewritable s → AllStand (count_of s) s (first_place s)
 all_stand s ok = record {
   each = λ {q} i.
-      let sound = sound_at s ok i in
+      let sound = sound_at s ok.accepted i in
       let t = tail_within _ _ _ _ s (q + width_of s + 1) sound.tail in
       record { kind = axiom_kind (width_of s) s q sound.tail; inside = omega (arith, t.0) };
 }
@@ -58,10 +59,17 @@ has_version s ok = omega (arith, (header_sound s (no_header_fault s ok)).long)
 pub width_few : (v : Version) → width v ≤ 2
 width_few One = omega arith
 width_few Two = omega arith
+width_few Three = omega arith
 
 pub width_some : (v : Version) → 1 ≤ width v
 width_some One = omega arith
 width_some Two = omega arith
+width_some Three = omega arith
+
+pub width_wide : (v : Version) → (width v ≡ 1 → ⊥) → width v ≡ 2
+width_wide One n = absurd (n refl)
+width_wide Two n = refl
+width_wide Three n = refl
 
 -- the number of axioms, as the header says it; where some are left, one more is
 pub axioms_counted : (s : List ℕ) {c : Counts} → c ≡ counts_in s → c.axioms ≡ count_of s

@@ -13,8 +13,8 @@ pub fn put_number(output: &mut [u8], at: usize, version: Version, number: usize)
 {
     let [low, high, ..] = number.to_le_bytes();
     let next = put_byte(output, at, low);
-    match version {
-        Version::One => next,
-        Version::Two => put_byte(output, next, high),
+    if version.width() == 1 {
+        return next;
     }
+    put_byte(output, next, high)
 }

@@ -5,10 +5,11 @@ ghost use Rattle.rewriting.specs.declared.refusals.RewriteRefusal.TheVariants.{F
 
 use release::{FileRefusal, Refusal};
 
-// The release is refused itself, it has more names than the wanted version can have, or the output is shorter than the
-// rewritten file.
+// Nothing is written in the wanted version, the release is refused itself, it has more names than the wanted version can have, or the output is
+// shorter than the rewritten file.
 #[derive(Clone, Copy, Debug, PartialEq, Eq)]
 pub enum RewriteRefusal {
+    NoVersion,
     File(FileRefusal),
     ManyNames,
     ShortOutput,
@@ -19,6 +20,7 @@ impl Refusal for RewriteRefusal {
 
     fn number(self) -> u8 {
         match self {
+            RewriteRefusal::NoVersion => 3,
             RewriteRefusal::File(refusal) => refusal.number(),
             RewriteRefusal::ManyNames => 40,
             RewriteRefusal::ShortOutput => 41,
@@ -29,7 +31,7 @@ impl Refusal for RewriteRefusal {
         match self {
             RewriteRefusal::File(refusal) => refusal.side(),
             RewriteRefusal::ManyNames => 1,
-            RewriteRefusal::ShortOutput => 0,
+            RewriteRefusal::NoVersion | RewriteRefusal::ShortOutput => 0,
         }
     }
 }

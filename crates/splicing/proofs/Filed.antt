@@ -12,19 +12,21 @@ use borrow.Author.Tests.{le-ltb}
 use lib.ListN.{length, length-append}
 use Rattle.el.specs.Lists.{In, pick}
 use Rattle.el.specs.Axioms.{Axiom}
-use Rattle.release.specs.Files.{IsWidth, number, version_of, width_of, names_of, roles_of, count_of, first_place, header_fault}
-use Rattle.release.specs.Files.{axiom_fault, axiom_length, axiom_at, axioms_fault, axioms_from, axioms_of, conjunct_defined, fault}
+use Rattle.release.specs.Files.{IsWidth, number, version_of, width_of, names_of, roles_of, count_of, lists_pairs, header_length, pair_count, pairs_place, first_place, least_pair}
+use Rattle.release.specs.Files.{header_fault, pairs_fault}
+use Rattle.release.specs.Files.{axiom_fault, axiom_length, axiom_at, axioms_fault, axioms_from, axioms_of, pairs_of, conjunct_defined, fault}
 use Rattle.release.proofs.Numbers.{version_1_width}
 use Rattle.release.proofs.Sound.{axiom_sound}
 use Rattle.release.proofs.Decoding.{both_none}
 use Rattle.release.proofs.NormalForm.{Listed, tells_listed}
 use Rattle.release.proofs.Checks.{header_sound}
+use Rattle.release.proofs.Versions.{no_count, no_pairs, first_plain, plain_version}
 use Rattle.release.proofs.Linked.{no_header_fault, no_axiom_fault}
 use Rattle.rewriting.specs.Bytes.{axiom_bytes, axioms_bytes, release_bytes}
 use Rattle.rewriting.proofs.Lengths.{own_length, header_bytes}
 use Rattle.rewriting.proofs.Parts.{At, at_first, at_later, at_place, at_as}
 use Rattle.rewriting.proofs.ReadBack.{axiom_back}
-use Rattle.rewriting.proofs.Accepted.{at_axioms, version_back, width_back, names_back, roles_back, count_back, header_back}
+use Rattle.rewriting.proofs.Accepted.{at_axioms, version_back, width_back, plain_back, names_back, roles_back, count_back, header_back}
 use Rattle.splicing.specs.Axioms.{withdrawn}
 use Rattle.splicing.proofs.Rising.{Sourced, Rising, nothing, more, other_least, source_left, few_axioms, few_bytes, withdrawn_in}
 
@@ -73,22 +75,29 @@ module _ (n m : ℕ) (al : List Axiom) (rising : Rising n m 0 al) (few : n ≤ 1
   is_1 : width_of t ≡ 1
   is_1 = width_back 1 n m al one_byte few few_roles few_al
 
+  plain : lists_pairs t ≡ false
+  plain = plain_back 1 n m al one_byte few few_roles few_al
+
+  first : first_place t ≡ 8
+  first = first_plain t plain ∙ ap (λ (w : ℕ). header_length w false) is_1
+
   back : Back n m t few few_roles is_1 0 al 8
   back = axioms_back n m t few few_roles is_1 rising 8 (at_axioms 1 n m al one_byte few few_roles few_al) (header_bytes 1 n m al)
 
   t_axioms : axioms_of t ≡ al
-  t_axioms = rw (count_back 1 n m al one_byte few few_roles few_al, is_1) back.same
+  t_axioms = rw (count_back 1 n m al one_byte few few_roles few_al, first) back.same
 
   pub filed : Filed n m al t
-  unfolding fault
+  unfolding fault pairs_fault
   filed =
       let names = names_back 1 n m al one_byte few few_roles few_al in
       let roles = roles_back 1 n m al one_byte few few_roles few_al in
       let count = count_back 1 n m al one_byte few few_roles few_al in
       let head : header_fault t ≡ 0 = header_back 1 n m al one_byte few few_roles few_al in
-      let read : axioms_fault (width_of t) (names_of t) (roles_of t) (count_of t) 0 t (first_place t) ≡ 0 = rw (is_1, names, roles, count) back.none in
+      let read : axioms_fault (width_of t) (names_of t) (roles_of t) (count_of t) 0 t (first_place t) ≡ 0 = rw (first, is_1, names, roles, count) back.none in
+      let pairs : pairs_fault (roles_of t) (pair_count t) least_pair t (pairs_place t) ≡ 0 = rw (no_count t plain) refl in
       record {
-        fault_is = simp (head, read, t_axioms);
+        fault_is = simp (head, pairs, read, t_axioms);
         version = version_back 1 n m al one_byte few few_roles few_al;
         width = is_1;
         names = names;
@@ -97,10 +106,20 @@ module _ (n m : ℕ) (al : List Axiom) (rising : Rising n m 0 al) (few : n ≤ 1
         short = omega (arith, header_bytes 1 n m al, few_bytes rising, few_al);
       }
 
+-- a file of version 1 lists no role pairs
+pub pairs_1 : (s : List ℕ) → version_of s ≡ 1 → pairs_of s ≡ []
+pairs_1 s e = no_pairs s (plain_version s (omega (arith, e)))
+
 -- an accepted file of version 1
 module _ (s : List ℕ) (ok : fault s ≡ 0) (version : version_of s ≡ 1) where
   pub width_1 : width_of s ≡ 1
   width_1 = version_1_width s version
+
+  pub plain_1 : lists_pairs s ≡ false
+  plain_1 = plain_version s (omega (arith, version))
+
+  pub first_1 : first_place s ≡ 8
+  first_1 = first_plain s plain_1 ∙ ap (λ (w : ℕ). header_length w false) width_1
 
   pub few_names : names_of s ≤ 127
   few_names = rw width_1 at (header_sound s (no_header_fault s ok)).names_by_width
@@ -119,7 +138,7 @@ module _ (s : List ℕ) (ok : fault s ≡ 0) (version : version_of s ≡ 1) wher
       rw width_1 (more sound.rises source (rising_from c (suc (number 1 s p)) (p + axiom_length 1 s p) z.1))
 
   pub rising_of : Rising (names_of s) (roles_of s) 0 (axioms_of s)
-  rising_of = rw width_1 (rising_from (count_of s) 0 8 (rw width_1 at (no_axiom_fault s ok)))
+  rising_of = rw first_1 (rising_from (count_of s) 0 8 (rw (first_1, width_1) at (no_axiom_fault s ok)))
 
 -- 15 is not met by fewer axioms
 pub fewer_plain : {al bl : List Axiom} → ((a : Axiom) → In bl a → In al a) → conjunct_defined al ≡ false → conjunct_defined bl ≡ false

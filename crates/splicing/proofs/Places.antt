@@ -17,7 +17,7 @@ use Rattle.rewriting.proofs.Stands.{AllStand, all_stand}
 use Rattle.splicing.specs.Axioms.{lower}
 use Rattle.splicing.specs.Places.{IsFile, place_of}
 use Rattle.splicing.proofs.Rising.{Rising, after_first, lower_nothing, lower_takes}
-use Rattle.splicing.proofs.Filed.{width_1, rising_of}
+use Rattle.splicing.proofs.Filed.{width_1, plain_1, first_1, rising_of}
 
 pub has_header : (s : List ℕ) → IsFile s → HasHeader 1 s
 has_header s file =
@@ -39,9 +39,10 @@ pub ahead_start : (x : ℕ) (s : List ℕ) → IsFile s → (left at : ℕ) → 
 unfolding place_of
 ahead_start x s file left at e f =
     let one = width_1 s file.accepted file.version in
-    let stand : AllStand (count_of s) s 8 = rw one at (all_stand s file.accepted) in
-    let rising : Rising (names_of s) (roles_of s) 0 (axioms_from (count_of s) s 8) = rw one at (rising_of s file.accepted file.version) in
-    let start : Ahead x s (count_of s) 8 = record { rest = rw one; width = one; stand = stand; least = 0; rising = rising } in
+    let first = first_1 s file.accepted file.version in
+    let stand : AllStand (count_of s) s 8 = rw first at (all_stand s (record { accepted = file.accepted; plain = plain_1 s file.accepted file.version })) in
+    let rising : Rising (names_of s) (roles_of s) 0 (axioms_from (count_of s) s 8) = rw first at (rising_of s file.accepted file.version) in
+    let start : Ahead x s (count_of s) 8 = record { rest = rw first; width = one; stand = stand; least = 0; rising = rising } in
     rw (e, f) start
 
 module _ (x : ℕ) (s : List ℕ) (c at : ℕ) (h : Ahead x s (suc c) at) where

@@ -20,7 +20,7 @@ use Rattle.release.proofs.Sound.{passed, axiom_sound, tail_within}
 use Rattle.release.proofs.Decoding.{both_none}
 use Rattle.release.proofs.Linked.{axiom_kind}
 use Rattle.rewriting.specs.Bytes.{Bytes, number_bytes, tail_bytes, axiom_bytes, axioms_bytes, release_bytes}
-use Rattle.rewriting.specs.Rewriting.{rewritten}
+use Rattle.rewriting.specs.Rewriting.{rewritten, Rewritable}
 use Rattle.rewriting.specs.Stands.{AxiomStands}
 use Rattle.writing.specs.Places.{last_place, Room, Put}
 use Rattle.rewriting.proofs.Pieces.{number_length}
@@ -32,7 +32,7 @@ use Rattle.rewriting.proofs.Canonical.{axiom_at_lem, canonical}
 use Rattle.splicing.specs.Axioms.{lower, upper, has, inserted, withdrawn}
 use Rattle.splicing.specs.Places.{most_bytes, IsFile, IsText, text_fault, axiom_in, place_of, file_of, file_with, file_without, Copied, PutsIn, TakesOut}
 use Rattle.splicing.proofs.Rising.{Sourced, Rising, left_small, member_source, few_axioms, few_bytes, parted, inserted_rises, withdrawn_rises, found, not_found}
-use Rattle.splicing.proofs.Filed.{one_byte, Filed, filed, width_1, few_names, few_roles_of, rising_of, bytes_append}
+use Rattle.splicing.proofs.Filed.{one_byte, Filed, filed, width_1, plain_1, first_1, few_names, few_roles_of, rising_of, bytes_append}
 use Rattle.splicing.proofs.Places.{byte_number}
 
 -- what stands already need not be written
@@ -106,6 +106,9 @@ module _ (s : List ℕ) where
   opening_length k x = length-append heading (k ∷ axioms_bytes 1 (lower x (axioms_of s))) ∙ omega (arith, heading_length)
 
   module _ (file : IsFile s) where
+    rewritable : Rewritable s
+    rewritable = record { accepted = file.accepted; plain = plain_1 s file.accepted file.version }
+
     pub rising : Rising (names_of s) (roles_of s) 0 (axioms_of s)
     rising = rising_of s file.accepted file.version
 
@@ -114,11 +117,9 @@ module _ (s : List ℕ) where
 
     pub file_short : length s ≤ most_bytes
     file_short =
-        let ends : length s ≡ 8 + length (axioms_bytes 1 (axioms_of s)) = by_width (width_1 s file.accepted file.version) (accepted_ends s file.accepted) in
+        let ends : length s ≡ 8 + length (axioms_bytes 1 (axioms_of s)) = accepted_ends s rewritable ∙
+        ap₂ (λ (k w : ℕ). k + length (axioms_bytes w (axioms_of s))) (first_1 s file.accepted file.version) (width_1 s file.accepted file.version) in
         omega (arith, ends, few_bytes rising, few)
-      where
-        by_width : {w : ℕ} → w ≡ 1 → length s ≡ 6 + 2 * w + length (axioms_bytes w (axioms_of s)) → length s ≡ 8 + length (axioms_bytes 1 (axioms_of s))
-        by_width {w} e h = subst (λ (v : ℕ). length s ≡ 6 + 2 * v + length (axioms_bytes v (axioms_of s))) e h
 
     pub count_is : get_or s 7 0 ≡ length (axioms_of s)
     unfolding count_of
@@ -129,7 +130,7 @@ module _ (s : List ℕ) where
     module _ (bytes : Bytes s) where
       pub own_file : s ≡ file_of s (axioms_of s)
       unfolding file_of rewritten
-      own_file = canonical s bytes file.accepted ∙ ap (λ (w : ℕ). rewritten w s) (width_1 s file.accepted file.version)
+      own_file = canonical s bytes rewritable ∙ ap (λ (w : ℕ). rewritten w s) (width_1 s file.accepted file.version)
 
       pub own_parts : (x : ℕ) → s ≡ opening (get_or s 7 0) (lower x (axioms_of s)) ++ axioms_bytes 1 (upper x (axioms_of s))
       own_parts x =

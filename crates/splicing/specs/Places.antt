@@ -16,7 +16,7 @@ use Rattle.splicing.specs.Axioms.{lower, has, inserted, withdrawn}
 
 -- the bytes of the longest file of version 1: after the header an axiom for each name, with a name, a kind, k and k conjuncts
 abbrev pub most_bytes : ℕ
-most_bytes = header_length 1 + most_names_of 1 * (3 + most_conjuncts)
+most_bytes = header_length 1 false + most_names_of 1 * (3 + most_conjuncts)
 
 pub record IsFile (s : List ℕ) : Type 0 where
   pub accepted : fault s ≡ 0

@@ -7,4 +7,4 @@ use Rattle.editing.proofs.Session.compare.Goals as goal
 
 pub returns : goal.returns
 unfolding with_result
-returns c = compared _ c.requires c.text.ensures c.text-2.ensures (omega arith) refl c.compare_releases.ensures
+returns c = compared _ c.requires c.text.ensures c.text-2.ensures (omega arith) refl (omega (arith, c.compare_releases.auto.role_result)) c.compare_releases.ensures

@@ -1,13 +1,15 @@
 -- `put_axioms` meets its contract. The invariant: the axioms from place `from` on are still to be written.
 use native.Mathlib.Omega.{arith}
 use Rattle.std.proofs.Math.Nat.{sub-zero}
+use Rattle.release.proofs.Versions.{first_plain}
 use Rattle.rewriting.proofs.Puts.{rest_whole, piece_room, piece_put, nothing_left}
 use Rattle.rewriting.proofs.Pieces.{first_axiom, no_axiom}
 use Rattle.rewriting.proofs.Stands.{all_stand, first_stands, others_stand, axioms_counted, one_left}
 use Rattle.rewriting.proofs.Rewriting.put_axioms.Goals as goal
 
 pub loop-axiom-init : goal.loop-axiom-init
-loop-axiom-init c = rw (sub-zero, c.header_length-from.ensures, c.args.self.now.version) (record { stand = all_stand _ c.args.self.now.accepted; left = rest_whole (omega arith) c.requires })
+loop-axiom-init c = rw (sub-zero, c.header_length-from.ensures, c.args.self.now.version, c.args.self.now.plain, ← first_plain _ c.args.self.now.accepted.plain)
+    (record { stand = all_stand _ c.args.self.now.accepted; left = rest_whole (omega arith) c.requires })
 
 pub put_axiom-next-requires-clause-stands : goal.put_axiom-next-requires-clause-stands
 put_axiom-next-requires-clause-stands c =

@@ -18,7 +18,7 @@ put_number-after_names-requires c = piece_room (begins_names _ _ c.args.self.now
 pub overflow_cast-counts : goal.overflow_cast-counts
 overflow_cast-counts c =
     let e : c.args.self.now.source.counts.roles ≡ roles_of c.args.self.now.source.file.now = ap (λ (a : Counts). a.roles) c.args.self.now.counts in
-    omega (arith, (few_counts c.args.self.now.source.file.now c.args.self.now.accepted).1)
+    omega (arith, (few_counts c.args.self.now.source.file.now c.args.self.now.accepted.accepted).1)
 
 pub put_byte-after_roles-requires : goal.put_byte-after_roles-requires
 put_byte-after_roles-requires c = piece_room (begins_roles _ _ c.args.self.now.counts c.args.self.now.accepted)

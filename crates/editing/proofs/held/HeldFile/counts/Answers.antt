@@ -1,4 +1,5 @@
 -- Each end of the test is one of the definition's cases.
+use mathlib.Core.Path.{sym, ◌∙◌}
 use Rattle.rewriting.proofs.Stands.{has_version}
 use Rattle.editing.proofs.HeldFiles.{held_past, held_refused, held_accepted, held_other, held_counts}
 use Rattle.editing.proofs.held.HeldFile.counts.Goals as goal
@@ -12,8 +13,8 @@ returns-in_default c = held_refused _ c.if-self-gt-LENGTH.false c.text-file.ensu
 pub of-requires : goal.of-requires
 of-requires c = has_version _ (held_accepted _ c.if-self-gt-LENGTH.false c.text-file.ensures c.in-Ok.ensures)
 
-pub returns-in-One : goal.returns-in-One
-returns-in-One c = held_counts _ c.if-self-gt-LENGTH.false c.text-file.ensures c.in-Ok.ensures c.in-One.ensures
+pub returns-then-width-eq1 : goal.returns-then-width-eq1
+returns-then-width-eq1 c = held_counts _ c.if-self-gt-LENGTH.false c.text-file.ensures c.in-Ok.ensures (sym c.if-width-eq1.true ∙ (c.width.ensures ∙ c.of.ensures.width))
 
-pub returns-in-Two : goal.returns-in-Two
-returns-in-Two c = held_other _ c.if-self-gt-LENGTH.false c.text-file.ensures c.in-Ok.ensures c.in-Two.ensures
+pub returns : goal.returns
+returns c = held_other _ c.if-self-gt-LENGTH.false c.text-file.ensures c.in-Ok.ensures (c.width.ensures ∙ c.of.ensures.width) c.if-width-eq1.false
