@@ -21,8 +21,8 @@ use Rattle.el.proofs.Lists.{all_drop, all_take}
 use Rattle.el.proofs.Tests.{and_left}
 use Rattle.el.proofs.Answers.{comparison_bytes_lem}
 use Rattle.el.proofs.Demand3.{one_byte}
-use Rattle.release.specs.Files.{names_of, axioms_of, most_names, most_roles}
-use Rattle.release.proofs.Linked.{formed, terminology}
+use Rattle.release.specs.Files.{names_of, most_names, most_roles, content_of}
+use Rattle.release.proofs.Linked.{formed, normalised}
 use Rattle.release.proofs.Limits.{few_counts}
 use Rattle.signature.specs.Bytes.{is_bit, wrong_byte, wrong_length, signature_fault, signature_of}
 use Rattle.marks.specs.Memory.{size, Zeroed}
@@ -42,17 +42,17 @@ module _ {g : List ℕ} {r : Releases} {w : List ℕ} (given : Given g r w) wher
   pub names_lent : r.names ≤ length g
   names_lent = omega (arith, signature_long r.names r.roles g given.signature)
 
-  comparable : Comparable r.names (signature_of r.names r.roles g) (axioms_of r.first.file.now) (axioms_of r.second.file.now)
+  comparable : Comparable r.names (signature_of r.names r.roles g) (content_of r.first.file.now) (content_of r.second.file.now)
   comparable = record {
     names_in = λ x h. ltb-true x r.names (and_left (ltb x r.names) _ h);
     first_formed = rw given.both.first_names (formed r.first.file.now given.both.first.accepted);
     second_formed = rw given.both.second_names (formed r.second.file.now given.both.second.accepted);
-    first_terms = terminology r.first.file.now given.both.first.accepted;
-    second_terms = terminology r.second.file.now given.both.second.accepted;
+    first_terms = normalised r.first.file.now given.both.first.accepted;
+    second_terms = normalised r.second.file.now given.both.second.accepted;
   }
 
   pub bytes_told : {o p : List ℕ} → r.names ≤ length p → Reported g r o p
-      → take r.names p ≡ comparison_bytes r.names (signature_of r.names r.roles g) (axioms_of r.first.file.now) (axioms_of r.second.file.now)
+      → take r.names p ≡ comparison_bytes r.names (signature_of r.names r.roles g) (content_of r.first.file.now) (content_of r.second.file.now)
   bytes_told {p = p} l told =
       let are = comparison_bytes_lem comparable in
       let long : length (take r.names p) ≡ r.names = length-take-le r.names p l in
@@ -103,7 +103,7 @@ module _ {r : Releases} {gs : List ℕ} {ys : List Row} {w : List ℕ} (fits : F
     given_part same = record { both = both_in same fits.both; signature = rw part_is (one_signature r.names r.roles (length ys) gs i l fits.signatures) }
 
     abbrev row : ℕ → ℕ → List ℕ → Row
-    row n m g = row_of (take n g) (comparison_bytes n (signature_of n m g) (axioms_of r.first.file.now) (axioms_of r.second.file.now))
+    row n m g = row_of (take n g) (comparison_bytes n (signature_of n m g) (content_of r.first.file.now) (content_of r.second.file.now))
 
     pub row_is : {v : Row} → v ≡ row r.names r.roles part → v ≡ row_at r.first.file.now r.second.file.now gs i
     unfolding row_at

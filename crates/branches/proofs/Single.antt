@@ -30,8 +30,8 @@ module _ {s t gs : List ℕ} {q : ℕ} {ys zs : List Row} {w v : List ℕ} {answ
   given : Inputs.Accepted s t signature
   given = let found = known (sym says.answer ∙ ap (told sheet_refusal) e) in accepted_one found.0 found.1 i l
 
-  pub row_tells : {o u : List ℕ} (single : Compares s t (signature_at (names_of s) (roles_of s) gs i) o u) → RowTells s t (signature_at (names_of s) (roles_of s) gs i) (get_or zs i no_row) single
-  row_tells {o} {u} single =
+  pub row_tells : {o p u : List ℕ} (single : Compares s t (signature_at (names_of s) (roles_of s) gs i) o p u) → RowTells s t (signature_at (names_of s) (roles_of s) gs i) (get_or zs i no_row) single
+  row_tells single =
       let filled = says.accepted_rows e in
       let row = filled.each i l in
       let there : get_or zs i no_row ≡ get_or filled.filled i no_row = ap (λ (rows : List Row). get_or rows i no_row) filled.rows ∙ get_or-append filled.filled (drop q ys)

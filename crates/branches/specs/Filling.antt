@@ -5,7 +5,7 @@
 --   FilledPart s t gs q k ys zs w v r    the call was lent the first k of the rows ys, which became zs, and keeps its promise of these
 use Rattle.std.specs.Prelude.{◌≡◌, List, ℕ, ◌+◌, ◌*◌, ◌≤◌, ◌<◌, length, get_or, take, drop, Result}
 use Rattle.el.specs.Answers.{comparison_bytes}
-use Rattle.release.specs.Files.{names_of, roles_of, axioms_of}
+use Rattle.release.specs.Files.{names_of, roles_of, content_of}
 use Rattle.signature.specs.Bytes.{signature_fault}
 use Rattle.demands.specs.Inputs.{chosen}
 use Rattle.marks.specs.Memory.{size, Zeroed}
@@ -20,7 +20,7 @@ use Rattle.branches.specs.Sheets.{most_branches, signature_at, no_row, Says}
 unfoldable pub row_at : List ℕ → List ℕ → List ℕ → ℕ → Row
 row_at s t gs i =
     let g = signature_at (names_of s) (roles_of s) gs i in
-    row_of (take (names_of s) g) (comparison_bytes (names_of s) (chosen s g) (axioms_of s) (axioms_of t))
+    row_of (take (names_of s) g) (comparison_bytes (names_of s) (chosen s g) (content_of s) (content_of t))
 
 pub record Fits (r : Releases) (gs : List ℕ) (ys : List Row) (w : List ℕ) : Type 0 where
   pub both : BothGiven r w

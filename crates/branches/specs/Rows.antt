@@ -5,7 +5,7 @@
 use Rattle.std.specs.Prelude.{◌≡◌, Bool, List, ℕ, ◌*◌, ◌/◌, eqb, take}
 use Rattle.el.specs.Lists.{pick, count}
 use Rattle.el.specs.Comparison.{on_left, on_right, is_reported, AreBytes}
-use Rattle.release.specs.Files.{names_of, axioms_of}
+use Rattle.release.specs.Files.{names_of, content_of}
 use Rattle.demands.specs.Inputs.{chosen}
 use Rattle.branches.specs.declared.row.Row.{Row}
 
@@ -26,5 +26,5 @@ row_of g bs = record {
 
 pub record IsRow (s t g : List ℕ) (r : Row) : Type 0 where
   pub bytes : List ℕ
-  pub are_bytes : AreBytes (names_of s) (chosen s g) (axioms_of s) (axioms_of t) bytes
+  pub are_bytes : AreBytes (names_of s) (chosen s g) (content_of s) (content_of t) bytes
   pub is : r ≡ row_of (take (names_of s) g) bytes

@@ -8,6 +8,6 @@ use Rattle.meanings.specs.Demand3.{Enough, Compares}
 use Rattle.branches.specs.declared.row.Row.{Row}
 use Rattle.branches.specs.Rows.{row_of}
 
-pub record RowTells (s t g : List ℕ) (r : Row) {o w : List ℕ} (single : Compares s t g o w) : Type 0 where
-  pub accepted : Enough s (length o) (length w) → single.answer ≡ Ok (record { names = names_of s; roles = roles_of s })
+pub record RowTells (s t g : List ℕ) (r : Row) {o p w : List ℕ} (single : Compares s t g o p w) : Type 0 where
+  pub accepted : Enough s (length o) (length p) (length w) → single.answer ≡ Ok (record { names = names_of s; roles = roles_of s })
   pub row : {c : Compared} → single.answer ≡ Ok c → r ≡ row_of (take (names_of s) g) (take (names_of s) single.result)

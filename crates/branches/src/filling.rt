@@ -1,6 +1,6 @@
 // The rows of a sheet, given the terminologies of its releases.
 ghost use Rattle.std.specs.Prelude.{◌≡◌, take};
-ghost use Rattle.release.specs.Files.{axioms_of};
+ghost use Rattle.release.specs.Files.{content_of};
 ghost use Rattle.signature.specs.Bytes.{signature_of};
 ghost use Rattle.el.specs.Answers.{comparison_bytes};
 ghost use Rattle.comparison.specs.Compared.{Given, Ready};
@@ -17,7 +17,7 @@ pub fn row_of(releases: &Releases, signature: &[u8], work: &mut [u8]) -> Row
     requires ready { Ready releases.now work.old }
     ensures row { result ≡ row_of (take releases.now.names signature.now)
         (comparison_bytes releases.now.names (signature_of releases.now.names releases.now.roles signature.now)
-        (axioms_of releases.now.first.file.now) (axioms_of releases.now.second.file.now)) }
+        (content_of releases.now.first.file.now) (content_of releases.now.second.file.now)) }
     ensures same { work.new ≡ work.old }
 {
     let names = releases.names;

@@ -9,7 +9,6 @@ use crate::judging::judge;
 pub use crate::refusals::SheetRefusal;
 use crate::row::Row;
 use meanings::{Compared, read_releases};
-use release::table;
 use release::table::Table;
 
 pub mod filling;
@@ -30,8 +29,8 @@ pub fn compare_branches(
     ensures { Says first.now second.now signatures.now count rows.old rows.new work.old work.new result }
 {
     // Local arrays, since there is no heap.
-    let mut first_table = [table::Row::BLANK; Table::LENGTH];
-    let mut second_table = [table::Row::BLANK; Table::LENGTH];
+    let mut first_table = Table::BLANK;
+    let mut second_table = Table::BLANK;
     let (counts, releases) = read_releases(first, second, &mut first_table, &mut second_table)?;
     let counts = judge(counts, signatures, count, rows.len(), work.len())?;
     fill(&releases, signatures, work, &mut rows[..count]);

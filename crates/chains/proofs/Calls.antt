@@ -21,15 +21,15 @@ pub accepted_chain : {g s t : List ℕ} {us : List (List ℕ)} → Accepted s t 
 accepted_chain given end = given
 accepted_chain given (step r rs) = accepted_chain (accepted_across given (accepted_input r)) rs
 
-pub not_refused_across : {g s t : List ℕ} {us : List (List ℕ)} → Report g s t → Steps (Report g) t us → {o w : List ℕ} → Enough s (length o) (length w)
-    → (over : Compares s (last_from t us) g o w) → IsAccepted over
+pub not_refused_across : {g s t : List ℕ} {us : List (List ℕ)} → Report g s t → Steps (Report g) t us → {o p w : List ℕ} → Enough s (length o) (length p) (length w)
+    → (over : Compares s (last_from t us) g o p w) → IsAccepted over
 not_refused_across r rs enough over = accepted_answer (accepted_chain (accepted_input r) rs) enough over
 
-module _ {s t u g o w o' w' o'' w'' : List ℕ} (first : Accepted s t g) (second : Accepted t u g) where
-  pub three_calls : Enough s (length o) (length w) → Enough t (length o') (length w') → Enough s (length o'') (length w'')
-      → (one : Compares s t g o w) (two : Compares t u g o' w') (over : Compares s u g o'' w'') → ThreeCalls one two over
+module _ {s t u g o p w o' p' w' o'' p'' w'' : List ℕ} (first : Accepted s t g) (second : Accepted t u g) where
+  pub three_calls : Enough s (length o) (length p) (length w) → Enough t (length o') (length p') (length w') → Enough s (length o'') (length p'') (length w'')
+      → (one : Compares s t g o p w) (two : Compares t u g o' p' w') (over : Compares s u g o'' p'' w'') → ThreeCalls one two over
   three_calls enough enough' enough'' one two over =
-      let p = accepted_answer first enough one in
-      let q = accepted_answer second enough' two in
-      let r = accepted_answer (accepted_across first second) enough'' over in
-      record { one_accepted = p; two_accepted = q; across_accepted = r; skips = across (report_of one p) (report_of two q) (report_of over r) }
+      let x = accepted_answer first enough one in
+      let y = accepted_answer second enough' two in
+      let z = accepted_answer (accepted_across first second) enough'' over in
+      record { one_accepted = x; two_accepted = y; across_accepted = z; skips = across (report_of one x) (report_of two y) (report_of over z) }

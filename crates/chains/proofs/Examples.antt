@@ -2,15 +2,19 @@
 use mathlib.Core.Path.{◌≡◌, refl, sym, ap, ◌∙◌}
 use mathlib.Core.Bool.{true}
 use mathlib.Core.List.{List, [], ◌∷◌, ◌++◌, append-nil}
-use Prim.Native.Nat.{ℕ}
+use Prim.Native.Nat.{ℕ, ◌*◌}
 use native.Mathlib.Omega.{arith}
 use lib.ListN.{length, replicate, length-replicate, drop_of_length-le}
 use lib.Seq.{take_all}
 use Rattle.std.specs.Prelude.{Ok}
-use Rattle.release.specs.Files.{number, numbers, width_of, names_of, roles_of, count_of, fault, header_fault, parts_fault, conjunction_fault, tail_fault, axiom_fault}
+use Rattle.release.specs.Files.{number, numbers, width_of, names_of, roles_of, count_of, content_of, lists_pairs, pair_count, pairs_place, first_place, pairs_of, pairs_from}
+use Rattle.release.specs.Files.{pair_fault, pairs_fault, fault, header_fault, parts_fault, conjunction_fault, tail_fault, axiom_fault}
 use Rattle.release.specs.Files.{axiom_at, axioms_fault, axioms_from, conjunct_defined}
 use Rattle.signature.specs.Bytes.{signature_fault}
-use Rattle.el.proofs.Answers.{only_bytes}
+use Rattle.el.specs.Comparison.{ArePairBytes}
+use Rattle.el.specs.Answers.{pair_bytes}
+use Rattle.el.proofs.Answers.{pair_bytes_lem, only_bytes}
+use Rattle.demands.specs.Inputs.{chosen}
 use Rattle.demands.specs.Examples as demands
 use Rattle.demands.specs.Examples.{Example, compared}
 use Rattle.demands.proofs.Examples.{passes, passes_holds}
@@ -30,7 +34,8 @@ abbrev both_steps : Example
 both_steps = compared first third every_name (0 ∷ 0 ∷ 0 ∷ 0 ∷ 1 ∷ 2 ∷ [])
 
 pass : (passes first_step ≡ true) × ((passes second_step ≡ true) × (passes both_steps ≡ true))
-unfolding number numbers width_of names_of roles_of count_of fault header_fault parts_fault conjunction_fault tail_fault axiom_fault axiom_at axioms_fault axioms_from
+unfolding number numbers width_of names_of roles_of count_of lists_pairs pair_count pairs_place first_place pairs_of pairs_from pair_fault pairs_fault fault header_fault
+    parts_fault conjunction_fault tail_fault axiom_fault axiom_at axioms_fault axioms_from
     conjunct_defined signature_fault
 pass = (refl, (refl, refl))
 
@@ -42,24 +47,35 @@ module _ {s t g bs : List ℕ} (c : demands.Compared s t g bs) where
   abbrev work : List ℕ
   work = replicate (work_length (names_of s)) 0
 
-  enough : Enough s (length bs) (length work)
-  enough = record { result = omega (arith, c.bytes.long); work = rw (length-replicate {A = ℕ} (work_length (names_of s)) 0) (omega arith) }
+  -- the role result holds its bytes already
+  abbrev pairs : List ℕ
+  pairs = pair_bytes (roles_of s) (chosen s g) (content_of s) (content_of t)
 
-  outcome : Outcome s t g bs bs work work
+  pairs_are : ArePairBytes (roles_of s) (chosen s g) (content_of s) (content_of t) pairs
+  pairs_are = pair_bytes_lem (roles_of s) (chosen s g) (content_of s) (content_of t)
+
+  enough : Enough s (length bs) (length pairs) (length work)
+  enough = record { result = omega (arith, c.bytes.long); role_result = omega (arith, pairs_are.long); work = rw (length-replicate {A = ℕ} (work_length (names_of s)) 0) (omega arith) }
+
+  outcome : Outcome s t g bs bs pairs pairs work work
   outcome = record {
     bytes = rw (take_all (names_of s) bs (omega (arith, c.bytes.long))) c.bytes;
     past = refl;
+    role_bytes = rw (take_all (roles_of s * roles_of s) pairs (omega (arith, pairs_are.long))) pairs_are;
+    role_past = refl;
     work = sym (ap (λ (rest : List ℕ). work ++ rest) (drop_of_length-le work (omega (arith, length-replicate {A = ℕ} (work_length (names_of s)) 0))) ∙ append-nil work);
   }
 
-  call : Compares s t g bs work
+  call : Compares s t g bs pairs work
   call = record {
     answer = Ok counts;
     result = bs;
+    role_result = pairs;
     memory = work;
     says = record {
-      answer = sym (not_refused (length bs) (length work) c.accepted enough);
+      answer = sym (not_refused (length bs) (length pairs) (length work) c.accepted enough);
       refused_result = λ z. refl;
+      refused_roles = λ z. refl;
       refused_work = λ z. refl;
       accepted = λ z. outcome;
     };
@@ -68,7 +84,7 @@ module _ {s t g bs : List ℕ} (c : demands.Compared s t g bs) where
   only_report : OnlyReport g s t bs
   unfolding call
   only_report = record {
-    some = record { result_lent = bs; work_lent = work; call = call; counts = counts; accepted = refl };
+    some = record { result_lent = bs; roles_lent = pairs; work_lent = work; call = call; counts = counts; accepted = refl };
     only = λ r. only_bytes (r.call.says.accepted r.accepted).bytes c.bytes;
   }
 

@@ -62,7 +62,8 @@ input_chain : {gs : List ℕ} {q : ℕ} {s t : List ℕ} {us : List (List ℕ)} 
 input_chain given end = given
 input_chain given (step r rs) = input_chain (input_across given (input_of r)) rs
 
-pub sheet_not_refused_across : {gs : List ℕ} {q : ℕ} {s t : List ℕ} {us : List (List ℕ)} → Sheet gs q s t → Steps (Sheet gs q) t us → {ys : List Row} {w : List ℕ} → EnoughRows s q (length ys) (length w)
+pub sheet_not_refused_across : {gs : List ℕ} {q : ℕ} {s t : List ℕ} {us : List (List ℕ)} → Sheet gs q s t → Steps (Sheet gs q) t us → {ys : List Row} {w : List ℕ}
+    → EnoughRows s q (length ys) (length w)
     → (over : ComparesBranches s (last_from t us) gs q ys w) → IsFilled over
 sheet_not_refused_across r rs enough over = filled (input_chain (input_of r) rs) enough over
 

@@ -5,7 +5,7 @@
 --   count_divided    how many signatures there are
 use mathlib.Core.Path.{◌≡◌, refl, sym, ap, ◌∙◌}
 use mathlib.Core.List.{List}
-use Prim.Native.Nat.{ℕ, ◌+◌, ◌/◌, ◌≤◌, ◌<◌}
+use Prim.Native.Nat.{ℕ, ◌*◌, ◌+◌, ◌/◌, ◌≤◌, ◌<◌}
 use native.Mathlib.Omega.{arith}
 use borrow.Author.Tests.{eq-eqb, ne_eqb, le-ltb}
 use mathlib.Core.Logic.{⊎_elim}
@@ -14,7 +14,7 @@ use Rattle.std.proofs.lemmas.Bool.{cases_lt}
 use Rattle.std.specs.Option.{SomeIff, unwrap_or}
 use Rattle.std.specs.Prelude.{Option, Some, None, Result, Ok, Err, IfSome}
 use Rattle.std.specs.Result.{result_ok}
-use Rattle.release.specs.Files.{most_names}
+use Rattle.release.specs.Files.{most_roles, most_names}
 use Rattle.release.specs.Readings.{checked}
 use Rattle.release.specs.Refusals.{Numbers, told}
 use Rattle.release.specs.declared.Counts.{Counts}
@@ -61,13 +61,13 @@ answer_fitted (Err k) bs o f = refl
 answer_fitted (Ok c) bs o f = rw (le-ltb (length bs) c.names (f c refl))
 
 -- the station
-module _ {s t g b bs w v o p : List ℕ} {a : Result Compared CompareRefusal} {d : Result ℕ ReportRefusal} {r : Option ℕ} where
-  pub station_prints : length b ≡ most_names → length bs ≡ length b → Says s t g b bs w v a
+module _ {s t g b bs m ms w v o p : List ℕ} {a : Result Compared CompareRefusal} {d : Result ℕ ReportRefusal} {r : Option ℕ} where
+  pub station_prints : length b ≡ most_names → length bs ≡ length b → length m ≡ most_roles * most_roles → Says s t g b bs m ms w v a
       → WrittenAs (answer_to (told compare_refusal a) bs o) (answer_text (told compare_refusal a) bs) o p d → r ≡ result_ok d → StationPrints s t g w v o p r
-  station_prints h i says writes e =
+  station_prints h i l says writes e =
       let fitting : answer_to (told compare_refusal a) bs o ≡ fitted (answer_text (told compare_refusal a) bs) o =
-      answer_fitted (told compare_refusal a) bs o (λ c f. rw i (known s t g (length b) (length w) c (sym says.answer ∙ f)).1.result) in
-      record { lent = b; result = bs; answer = a; long = h; says = says; prints = prints (rw fitting at writes) e }
+      answer_fitted (told compare_refusal a) bs o (λ c f. rw i (known s t g (length b) (length m) (length w) c (sym says.answer ∙ f)).1.result) in
+      record { lent = b; result = bs; answer = a; long = h; roles_lent = m; role_result = ms; roles_long = l; says = says; prints = prints (rw fitting at writes) e }
 
 -- the sheet
 module _ {s t gs w v o p : List ℕ} {ys zs : List Row} {a : Result Compared SheetRefusal} {d : Result ℕ ReportRefusal} {q : ℕ} {r : Option ℕ} where

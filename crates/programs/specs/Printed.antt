@@ -5,9 +5,9 @@
 --   StationPrints s t g w v o p r    the station, for the releases s and t and the signature g, with the work memory w, v after it: what
 --                                    Compare says, with a result of as many bytes as there can be names, is what is printed
 --   SheetPrints s t gs w v o p r     the same of the sheet, for all signatures that gs holds
-use Rattle.std.specs.Prelude.{◌≡◌, List, ◌++◌, ℕ, ◌+◌, ◌/◌, ◌≤◌, ◌<◌, eqb, length, drop, Option, Some, None, Result, Ok, Err}
+use Rattle.std.specs.Prelude.{◌≡◌, List, ◌++◌, ℕ, ◌+◌, ◌*◌, ◌/◌, ◌≤◌, ◌<◌, eqb, length, drop, Option, Some, None, Result, Ok, Err}
 use Rattle.el.specs.Lists.{pick}
-use Rattle.release.specs.Files.{most_names}
+use Rattle.release.specs.Files.{most_names, most_roles}
 use Rattle.release.specs.Readings.{checked}
 use Rattle.release.specs.Refusals.{Numbers, told}
 use Rattle.release.specs.declared.Counts.{Counts}
@@ -40,7 +40,10 @@ pub record StationPrints (s t g w v o p : List ℕ) (r : Option ℕ) : Type 0 wh
   pub result : List ℕ
   pub answer : Result Compared CompareRefusal
   pub long : length lent ≡ most_names
-  pub says : meanings.Says s t g lent result w v answer
+  pub roles_lent : List ℕ
+  pub role_result : List ℕ
+  pub roles_long : length roles_lent ≡ most_roles * most_roles
+  pub says : meanings.Says s t g lent result roles_lent role_result w v answer
   pub prints : Prints (answer_text (told compare_refusal answer) result) o p r
 
 pub record SheetPrints (s t gs w v o p : List ℕ) (r : Option ℕ) : Type 0 where

@@ -9,7 +9,7 @@ ghost use Rattle.programs.specs.Printed.{signature_count, StationPrints, SheetPr
 use branches::judging::Sheet;
 use branches::row::Row;
 use branches::values::fill_rows;
-use meanings::compare_releases;
+use meanings::{Compared, compare_releases};
 use release::{Release, check_release};
 use report::sheet::write_sheet;
 use report::write_answer;
@@ -33,9 +33,10 @@ pub fn station(
         work.old work.new output.old output.new result }
     ensures within { IfSome result (λ k. k ≤ length output.new) }
 {
-    // A local array, since there is no heap.
+    // Local arrays, since there is no heap. The report tells of names only.
     let mut result = [0u8; Release::NAMES];
-    let answer = compare_releases(first, second, chosen, &mut result, work);
+    let mut role_result = [0u8; Compared::ROLE_RESULT];
+    let answer = compare_releases(first, second, chosen, &mut result, &mut role_result, work);
     write_answer(answer, &result, output).ok()
 }
 

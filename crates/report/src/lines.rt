@@ -6,6 +6,7 @@ ghost use Rattle.report.specs.Sides.{SideOf, side_letter, on_side, side_byte};
 ghost use Rattle.writing.specs.Places.{Put};
 
 use crate::numbers::{put_three_digits, put_two_numbers};
+use release::ConceptName;
 use writing::put_or_count;
 
 // Where a name is reported: on the left only, on the right only, or on both sides.
@@ -59,13 +60,13 @@ impl Side {
 }
 
 // The line of a name, if it is reported.
-fn put_entry(output: &mut [u8], at: usize, name: usize, byte: u8) -> usize
-    ensures { Put output.old at (entry name byte) output.new result }
+fn put_entry(output: &mut [u8], at: usize, name: ConceptName, byte: u8) -> usize
+    ensures { Put output.old at (entry name.0 byte) output.new result }
 {
     let Some(side) = Side::of(byte) else {
         return at;
     };
-    let first = put_three_digits(output, at, name);
+    let first = put_three_digits(output, at, name.0);
     let second = put_or_count(output, first, b' ');
     let third = put_or_count(output, second, side.letter());
     put_or_count(output, third, b'\n')
@@ -76,7 +77,7 @@ fn put_lines(output: &mut [u8], at: usize, bytes: &[u8]) -> usize
 {
     let mut next = at;
     for (name, byte) in bytes.iter().enumerate() {
-        next = put_entry(output, next, name, *byte);
+        next = put_entry(output, next, ConceptName(name), *byte);
     }
     next
 }

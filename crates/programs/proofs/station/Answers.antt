@@ -6,5 +6,5 @@ use Rattle.programs.proofs.station.Goals as goal
 
 pub returns : goal.returns
 returns c =
-    let prints = station_prints refl (omega arith) c.compare_releases-answer.ensures c.write_answer.ensures c.ok.ensures.value in
+    let prints = station_prints refl (omega arith) refl c.compare_releases-answer.ensures c.write_answer.ensures c.ok.ensures.value in
     record { prints = prints; within = prints_within _ _ _ _ c.write_answer.auto.output prints.prints }
