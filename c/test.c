@@ -1,5 +1,6 @@
-/* Tries the calls of include/berrytick.h: P1 to P10, concepts of P1, P1 edited, the convention, and empty slices that are NULL. Prints a line
- * for each check that fails and the number of checks; the status is 0 where none fails. tools/test-bindings builds and runs it. */
+/* Tries the calls of include/berrytick.h: P1 to P10, role inclusions, concepts of P1, P1 edited, the convention, and empty slices that are
+ * NULL. Prints a line for each check that fails and the number of checks; the status is 0 where none fails. tools/test-bindings builds and
+ * runs it. */
 #include "berrytick.h"
 
 #include <stdio.h>
@@ -31,6 +32,7 @@ struct bytes {
 };
 
 #define BYTES(...) {(const uint8_t[]){__VA_ARGS__}, sizeof((const uint8_t[]){__VA_ARGS__})}
+#define NONE {NULL, 0}
 #define PASS(slice) (slice).start, (slice).length
 
 static int all_are(const uint8_t *bytes, size_t length, uint8_t value)
@@ -43,13 +45,14 @@ static int all_are(const uint8_t *bytes, size_t length, uint8_t value)
     return 1;
 }
 
-/* P1 to P9: two releases, a signature, the bytes of the names. */
+/* Two releases, a signature, the bytes of the names, and those of the role pairs. */
 struct comparison {
     const char *name;
-    struct bytes first, second, signature, expected;
+    struct bytes first, second, signature, expected, pairs;
 };
 
 #define ELT1 0x45, 0x4C, 0x54, 1, 0
+#define ELT3 0x45, 0x4C, 0x54, 3, 0
 
 #define P1_FIRST BYTES(ELT1, 4, 0, 1, 0, 2, 2, 1, 2)
 #define P1_SECOND BYTES(ELT1, 4, 0, 1, 0, 2, 2, 1, 3)
@@ -61,18 +64,30 @@ struct comparison {
 #define P8_FIRST BYTES(ELT1, 2, 2, 2, 0, 4, 0, 1, 1, 4, 1, 1)
 #define P8_SECOND BYTES(ELT1, 2, 2, 2, 0, 3, 0, 1, 1, 4, 1, 1)
 
+/* Name 0 lies below "some role 0 of everything"; and role 0 lies under role 1. */
+#define UNDER_FIRST BYTES(ELT3, 1, 0, 2, 1, 0, 1, 0, 1, 0, 0, 3, 0, 255, 255)
+#define UNDER_SECOND BYTES(ELT1, 1, 2, 1, 0, 3, 0, 255)
+/* No name and three roles: 0 under 1 under 2, and these in a circle. */
+#define ROLE_CHAIN BYTES(ELT3, 0, 0, 3, 0, 0, 2, 0, 1, 1, 2)
+#define ROLE_CIRCLE BYTES(ELT3, 0, 0, 3, 0, 0, 3, 0, 1, 1, 2, 2, 0)
+#define NO_PAIRS BYTES(ELT1, 0, 3, 0)
+
 static const struct comparison comparisons[] = {
-    {"P1", P1_FIRST, P1_SECOND, BYTES(1, 1, 1, 0), BYTES(3, 0, 2, 0)},
-    {"P2", P1_SECOND, P1_FIRST, BYTES(1, 1, 1, 0), BYTES(0, 0, 0, 0)},
-    {"P3", P3_FIRST, P3_SECOND, BYTES(1, 1, 0, 0, 1), BYTES(1, 0, 0, 0)},
-    {"P4", P3_SECOND, P3_FIRST, BYTES(1, 1, 0, 0, 1), BYTES(0, 0, 0, 0)},
-    {"P5", CIRCLE, P5_SECOND, BYTES(1, 0, 1), BYTES(0, 0)},
-    {"P5, exchanged", P5_SECOND, CIRCLE, BYTES(1, 0, 1), BYTES(0, 0)},
-    {"P6", CIRCLE, P6_SECOND, BYTES(1, 0, 1), BYTES(1, 0)},
-    {"P7", CIRCLE, P6_SECOND, BYTES(1, 0, 0), BYTES(0, 0)},
-    {"P8", P8_FIRST, P8_SECOND, BYTES(1, 0, 1, 1), BYTES(0, 0)},
-    {"P8, exchanged", P8_SECOND, P8_FIRST, BYTES(1, 0, 1, 1), BYTES(0, 0)},
-    {"P9", P8_FIRST, P8_SECOND, BYTES(1, 1, 1, 1), BYTES(2, 0)},
+    {"P1", P1_FIRST, P1_SECOND, BYTES(1, 1, 1, 0), BYTES(3, 0, 2, 0), NONE},
+    {"P2", P1_SECOND, P1_FIRST, BYTES(1, 1, 1, 0), BYTES(0, 0, 0, 0), NONE},
+    {"P3", P3_FIRST, P3_SECOND, BYTES(1, 1, 0, 0, 1), BYTES(1, 0, 0, 0), BYTES(0)},
+    {"P4", P3_SECOND, P3_FIRST, BYTES(1, 1, 0, 0, 1), BYTES(0, 0, 0, 0), BYTES(0)},
+    {"P5", CIRCLE, P5_SECOND, BYTES(1, 0, 1), BYTES(0, 0), BYTES(0)},
+    {"P5, exchanged", P5_SECOND, CIRCLE, BYTES(1, 0, 1), BYTES(0, 0), BYTES(0)},
+    {"P6", CIRCLE, P6_SECOND, BYTES(1, 0, 1), BYTES(1, 0), BYTES(0)},
+    {"P7", CIRCLE, P6_SECOND, BYTES(1, 0, 0), BYTES(0, 0), BYTES(0)},
+    {"P8", P8_FIRST, P8_SECOND, BYTES(1, 0, 1, 1), BYTES(0, 0), BYTES(0, 0, 0, 0)},
+    {"P8, exchanged", P8_SECOND, P8_FIRST, BYTES(1, 0, 1, 1), BYTES(0, 0), BYTES(0, 0, 0, 0)},
+    {"P9", P8_FIRST, P8_SECOND, BYTES(1, 1, 1, 1), BYTES(2, 0), BYTES(0, 0, 0, 0)},
+    {"a role under another", UNDER_FIRST, UNDER_SECOND, BYTES(1, 1, 1), BYTES(1), BYTES(0, 1, 0, 0)},
+    {"a role under another, exchanged", UNDER_SECOND, UNDER_FIRST, BYTES(1, 1, 1), BYTES(0), BYTES(0, 0, 0, 0)},
+    {"a chain of roles", ROLE_CHAIN, NO_PAIRS, BYTES(1, 0, 1), NONE, BYTES(0, 0, 1, 0, 0, 0, 0, 0, 0)},
+    {"a circle of roles", ROLE_CIRCLE, ROLE_CHAIN, BYTES(1, 1, 1), NONE, BYTES(0, 0, 0, 1, 0, 0, 1, 1, 0)},
 };
 
 static const struct bytes p1_first = P1_FIRST;
@@ -84,15 +99,24 @@ static const struct bytes p10 = BYTES(ELT1, 1, 1, 1, 0, 4, 0, 255);
 static const struct bytes some_a = BYTES(3, 0, 1, 0);
 static const struct bytes a = BYTES(1, 0);
 
-static const struct bytes none = {NULL, 0};
+static const struct bytes none = NONE;
 
 static uint8_t work[WORK];
 static uint8_t output[BERRYTICK_RELEASE_BYTES];
+static uint8_t pairs[BERRYTICK_ROLES * BERRYTICK_ROLES];
 
 static void refill(void)
 {
     memset(work, FILLED, sizeof work);
     memset(output, FILLED, sizeof output);
+    memset(pairs, FILLED, sizeof pairs);
+}
+
+/* The lent bytes begin with the expected ones, and the rest is as it was. */
+static int begins_with(const uint8_t *bytes, size_t length, struct bytes expected)
+{
+    return (expected.length == 0 || memcmp(bytes, expected.start, expected.length) == 0) &&
+           all_are(bytes + expected.length, length - expected.length, FILLED);
 }
 
 /* After an answer the needed work memory is zero; the rest, or after a refusal all of it, is as it was. */
@@ -115,10 +139,10 @@ static void try_comparisons(void)
         size_t names = p->expected.length;
         refill();
         uint32_t code = berrytick_compare(PASS(p->first), PASS(p->second), PASS(p->signature), output, sizeof output,
-                                          work, sizeof work);
+                                          pairs, sizeof pairs, work, sizeof work);
         check(code == 0, p->name);
-        check(memcmp(output, p->expected.start, names) == 0, p->name);
-        check(all_are(output + names, sizeof output - names, FILLED), p->name);
+        check(begins_with(output, sizeof output, p->expected), p->name);
+        check(begins_with(pairs, sizeof pairs, p->pairs), p->name);
         check(work_is_left(needed(names)), p->name);
     }
 }
@@ -143,6 +167,10 @@ static void try_check(void)
     check(counts[0] == UNTOUCHED && counts[1] == UNTOUCHED && counts[2] == UNTOUCHED, "a refused check changes nothing");
     check(berrytick_check(PASS(comparisons[2].first), counts) == 0, "P3's first release");
     check(counts[0] == 4 && counts[1] == 1 && counts[2] == 2, "its names, roles and axioms");
+    const struct bytes circle = ROLE_CIRCLE;
+    const struct bytes falling = BYTES(ELT3, 0, 0, 3, 0, 0, 2, 1, 2, 0, 1);
+    check(berrytick_check(PASS(circle), counts) == 0 && counts[0] == 0 && counts[1] == 3 && counts[2] == 0, "pairs of roles");
+    check(berrytick_check(PASS(falling), counts) == 49 * 256 + 1, "pairs that do not rise");
 }
 
 static void try_work_length(void)
@@ -255,9 +283,11 @@ static void try_concepts(void)
 static void try_rewrite(void)
 {
     const struct bytes expected = BYTES(0x45, 0x4C, 0x54, 2, 0, 4, 0, 0, 1, 0, 0, 0, 2, 2, 1, 0, 2, 0);
+    const struct bytes with_pairs = ROLE_CHAIN;
     uint32_t length = UNTOUCHED;
     refill();
     check(berrytick_rewrite(PASS(p1_first), 3, output, sizeof output, &length) == 3 * 256, "no such version");
+    check(berrytick_rewrite(PASS(with_pairs), 2, output, sizeof output, &length) == 3 * 256 + 1, "a release with pairs of roles");
     check(berrytick_rewrite(PASS(p1_first), 2, output, expected.length - 1, &length) == 41 * 256, "an output that is too short");
     check(length == UNTOUCHED && all_are(output, sizeof output, FILLED), "a refused rewriting changes nothing");
     check(berrytick_rewrite(PASS(p1_first), 2, output, sizeof output, &length) == 0 && length == expected.length &&
@@ -348,6 +378,8 @@ static void try_session_steps(void)
 static void try_empty(void)
 {
     const struct bytes no_names = BYTES(ELT1, 0, 0, 0);
+    const struct bytes one_role = BYTES(ELT1, 0, 1, 0);
+    const struct bytes one = BYTES(1);
     uint32_t counts[3], place[3], length, answer;
     check(berrytick_check(NULL, 0, counts) == 1 * 256 + 1, "NULL is checked");
     check(berrytick_ask(NULL, 0, NULL, 0, NULL, 0, &answer, NULL, 0) == 1 * 256 + 1, "NULL is asked");
@@ -355,12 +387,13 @@ static void try_empty(void)
     check(berrytick_ask(PASS(p10), PASS(a), NULL, 0, &answer, work, sizeof work) == 19 * 256 + 2, "another");
     check(berrytick_ask(PASS(p10), PASS(a), PASS(a), &answer, NULL, 0) == 32 * 256, "work memory that is NULL for a question");
     check(berrytick_show(NULL, 0, NULL, 0, 1, 0, place) == 0 && place_is(place, 1, 0, 0), "NULL is shown");
-    check(berrytick_compare(NULL, 0, NULL, 0, NULL, 0, NULL, 0, NULL, 0) == 1 * 256 + 1, "NULL is compared");
-    check(berrytick_compare(PASS(p1_first), NULL, 0, NULL, 0, NULL, 0, NULL, 0) == 1 * 256 + 2, "with NULL");
-    check(berrytick_compare(PASS(p1_first), PASS(p1_second), NULL, 0, NULL, 0, NULL, 0) == 17 * 256, "over NULL");
-    check(berrytick_compare(PASS(p1_first), PASS(p1_second), PASS(p1_signature), NULL, 0, NULL, 0) == 31 * 256, "to NULL");
-    check(berrytick_compare(PASS(no_names), PASS(no_names), NULL, 0, NULL, 0, NULL, 0) == 32 * 256, "in NULL");
-    check(berrytick_compare(PASS(no_names), PASS(no_names), NULL, 0, NULL, 0, work, sizeof work) == 0, "no names, no roles");
+    check(berrytick_compare(NULL, 0, NULL, 0, NULL, 0, NULL, 0, NULL, 0, NULL, 0) == 1 * 256 + 1, "NULL is compared");
+    check(berrytick_compare(PASS(p1_first), NULL, 0, NULL, 0, NULL, 0, NULL, 0, NULL, 0) == 1 * 256 + 2, "with NULL");
+    check(berrytick_compare(PASS(p1_first), PASS(p1_second), NULL, 0, NULL, 0, NULL, 0, NULL, 0) == 17 * 256, "over NULL");
+    check(berrytick_compare(PASS(p1_first), PASS(p1_second), PASS(p1_signature), NULL, 0, NULL, 0, NULL, 0) == 31 * 256, "to NULL");
+    check(berrytick_compare(PASS(one_role), PASS(one_role), PASS(one), NULL, 0, NULL, 0, NULL, 0) == 50 * 256, "role pairs to NULL");
+    check(berrytick_compare(PASS(no_names), PASS(no_names), NULL, 0, NULL, 0, NULL, 0, NULL, 0) == 32 * 256, "in NULL");
+    check(berrytick_compare(PASS(no_names), PASS(no_names), NULL, 0, NULL, 0, NULL, 0, work, sizeof work) == 0, "no names, no roles");
     check(berrytick_compare_branches(NULL, 0, NULL, 0, NULL, 0, 0, NULL, 0, NULL, 0) == 1 * 256 + 1, "a sheet of NULL");
     check(berrytick_compare_branches(PASS(p1_first), PASS(p1_second), NULL, 0, 0, work, sizeof work, NULL, 0) == 0,
           "a sheet of no branches");

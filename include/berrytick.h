@@ -32,9 +32,12 @@ extern "C" {
 #define BERRYTICK_NUMBER(code) ((code) / 256)
 #define BERRYTICK_SIDE(code) ((code) % 256)
 
-/* The most names of a release, the bytes of the longest release, and the bytes of the longest report. */
+/* The most names and roles of a release, the bytes of the longest release, those of the longest file that a release is rewritten as, and
+ * those of the longest report. */
 #define BERRYTICK_NAMES 1023
-#define BERRYTICK_RELEASE_BYTES 36838
+#define BERRYTICK_ROLES 32
+#define BERRYTICK_RELEASE_BYTES 37349
+#define BERRYTICK_REWRITTEN_BYTES 36838
 #define BERRYTICK_REPORT_BYTES 6202
 
 /* The bytes of a session, and those of the longest file and of the longest signature that one can hold. */
@@ -43,7 +46,7 @@ extern "C" {
 #define BERRYTICK_SESSION_SIGNATURE_BYTES 159
 
 /* Checks a release: n, m and a, its counts of names, roles and axioms, in this order.
- * Refused: 1 to 15, side 1. */
+ * Refused: 1 to 15, and 49 where pairs of roles do not rise; side 1. */
 uint32_t berrytick_check(const uint8_t *file, size_t file_length, uint32_t counts[3]);
 
 /* The bytes of work memory that releases of this many names need, 4 * (names + 1) * (names + 1).
@@ -52,7 +55,7 @@ uint32_t berrytick_work_length(size_t names, uint32_t *length);
 
 /* Asks how two concepts lie by a release: 0 where neither lies below the other, 1 where only `below` lies below `above`, 2 where only `above`
  * lies below `below`, 3 where both do. The low bit is the yes of before, when `below` below `above` alone was asked: that 1 is now 1 or 3.
- * Refused: 1 to 15, side 1; 19, side 1 for `below` and 2 for `above`; 32. */
+ * Refused: 1 to 15 and 49, side 1; 19, side 1 for `below` and 2 for `above`; 32. */
 uint32_t berrytick_ask(const uint8_t *file, size_t file_length,
                        const uint8_t *below, size_t below_length,
                        const uint8_t *above, size_t above_length,
@@ -68,12 +71,15 @@ uint32_t berrytick_show(const uint8_t *first, size_t first_length,
                         uint32_t place[3]);
 
 /* Compares two releases over a signature. A byte of the result for each name: 0 unchanged or not chosen, 1 changed in what follows from it
- * (left), 2 changed in what it follows from (right), 3 both. Releases are equal over a signature where both orders report nothing.
- * Refused: 1 to 15 with the release's side; 16, 17, 18, 31, 32. */
+ * (left), 2 changed in what it follows from (right), 3 both. A byte of the role result for each two of the m roles, that of r and s at
+ * r * m + s: 1 where both are chosen and r lies under s by the first release and not by the second, else 0. A release without pairs of roles
+ * reports none. Releases are equal over a signature where both orders report no name and no pair. Bytes beyond n and m * m stay as they were.
+ * Refused: 1 to 15 and 49 with the release's side; 16, 17, 18, 31; 50, where the role result is shorter than m * m; 32. */
 uint32_t berrytick_compare(const uint8_t *first, size_t first_length,
                            const uint8_t *second, size_t second_length,
                            const uint8_t *signature, size_t signature_length,
                            uint8_t *result, size_t result_length,
+                           uint8_t *role_result, size_t role_result_length,
                            uint8_t *work, size_t work_length);
 
 /* What a comparison tells of one branch: the names chosen, those reported on the left and on the right, and the share of names reported, in
@@ -85,8 +91,8 @@ struct berrytick_row {
     uint32_t share;
 };
 
-/* Compares two releases over `count` signatures, which stand one after another: a row for each.
- * Refused: 1 to 15 with the release's side; 16, 42, 17, 18, 43, 32. */
+/* Compares two releases over `count` signatures, which stand one after another: a row for each. Rows tell of names only.
+ * Refused: 1 to 15 and 49 with the release's side; 16, 42, 17, 18, 43, 32. */
 uint32_t berrytick_compare_branches(const uint8_t *first, size_t first_length,
                                     const uint8_t *second, size_t second_length,
                                     const uint8_t *signatures, size_t signatures_length,
@@ -94,8 +100,9 @@ uint32_t berrytick_compare_branches(const uint8_t *first, size_t first_length,
                                     uint8_t *work, size_t work_length,
                                     struct berrytick_row *rows, size_t rows_length);
 
-/* Compares two releases over a signature and writes the report: its length. The text is ASCII, and no byte 0 follows it.
- * Refused: 33, before all others, where the output is shorter than the longest report, BERRYTICK_REPORT_BYTES; 1 to 15 with the release's
+/* Compares two releases over a signature and writes the report: its length. It tells of names only: of releases with pairs of roles that
+ * report no name in either order, berrytick_compare tells whether they are equal. The text is ASCII, and no byte 0 follows it.
+ * Refused: 33, before all others, where the output is shorter than the longest report, BERRYTICK_REPORT_BYTES; 1 to 15 and 49 with the release's
  * side; 16, 17, 18, 32. */
 uint32_t berrytick_report(const uint8_t *first, size_t first_length,
                           const uint8_t *second, size_t second_length,
@@ -117,7 +124,7 @@ uint32_t berrytick_report(const uint8_t *first, size_t first_length,
 /* Shows a concept for a name that a comparison reports on a side, 1 (left) or 2 (right): over the names and roles of the signature alone, it
  * lies above the name (left), or below it (right), by the first release and not by the second. The count is that of the rows written; it is 0
  * exactly where the name is not reported on that side, where there is no such name or no such side. Numbers after these rows stay as they were.
- * Refused: 1 to 15 with the release's side; 16, 17, 18, 32; 44, where fewer numbers are lent than BERRYTICK_CONCEPT_NUMBERS of the names. */
+ * Refused: 1 to 15 and 49 with the release's side; 16, 17, 18, 32; 44, where fewer numbers are lent than BERRYTICK_CONCEPT_NUMBERS of the names. */
 uint32_t berrytick_show_concept(const uint8_t *first, size_t first_length,
                                 const uint8_t *second, size_t second_length,
                                 const uint8_t *signature, size_t signature_length,
@@ -129,7 +136,7 @@ uint32_t berrytick_show_concept(const uint8_t *first, size_t first_length,
 /* Checks rows from any editor for a name and a side: 1 where the side is 1 or 2, the name is chosen, there is a row, each row, used or not, is
  * as above and keeps to the signature, and the last shows that difference; else 0. What was shown, and no row more, is answered 1. For k rows
  * and releases of n names this needs 2 * (n + 1) * k bytes of work memory more than berrytick_work_length tells.
- * Refused: 1 to 15 with the release's side; 16, 17, 18, 32. */
+ * Refused: 1 to 15 and 49 with the release's side; 16, 17, 18, 32. */
 uint32_t berrytick_check_concept(const uint8_t *first, size_t first_length,
                                  const uint8_t *second, size_t second_length,
                                  const uint8_t *signature, size_t signature_length,
@@ -138,8 +145,9 @@ uint32_t berrytick_check_concept(const uint8_t *first, size_t first_length,
                                  uint32_t *answer,
                                  uint8_t *work, size_t work_length);
 
-/* Writes a release as a file of the wanted version, 1 or 2: its length, at most BERRYTICK_RELEASE_BYTES.
- * Refused: 3, side 0, before all others, where the wanted version is neither 1 nor 2; 1 to 15, side 1; 40, side 1; 41. */
+/* Writes a release of version 1 or 2 as a file of the wanted version, 1 or 2: its length, at most BERRYTICK_REWRITTEN_BYTES.
+ * Refused: 3, side 0, before all others, where the wanted version is neither 1 nor 2; 1 to 15, side 1, 3 for a release of version 3 too;
+ * 40, side 1; 41. */
 uint32_t berrytick_rewrite(const uint8_t *file, size_t file_length,
                            size_t wanted,
                            uint8_t *output, size_t output_length,

@@ -39,6 +39,8 @@ extern "C" {
         signature_length: usize,
         result: *mut u8,
         result_length: usize,
+        role_result: *mut u8,
+        role_result_length: usize,
         work: *mut u8,
         work_length: usize,
     ) -> u32;

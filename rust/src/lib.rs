@@ -14,12 +14,13 @@
 //! let names = berrytick::check(first)?.names;
 //! let mut result = vec![0; names];
 //! let mut work = vec![0; berrytick::work_length(names)?];
-//! berrytick::compare(first, second, &signature, &mut result, &mut work)?;
+//! // There are no roles, and so no pairs of them to tell of.
+//! berrytick::compare(first, second, &signature, &mut result, &mut [], &mut work)?;
 //! // Name 0 changed on both sides, name 2 on the right.
 //! assert_eq!(result, [3, 0, 2, 0]);
 //!
 //! // A signature of another length is refused, and the error says why.
-//! let refusal = berrytick::compare(first, second, &[1], &mut result, &mut work).unwrap_err();
+//! let refusal = berrytick::compare(first, second, &[1], &mut result, &mut [], &mut work).unwrap_err();
 //! assert_eq!(refusal.number, 17);
 //! assert_eq!(refusal.to_string(), "refused 17 side 0: the signature's length is not that of the names and roles");
 //! # Ok::<(), berrytick::Refusal>(())
@@ -35,8 +36,14 @@ pub use session::Session;
 /// The most names that a release can have.
 pub const NAMES: usize = 1023;
 
-/// The bytes of the longest release, in version 2 of the file.
-pub const RELEASE_BYTES: usize = 36838;
+/// The most roles that a release can have.
+pub const ROLES: usize = 32;
+
+/// The bytes of the longest release, in version 3 of the file.
+pub const RELEASE_BYTES: usize = 37349;
+
+/// The bytes of the longest file that a release is rewritten as, in version 2.
+pub const REWRITTEN_BYTES: usize = 36838;
 
 /// The bytes of the longest report. An output that is shorter is refused.
 pub const REPORT_BYTES: usize = 6202;
@@ -122,12 +129,15 @@ pub fn show<'a>(first: &'a [u8], second: &'a [u8], side: usize, name: usize) -> 
 }
 
 /// Compares two releases over a signature: a byte of the result for each name, 0 unchanged or not chosen, 1 changed in what follows from it
-/// (left), 2 changed in what it follows from (right), 3 both.
+/// (left), 2 changed in what it follows from (right), 3 both; and a byte of the role result for each two of the m roles, that of r and s at
+/// r × m + s, 1 where both are chosen and r lies under s by the first release and not by the second, else 0. Releases are equal over a
+/// signature where both orders report no name and no pair of roles.
 pub fn compare(
     first: &[u8],
     second: &[u8],
     signature: &[u8],
     result: &mut [u8],
+    role_result: &mut [u8],
     work: &mut [u8],
 ) -> Result<(), Refusal> {
     Refusal::of(unsafe {
@@ -140,13 +150,15 @@ pub fn compare(
             signature.len(),
             result.as_mut_ptr(),
             result.len(),
+            role_result.as_mut_ptr(),
+            role_result.len(),
             work.as_mut_ptr(),
             work.len(),
         )
     })
 }
 
-/// Compares two releases over `count` signatures, which stand one after another: a row for each.
+/// Compares two releases over `count` signatures, which stand one after another: a row for each. Rows tell of names only.
 pub fn compare_branches(
     first: &[u8],
     second: &[u8],
@@ -173,7 +185,8 @@ pub fn compare_branches(
 }
 
 /// Compares two releases over a signature and writes the report, ASCII, to the start of the output: its length. The output is as long as the
-/// longest report, [`REPORT_BYTES`].
+/// longest report, [`REPORT_BYTES`]. It tells of names only: of releases with pairs of roles that report no name in either order, [`compare`]
+/// tells whether they are equal.
 pub fn report(
     first: &[u8],
     second: &[u8],
@@ -268,7 +281,8 @@ pub fn check_concept(
     Ok(answer)
 }
 
-/// Writes a release as a file of the wanted version, 1 or 2, to the start of the output: its length, at most [`RELEASE_BYTES`].
+/// Writes a release of version 1 or 2 as a file of the wanted version, 1 or 2, to the start of the output: its length, at most
+/// [`REWRITTEN_BYTES`].
 pub fn rewrite(file: &[u8], wanted: usize, output: &mut [u8]) -> Result<usize, Refusal> {
     let mut length = 0;
     Refusal::of(unsafe {

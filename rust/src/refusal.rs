@@ -25,12 +25,12 @@ impl Refusal {
             (1, _) => "the release file is shorter than its header",
             (2, _) => "the release file does not begin with ELT",
             (3, 0) => "the wanted version is neither 1 nor 2",
-            (3, _) => "the version of the release file is neither 1 nor 2",
+            (3, _) => "the release file has no version that this call reads",
             (4, 0) => "more names than a release can have",
             (4, _) => "the release has more names than its version of the file can have",
             (5, _) => "the release has more than 32 roles",
             (6, _) => "the release has more axioms than names",
-            (7, _) => "the release file ends inside an axiom",
+            (7, _) => "the release file ends inside an axiom or a pair of roles",
             (8, _) => "the kind of an axiom is not 1 to 4",
             (9, _) => "a left name, a conjunct or a filler is out of range",
             (10, _) => "a left name is not above the one before",
@@ -54,6 +54,8 @@ impl Refusal {
             (46, _) => "there is no such side, or the session cannot be edited",
             (47, _) => "the name has an axiom already",
             (48, _) => "the name has no axiom",
+            (49, _) => "the pairs of roles do not rise",
+            (50, _) => "the role result is shorter than m × m bytes for m roles",
             _ => "a number that this version does not know",
         }
     }

@@ -76,13 +76,14 @@ fn try_question(case: &[&[u8]]) {
 }
 
 fn try_compare(case: &[&[u8]]) {
-    let &[first, second, signature, results, works, refused, side, bytes, cleared] = case else {
+    let &[first, second, signature, results, role_results, works, refused, side, bytes, pairs, cleared] = case else {
         panic!("fields of a comparison")
     };
-    let (mut result, mut work) = (lent(results), lent(works));
-    let answer = berrytick::compare(first, second, signature, &mut result, &mut work);
+    let [mut result, mut role_result, mut work] = [results, role_results, works].map(lent);
+    let answer = berrytick::compare(first, second, signature, &mut result, &mut role_result, &mut work);
     assert_eq!(answer, expected(refused, side, ()));
     assert!(begins_with(&result, bytes));
+    assert!(begins_with(&role_result, pairs));
     assert!(begins_with(&work, &zeros(cleared)));
 }
 
@@ -264,12 +265,16 @@ fn shown_axioms() {
 #[test]
 fn questions() {
     each_case("question", try_question);
+    each_case("question-roles", try_question);
+    each_case("questions", try_question);
     each_case("deep", try_question);
 }
 
 #[test]
 fn comparisons() {
     each_case("compare", try_compare);
+    each_case("compare-roles", try_compare);
+    each_case("comparisons", try_compare);
 }
 
 #[test]

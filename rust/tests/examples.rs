@@ -1,4 +1,4 @@
-//! P1 to P10, the worked examples of the station.
+//! P1 to P10, the worked examples of the station, and examples of role inclusions.
 
 /// What lent memory holds before a call, so that a byte shows that is not written, or should not be.
 const FILLED: u8 = 0xA5;
@@ -8,17 +8,31 @@ fn release(counts: [u8; 3], axioms: &[&[u8]]) -> Vec<u8> {
     [b"ELT\x01\x00", &counts[..], &axioms.concat()].concat()
 }
 
-/// Compares with more memory than is needed, and looks at all of it.
-fn compared(first: &[u8], second: &[u8], signature: &[u8]) -> Vec<u8> {
-    let names = berrytick::check(first).unwrap().names;
-    let needed = berrytick::work_length(names).unwrap();
-    let mut result = vec![FILLED; names + 8];
-    let mut work = vec![FILLED; needed + 8];
-    berrytick::compare(first, second, signature, &mut result, &mut work).unwrap();
-    assert!(result[names..].iter().all(|&byte| byte == FILLED));
+/// The bytes of a release of version 3: n, m, the pairs of roles and the axioms, which have numbers of two bytes.
+fn release_with_pairs([names, roles]: [u8; 2], pairs: &[[u8; 2]], axioms: &[&[u8]]) -> Vec<u8> {
+    let counts = [names, 0, roles, axioms.len() as u8, 0, pairs.len() as u8];
+    [b"ELT\x03\x00", &counts[..], pairs.as_flattened(), &axioms.concat()].concat()
+}
+
+/// The result and the role result. Compares with more memory than is needed, and looks at all of it.
+fn results(first: &[u8], second: &[u8], signature: &[u8]) -> (Vec<u8>, Vec<u8>) {
+    let berrytick::Counts { names, roles, .. } = berrytick::check(first).unwrap();
+    let (needed, pairs) = (berrytick::work_length(names).unwrap(), roles * roles);
+    let [mut result, mut role_result, mut work] = [names, pairs, needed].map(|length| vec![FILLED; length + 8]);
+    berrytick::compare(first, second, signature, &mut result, &mut role_result, &mut work).unwrap();
+    for rest in [&result[names..], &role_result[pairs..], &work[needed..]] {
+        assert!(rest.iter().all(|&byte| byte == FILLED));
+    }
     assert!(work[..needed].iter().all(|&byte| byte == 0));
-    assert!(work[needed..].iter().all(|&byte| byte == FILLED));
     result.truncate(names);
+    role_result.truncate(pairs);
+    (result, role_result)
+}
+
+/// The result of releases without pairs of roles, of which no pair is reported.
+fn compared(first: &[u8], second: &[u8], signature: &[u8]) -> Vec<u8> {
+    let (result, role_result) = results(first, second, signature);
+    assert!(role_result.iter().all(|&byte| byte == 0));
     result
 }
 
@@ -129,6 +143,36 @@ fn p8_and_p9() {
     assert_eq!(compared(&first, &second, &[1, 0, 1, 1]), [0, 0]);
     assert_eq!(compared(&second, &first, &[1, 0, 1, 1]), [0, 0]);
     assert_eq!(compared(&first, &second, &[1, 1, 1, 1]), [2, 0]);
+}
+
+/// Role 0 lies under role 1 by the first release; by both name 0 lies below ∃0.⊤, and so below ∃1.⊤ by the first alone.
+#[test]
+fn a_role_under_another() {
+    let axiom: &[u8] = &[0, 0, 3, 0, 255, 255];
+    let with = release_with_pairs([1, 2], &[[0, 1]], &[axiom]);
+    let without = release([1, 2, 1], &[&[0, 3, 0, 255]]);
+    assert_eq!(results(&with, &without, &[1, 1, 1]), (vec![1], vec![0, 1, 0, 0]));
+    assert_eq!(results(&without, &with, &[1, 1, 1]), (vec![0], vec![0; 4]));
+    assert_eq!(results(&with, &without, &[0, 1, 1]), (vec![0], vec![0, 1, 0, 0]));
+    assert_eq!(results(&with, &without, &[1, 0, 1]), (vec![1], vec![0; 4]));
+    assert_eq!(shown(&with, &without, &[1, 1, 1], 0, 1), [[0, 0, 0], [3, 1, 0]]);
+    let (some_0, some_1) = ([3, 0, 0], [3, 1, 0]);
+    assert_eq!(berrytick::ask(&with, &some_0, &some_1, &mut [FILLED; 16]), Ok(1));
+    assert_eq!(berrytick::ask(&without, &some_0, &some_1, &mut [FILLED; 16]), Ok(0));
+}
+
+/// A chain of roles, whose middle is not chosen; and a circle of them, by which all are equal.
+#[test]
+fn chains_and_circles_of_roles() {
+    let with = |pairs: &[[u8; 2]]| release_with_pairs([0, 3], pairs, &[]);
+    let (chain, circle) = (with(&[[0, 1], [1, 2]]), with(&[[0, 1], [1, 2], [2, 0]]));
+    let (none, equal) = (with(&[]), with(&[[0, 1], [1, 0], [1, 2], [2, 1]]));
+    let pairs = |first: &[u8], second: &[u8], signature: &[u8]| results(first, second, signature).1;
+    assert_eq!(pairs(&chain, &none, &[1, 0, 1]), [0, 0, 1, 0, 0, 0, 0, 0, 0]);
+    assert_eq!(pairs(&chain, &with(&[[0, 2]]), &[1, 0, 1]), [0; 9]);
+    assert_eq!(pairs(&circle, &equal, &[1, 1, 1]), [0; 9]);
+    assert_eq!(pairs(&equal, &circle, &[1, 1, 1]), [0; 9]);
+    assert_eq!(pairs(&circle, &chain, &[1, 1, 1]), [0, 0, 0, 1, 0, 0, 1, 1, 0]);
 }
 
 #[test]

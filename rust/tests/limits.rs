@@ -1,12 +1,12 @@
 //! The limits that the constants name, and calls from several threads at the same time.
 
-use berrytick::{NAMES, RELEASE_BYTES, REPORT_BYTES};
+use berrytick::{NAMES, RELEASE_BYTES, REPORT_BYTES, REWRITTEN_BYTES, ROLES};
 
 /// A release of version 2 with 1,023 names and 32 roles, and this axiom for each name, by the name's number.
 fn release(axiom: impl Fn(u16) -> Vec<u8>) -> Vec<u8> {
     let names = (NAMES as u16).to_le_bytes();
     let axioms = (0..NAMES as u16).flat_map(|name| [name.to_le_bytes().to_vec(), axiom(name)].concat());
-    [b"ELT\x02\x00", &names[..], &[32], &names].concat().into_iter().chain(axioms).collect()
+    [b"ELT\x02\x00", &names[..], &[ROLES as u8], &names].concat().into_iter().chain(axioms).collect()
 }
 
 /// Name ≡ ∃r.⊤: over the whole signature each name is reported on both sides against a release that leaves it undefined.
@@ -21,7 +21,7 @@ fn none_defined() -> Vec<u8> {
 fn report_of(first: &[u8], second: &[u8]) -> String {
     let mut output = vec![0; REPORT_BYTES];
     let mut work = vec![0; berrytick::work_length(NAMES).unwrap()];
-    let length = berrytick::report(first, second, &vec![1; NAMES + 32], &mut output, &mut work).unwrap();
+    let length = berrytick::report(first, second, &vec![1; NAMES + ROLES], &mut output, &mut work).unwrap();
     output.truncate(length);
     String::from_utf8(output).unwrap()
 }
@@ -37,13 +37,50 @@ fn the_longest_report() {
 #[test]
 fn the_longest_release() {
     let conjuncts: Vec<u8> = (0..16u16).flat_map(u16::to_le_bytes).collect();
-    let longest = release(|_| [&[1, 16], &conjuncts[..]].concat());
+    let without_pairs = release(|_| [&[1, 16], &conjuncts[..]].concat());
+    assert_eq!(without_pairs.len(), REWRITTEN_BYTES);
+    assert_eq!(berrytick::check(&without_pairs).unwrap().axioms, NAMES);
+    let mut output = vec![0; REWRITTEN_BYTES];
+    assert_eq!(berrytick::rewrite(&without_pairs, 2, &mut output), Ok(REWRITTEN_BYTES));
+    assert_eq!(output, without_pairs);
+    let longest = with_pairs(&without_pairs, &first_pairs(255));
     assert_eq!(longest.len(), RELEASE_BYTES);
     assert_eq!(berrytick::check(&longest).unwrap().axioms, NAMES);
-    let mut output = vec![0; RELEASE_BYTES];
-    assert_eq!(berrytick::rewrite(&longest, 2, &mut output), Ok(RELEASE_BYTES));
-    assert_eq!(output, longest);
-    assert_eq!(berrytick::show(&longest, &longest, 2, NAMES - 1).unwrap(), &longest[RELEASE_BYTES - 36..]);
+    assert_eq!(berrytick::rewrite(&longest, 2, &mut output).map_err(|refusal| refusal.number), Err(3));
+    assert_eq!(berrytick::show(&longest, &without_pairs, 1, NAMES - 1).unwrap(), &longest[RELEASE_BYTES - 36..]);
+}
+
+/// So many pairs of roles, as low as there are.
+fn first_pairs(count: u16) -> Vec<[u8; 2]> {
+    (0..count).map(|place| [(place / 32) as u8, (place % 32) as u8]).collect()
+}
+
+/// A release of version 2 as one of version 3 with these pairs.
+fn with_pairs(file: &[u8], pairs: &[[u8; 2]]) -> Vec<u8> {
+    let (header, axioms) = file[5..].split_at(5);
+    [b"ELT\x03\x00", header, &[pairs.len() as u8], pairs.as_flattened(), axioms].concat()
+}
+
+/// Each role under the next, 31 pairs: of 32 roles each lies under those after it, and by a release without pairs under itself alone.
+#[test]
+fn the_longest_role_result() {
+    let none = none_defined();
+    let chain: Vec<[u8; 2]> = (1..ROLES as u8).map(|role| [role - 1, role]).collect();
+    let chain = with_pairs(&none, &chain);
+    let mut result = vec![0; NAMES];
+    let mut role_result = vec![7; ROLES * ROLES + 1];
+    let mut work = vec![0; berrytick::work_length(NAMES).unwrap()];
+    let signature = vec![1; NAMES + ROLES];
+    let mut compared = |first: &[u8], second: &[u8], role_result: &mut [u8]| {
+        berrytick::compare(first, second, &signature, &mut result, role_result, &mut work).unwrap();
+        assert!(result.iter().all(|&byte| byte == 0));
+    };
+    compared(&chain, &none, &mut role_result);
+    let expected = |place: usize| u8::from(place / ROLES < place % ROLES);
+    assert!((0..ROLES * ROLES).all(|place| role_result[place] == expected(place)));
+    compared(&none, &chain, &mut role_result);
+    assert!(role_result[..ROLES * ROLES].iter().all(|&byte| byte == 0));
+    assert_eq!(role_result[ROLES * ROLES], 7);
 }
 
 #[test]

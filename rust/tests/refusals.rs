@@ -15,7 +15,7 @@ fn refusal(number: u8, side: u8) -> Refusal {
 const RELEASE: &[u8] = b"ELT\x01\x00\x02\x01\x01\x00\x02\x01\x01";
 
 /// Release files, each with the number that refuses it.
-const FILES: [(&[u8], u8); 15] = [
+const FILES: [(&[u8], u8); 16] = [
     (b"ELT\x01\x00\x02\x01", 1),
     (b"ELF\x01\x00\x02\x01\x00", 2),
     (b"ELT\x04\x00\x02\x01\x00", 3),
@@ -31,11 +31,13 @@ const FILES: [(&[u8], u8); 15] = [
     (b"ELT\x01\x00\x02\x01\x01\x00\x01\x02\x01\x01", 13),
     (b"ELT\x01\x00\x02\x01\x00\x00", 14),
     (b"ELT\x01\x00\x02\x01\x01\x00\x02\x01\x00", 15),
+    (b"ELT\x03\x00\x02\x00\x01\x00\x00\x02\x00\x00\x00\x00", 49),
 ];
 
 /// Lent memory of every kind, to be found as it was.
 struct Lent {
     result: [u8; 8],
+    role_result: [u8; 8],
     work: [u8; 100],
     output: [u8; berrytick::REPORT_BYTES],
     rows: [Row; 2],
@@ -46,6 +48,7 @@ impl Lent {
     fn new() -> Lent {
         Lent {
             result: [FILLED; 8],
+            role_result: [FILLED; 8],
             work: [FILLED; 100],
             output: [FILLED; berrytick::REPORT_BYTES],
             rows: [UNTOUCHED; 2],
@@ -54,8 +57,8 @@ impl Lent {
     }
 
     fn is_unchanged(&self) -> bool {
-        let Lent { result, work, output, rows, concept } = self;
-        [&result[..], work, output].concat().iter().all(|&byte| byte == FILLED)
+        let Lent { result, role_result, work, output, rows, concept } = self;
+        [&result[..], role_result, work, output].concat().iter().all(|&byte| byte == FILLED)
             && rows.iter().all(|&row| row == UNTOUCHED)
             && concept.iter().all(|&row| row == NO_ROW)
     }
@@ -65,13 +68,15 @@ impl Lent {
 fn files() {
     for (file, number) in FILES {
         let mut lent = Lent::new();
-        let Lent { result, work, output, rows, concept } = &mut lent;
+        let Lent { result, role_result, work, output, rows, concept } = &mut lent;
         let (own, other) = (Err(refusal(number, 1)), Err(refusal(number, 2)));
         assert_eq!(berrytick::check(file).map(|_| ()), own);
         assert_eq!(berrytick::ask(file, &[0], &[0], work).map(|_| ()), own);
-        assert_eq!(berrytick::rewrite(file, 2, output).map(|_| ()), own);
-        assert_eq!(berrytick::compare(file, RELEASE, &[1, 1, 1], result, work), own);
-        assert_eq!(berrytick::compare(RELEASE, file, &[1, 1, 1], result, work), other);
+        // Rewriting knows no version but 1 and 2.
+        let of_rewriting = if number == 49 { Err(refusal(3, 1)) } else { own };
+        assert_eq!(berrytick::rewrite(file, 2, output).map(|_| ()), of_rewriting);
+        assert_eq!(berrytick::compare(file, RELEASE, &[1, 1, 1], result, role_result, work), own);
+        assert_eq!(berrytick::compare(RELEASE, file, &[1, 1, 1], result, role_result, work), other);
         assert_eq!(berrytick::compare_branches(RELEASE, file, &[1, 1, 1], 1, work, rows), other);
         assert_eq!(berrytick::report(RELEASE, file, &[1, 1, 1], output, work).map(|_| ()), other);
         assert_eq!(berrytick::show_concept(RELEASE, file, &[1, 1, 1], 0, 1, concept, work).map(|_| ()), other);
@@ -79,31 +84,32 @@ fn files() {
         assert_eq!(berrytick::show(file, RELEASE, 2, 0), Ok(&b""[..]));
         assert!(lent.is_unchanged());
     }
-    assert_eq!(FILES.map(|(_, number)| number)[..], (1..=15).collect::<Vec<u8>>());
+    assert_eq!(FILES.map(|(_, number)| number)[..], (1..=15).chain([49]).collect::<Vec<u8>>());
 }
 
-/// The second release, the signature, the lengths of the result and of the work memory; the number.
-type Comparison = (&'static [u8], &'static [u8], usize, usize, u8);
+/// The second release, the signature, the lengths of the result, of the role result and of the work memory; the number.
+type Comparison = (&'static [u8], &'static [u8], usize, usize, usize, u8);
 
 #[test]
 fn comparisons() {
     let fewer_names = b"ELT\x01\x00\x01\x01\x00";
     let mut lent = Lent::new();
-    let Lent { result, work, output, rows, concept } = &mut lent;
-    let cases: [Comparison; 5] = [
-        (fewer_names, &[1, 1, 1], 2, 36, 16),
-        (RELEASE, &[1, 1], 2, 36, 17),
-        (RELEASE, &[1, 1, 2], 2, 36, 18),
-        (RELEASE, &[1, 1, 1], 1, 36, 31),
-        (RELEASE, &[1, 1, 1], 2, 35, 32),
+    let Lent { result, role_result, work, output, rows, concept } = &mut lent;
+    let cases: [Comparison; 6] = [
+        (fewer_names, &[1, 1, 1], 2, 1, 36, 16),
+        (RELEASE, &[1, 1], 2, 1, 36, 17),
+        (RELEASE, &[1, 1, 2], 2, 1, 36, 18),
+        (RELEASE, &[1, 1, 1], 1, 0, 36, 31),
+        (RELEASE, &[1, 1, 1], 2, 0, 35, 50),
+        (RELEASE, &[1, 1, 1], 2, 1, 35, 32),
     ];
-    for (second, signature, results, works, number) in cases {
+    for (second, signature, results, role_results, works, number) in cases {
         let expected = Err(refusal(number, 0));
-        assert_eq!(
-            berrytick::compare(RELEASE, second, signature, &mut result[..results], &mut work[..works]),
-            expected
-        );
-        if number != 31 {
+        let (result, role_result) = (&mut result[..results], &mut role_result[..role_results]);
+        let answer = berrytick::compare(RELEASE, second, signature, result, role_result, &mut work[..works]);
+        assert_eq!(answer, expected);
+        // 31 and 50 are of a comparison alone.
+        if number != 31 && number != 50 {
             assert_eq!(berrytick::compare_branches(RELEASE, second, signature, 1, &mut work[..works], rows), expected);
             assert_eq!(berrytick::report(RELEASE, second, signature, output, &mut work[..works]).map(|_| ()), expected);
             let work = &mut work[..works];
@@ -184,7 +190,7 @@ fn work_lengths() {
 /// Every number has a meaning of its own, and numbers that no call has are told from them.
 #[test]
 fn meanings() {
-    let numbers = (1..=19).chain([31, 32, 33, 40, 41, 42, 43, 44, 46, 47, 48]);
+    let numbers = (1..=19).chain([31, 32, 33, 40, 41, 42, 43, 44]).chain(46..=50);
     let unknown = refusal(255, 0).meaning();
     let meanings: BTreeSet<&str> = numbers.clone().map(|number| refusal(number, 1).meaning()).collect();
     assert_eq!(meanings.len(), numbers.count());

@@ -8,12 +8,11 @@
 use mathlib.Core.Path.{◌≡◌, refl}
 use mathlib.Core.Bool.{Bool, true, false}
 use mathlib.Core.List.{List}
-use Prim.Native.Nat.{ℕ, ◌+◌, ◌*◌, ◌-◌, ◌/◌, ◌%◌, ◌≤◌, ◌<◌}
-use native.Mathlib.Nat.{div-add-mod', mod-lt}
+use Prim.Native.Nat.{ℕ, ◌+◌, ◌≤◌, ◌<◌}
 use native.Mathlib.Omega.{arith}
 use borrow.Author.Tests.{eqb-true}
 use lib.Dec.{eqb}
-use lib.ListN.{length}
+use lib.ListN.{length, get_or}
 use Rattle.el.specs.Lists.{pick}
 use Rattle.release.specs.Files.{width_of, count_of, fault, accepted}
 use Rattle.release.specs.Readings.{checked, counts_in}
@@ -23,14 +22,15 @@ use Rattle.release.specs.declared.Counts.{Counts}
 use Rattle.release.specs.declared.show.Place.{Place}
 use Rattle.release.proofs.Checks.{header_sound}
 use Rattle.release.proofs.Linked.{no_header_fault}
-use Rattle.release.proofs.Numbers.{is_width}
 use Rattle.release.proofs.Places.{shown_within}
 use Rattle.release.proofs.Refusing.{is_accepted}
 use Rattle.std.specs.Prelude.{Result, Ok, Err, IfOk}
-use Rattle.rewriting.specs.Rewriting.{Rewrites}
+use Rattle.release.specs.declared.number.Version.{Version}
+use Rattle.release.specs.declared.number.Version.TheVariants.{One, Two, Three}
+use Rattle.rewriting.specs.Rewriting.{Rewrites, RewritesAs}
 use Rattle.rewriting.specs.Refusals.{rewrite_refusal}
 use Rattle.rewriting.specs.declared.refusals.RewriteRefusal.{RewriteRefusal}
-use Rattle.rewriting.proofs.Lengths.{length_found, length_few, count_few}
+use Rattle.rewriting.proofs.Lengths.{accepted_few, length_found, length_few, count_few}
 use Rattle.rewriting.proofs.RoundTrip.{wrote}
 use Rattle.witness.specs.Showing.{ShownAs}
 use Rattle.witness.specs.declared.refusals.ShowRefusal.{ShowRefusal}
@@ -55,46 +55,42 @@ counts_fit s a h =
     let header = header_sound s (no_header_fault s v.0) in
     rw v.1 (record { names = omega (arith, header.names); roles = omega (arith, header.roles); axioms = omega (arith, header.names, header.count) })
 
--- an accepted file is short: its numbers, each of the width of a name, are few
-file_short : (s : List ℕ) → fault s ≡ 0 → length s ≤ 100000
-file_short s ok =
-    let rest : ℕ = length s - (6 + 2 * count_of s) in
-    let width = is_width s in
-    let few : width_of s * (rest / width_of s) ≤ 2 * 36838 = length_few s ok (count_of s) (width_of s) refl refl (width_of s) width.few in
-    let whole : rest / width_of s * width_of s + rest % width_of s ≡ rest = div-add-mod' rest (width_of s) in
-    let left : rest % width_of s < width_of s = mod-lt rest (omega (arith, width.some)) in
-    omega (arith, few, whole, left, width.few, count_few s ok)
-
 pub record PlaceFits (p : Place) : Type 0 where
   pub start : Fits32 p.start
   pub length : Fits32 p.length
 
 -- a part of one of two short files
-part_fits : (s t : List ℕ) → length s ≤ 100000 → length t ≤ 100000 → (p : Place) → p.start + p.length ≤ length (holder s t p) → PlaceFits p
+part_fits : (s t : List ℕ) → length s ≤ 37349 → length t ≤ 37349 → (p : Place) → p.start + p.length ≤ length (holder s t p) → PlaceFits p
 part_fits s t short short' p h = by_side (eqb p.side 2) h
   where
     by_side : (b : Bool) → p.start + p.length ≤ length (pick b t s) → PlaceFits p
     by_side true l = record { start = omega arith; length = omega arith }
     by_side false l = record { start = omega arith; length = omega arith }
 
-pub shown_fits : (s t : List ℕ) (side x : ℕ) (p : Place) → p ≡ shown_place s t side x → PlaceFits p
+pub shown_fits : (s t : List ℕ) → get_or s 10 0 < 256 → get_or t 10 0 < 256 → (side x : ℕ) (p : Place) → p ≡ shown_place s t side x → PlaceFits p
 unfolding shown_place
-shown_fits s t side x p e = rw e (by_files (accepted s) (accepted t) refl refl)
+shown_fits s t byte byte2 side x p e = rw e (by_files (accepted s) (accepted t) refl refl)
   where
     by_files : (a b : Bool) → accepted s ≡ a → accepted t ≡ b → PlaceFits (shown_place s t side x)
     by_files false b f g = rw (shown_place, f) (record { start = omega arith; length = omega arith })
     by_files true false f g = rw (shown_place, f, g) (record { start = omega arith; length = omega arith })
-    by_files true true f g = part_fits s t (file_short s (eqb-true _ _ f)) (file_short t (eqb-true _ _ g)) (shown_place s t side x) (shown_within s t side x)
+    by_files true true f g = part_fits s t (accepted_few s (eqb-true _ _ f) (omega arith)) (accepted_few t (eqb-true _ _ g) (omega arith)) (shown_place s t side x) (shown_within s t side x)
 
 -- a rewritten file
-pub rewriting_short : {w : ℕ} {s o p : List ℕ} (a : Result ℕ RewriteRefusal) → Rewrites w s o p (told rewrite_refusal a) → w ≤ 2 → IfOk a Fits32
-rewriting_short {w} {s} {o} {p} (Ok k) does h =
+short_in : {w : ℕ} {s o p : List ℕ} (a : Result ℕ RewriteRefusal) → Rewrites w s o p (told rewrite_refusal a) → w ≤ 2 → IfOk a Fits32
+short_in {w} {s} {o} {p} (Ok k) does h =
     let found = wrote w s o k does.answers in
     let ok = found.accepted in
     let long = length_found s ok (count_of s) (width_of s) refl refl w in
     let few = length_few s ok (count_of s) (width_of s) refl refl w h in
     omega (arith, found.long, long, few, count_few s ok)
-rewriting_short (Err e) does h = tt
+short_in (Err e) does h = tt
+
+pub rewriting_short : (v : Version) (s o p : List ℕ) (a : Result ℕ RewriteRefusal) → RewritesAs v s o p (told rewrite_refusal a) → IfOk a Fits32
+rewriting_short One s o p a does = short_in a does (omega arith)
+rewriting_short Two s o p a does = short_in a does (omega arith)
+rewriting_short Three s o p (Ok k) does = let e = does.0 in absurd (cc)
+rewriting_short Three s o p (Err e) does = tt
 
 -- a concept shown
 pub rows_fit : {s t g ys zs w v : List ℕ} {side x : ℕ} (a : Result ℕ ShowRefusal) → ShownAs s t g side x ys zs w v a → IfOk a Fits32

@@ -119,25 +119,26 @@ unfolding report_answer fitted
 written_whole n m result o h l = rw (le-ltb _ _ h, le-ltb _ _ l)
 
 -- a comparison that was made, with a result of as many bytes as there can be names
-module _ {s t g b bs w v : List ℕ} (o : List ℕ) (long : longest_report ≤ length o) (all : length b ≡ most_names) (same : length bs ≡ length b) where
-  pub not_compared : {e : CompareRefusal} → Says s t g b bs w v (Err e) → {x r : ℕ} → r ≡ refusal_code (compare_refusal e) → ReportReturns s t g o o x x w v r
+module _ {s t g b bs m ms w v : List ℕ} (o : List ℕ) (long : longest_report ≤ length o) (all : length b ≡ most_names) (same : length bs ≡ length b)
+    (squares : length m ≡ most_roles * most_roles) where
+  pub not_compared : {e : CompareRefusal} → Says s t g b bs m ms w v (Err e) → {x r : ℕ} → r ≡ refusal_code (compare_refusal e) → ReportReturns s t g o o x x w v r
   not_compared {e} says h = record {
     lent = b;
     result = bs;
     answer = Err (compare_refusal e);
     names = all;
-    room = λ _. record { answer = Err e; says = says; told_of = refl };
+    room = λ _. record { answer = Err e; roles_lent = m; role_result = ms; roles_long = squares; says = says; told_of = refl };
     no_room = λ l. absurd (omega arith);
     output = refl;
     returns = record { code = h; lent = refl };
   }
 
-  module _ {c : Compared} (says : Says s t g b bs w v (Ok c)) where
+  module _ {c : Compared} (says : Says s t g b bs m ms w v (Ok c)) where
     abbrev text : List ℕ
     text = report_text c.names c.roles bs
 
     few : (c.names ≤ most_names) × (c.roles ≤ most_roles)
-    few = few_counts (known s t g (length b) (length w) c (sym says.answer)).0
+    few = few_counts (known s t g (length b) (length m) (length w) c (sym says.answer)).0
 
     short : length text ≤ longest_report
     short = report_short c.names c.roles bs few.0 few.1
@@ -158,7 +159,7 @@ module _ {s t g b bs w v : List ℕ} (o : List ℕ) (long : longest_report ≤ l
         result = bs;
         answer = Ok c;
         names = all;
-        room = λ _. record { answer = Ok c; says = says; told_of = refl };
+        room = λ _. record { answer = Ok c; roles_lent = m; role_result = ms; roles_long = squares; says = says; told_of = refl };
         no_room = λ l. absurd (omega arith);
         output = rw whole at writes.leaves;
         returns = rw is_length at gave;

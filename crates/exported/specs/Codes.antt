@@ -5,9 +5,9 @@
 --   check_outcome a, ..        what a call comes to, by what is told of the call in Rattle
 --   CheckReturns, AskReturns, ShowReturns, CompareReturns, SheetReturns, RewriteReturns, ReportReturns, WorkLengthReturns
 --                             the promises: those of the calls in Rattle, and the numbers that stand for their answers
-use Rattle.std.specs.Prelude.{◌≡◌, Bool, true, false, List, [], ◌∷◌, ◌++◌, ℕ, ◌+◌, ◌*◌, ◌^◌, ◌≤◌, ◌<◌, leb, length, drop, Result, Ok, Err}
+use Rattle.std.specs.Prelude.{◌≡◌, Bool, true, false, List, [], ◌∷◌, ◌++◌, ℕ, ◌+◌, ◌*◌, ◌^◌, ◌≤◌, ◌<◌, ◌||◌, eqb, leb, length, drop, Result, Ok, Err}
 use Rattle.el.specs.Lists.{pick}
-use Rattle.release.specs.Files.{most_names, is_version}
+use Rattle.release.specs.Files.{most_names, most_roles}
 use Rattle.release.specs.Readings.{checked}
 use Rattle.release.specs.Refusals.{Numbers, told}
 use Rattle.release.specs.Shown.{shown_place}
@@ -91,9 +91,9 @@ abbrev pub ShowReturns : List ℕ → List ℕ → ℕ → ℕ → List ℕ → 
 ShowReturns s t side x before after r = Returns (Ok (place_numbers (shown_place s t side x))) before after r
 
 -- a comparison and a sheet: no number is lent
-pub record CompareReturns (s t g o o2 w w2 : List ℕ) (r : ℕ) : Type 0 where
+pub record CompareReturns (s t g o o2 p p2 w w2 : List ℕ) (r : ℕ) : Type 0 where
   pub answer : Result Compared CompareRefusal
-  pub says : Says s t g o o2 w w2 answer
+  pub says : Says s t g o o2 p p2 w w2 answer
   pub code : r ≡ code_of (told compare_refusal answer)
 
 pub record SheetReturns (s t gs : List ℕ) (q : ℕ) (ys zs : List Row) (w w2 : List ℕ) (r : ℕ) : Type 0 where
@@ -102,10 +102,13 @@ pub record SheetReturns (s t gs : List ℕ) (q : ℕ) (ys zs : List Row) (w w2 :
   pub code : r ≡ code_of (told sheet_refusal answer)
 
 -- rewriting: the length of the file written. A wanted version that is neither 1 nor 2 is refused 3 with side 0, before all else
+abbrev pub is_written : ℕ → Bool
+is_written wanted = eqb wanted 1 || eqb wanted 2
+
 pub record RewriteReturns (wanted : ℕ) (s o o2 : List ℕ) (before after r : ℕ) : Type 0 where
   pub answer : Result ℕ Numbers
-  pub version : is_version wanted ≡ true → Rewrites wanted s o o2 answer
-  pub no_version : is_version wanted ≡ false → (answer ≡ refusal 3 0) × (o2 ≡ o)
+  pub version : is_written wanted ≡ true → Rewrites wanted s o o2 answer
+  pub no_version : is_written wanted ≡ false → (answer ≡ refusal 3 0) × (o2 ≡ o)
   pub returns : Returns answer before after r
 
 -- the report of a comparison whose result has as many bytes as there can be names: the length of the text. An output shorter than the
@@ -125,7 +128,10 @@ report_after (Err k) result o = o
 -- a comparison of which this is told
 pub record Compares (s t g lent result w w2 : List ℕ) (outcome : Result Compared Numbers) : Type 0 where
   pub answer : Result Compared CompareRefusal
-  pub says : Says s t g lent result w w2 answer
+  pub roles_lent : List ℕ
+  pub role_result : List ℕ
+  pub roles_long : length roles_lent ≡ most_roles * most_roles
+  pub says : Says s t g lent result roles_lent role_result w w2 answer
   pub told_of : told compare_refusal answer ≡ outcome
 
 pub record ReportReturns (s t g o o2 : List ℕ) (before after : ℕ) (w w2 : List ℕ) (r : ℕ) : Type 0 where

@@ -11,7 +11,7 @@ ghost use Rattle.exported.specs.Codes.{RewriteReturns, ReportReturns, WorkLength
 use crate::refusals::NumberRefusal;
 use branches::compare_branches;
 use branches::row::Row;
-use meanings::compare_releases;
+use meanings::{Compared, compare_releases};
 use question::ask_position;
 use release::number::Version;
 use release::show::axiom_place;
@@ -126,18 +126,19 @@ pub fn berrytick_show(
     0
 }
 
-// Compares two releases: a byte for each name in the result.
+// Compares two releases: a byte for each name in the result, and a byte for each two roles in the role result.
 pub fn berrytick_compare(
     first: &[u8],
     second: &[u8],
     signature: &[u8],
     result_bytes: &mut [u8],
+    role_result: &mut [u8],
     work: &mut [u8],
 ) -> u32
     ensures { CompareReturns first.now second.now signature.now
-        result_bytes.old result_bytes.new work.old work.new result }
+        result_bytes.old result_bytes.new role_result.old role_result.new work.old work.new result }
 {
-    code_of(compare_releases(first, second, signature, result_bytes, work))
+    code_of(compare_releases(first, second, signature, result_bytes, role_result, work))
 }
 
 // Compares two releases over `count` signatures: a row for each.
@@ -183,9 +184,17 @@ pub fn berrytick_report(
     if output.len() < REPORT {
         return refusal_code(ReportRefusal::ShortOutput);
     }
-    // A local array, since there is no heap.
+    // Local arrays, since there is no heap. The report tells of names only.
     let mut result = [0u8; Release::NAMES];
-    match compare_releases(first, second, signature, &mut result, work) {
+    let mut role_result = [0u8; Compared::ROLE_RESULT];
+    match compare_releases(
+        first,
+        second,
+        signature,
+        &mut result,
+        &mut role_result,
+        work,
+    ) {
         Ok(counts) => give_length(write_report(counts, &result, output), length),
         Err(refusal) => refusal_code(refusal),
     }

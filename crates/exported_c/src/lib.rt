@@ -52,19 +52,20 @@ pub extern "C" fn berrytick_show(
     exported::berrytick_show(first, second, side, name, place)
 }
 
-// Compares two releases: a byte for each name in the result.
+// Compares two releases: a byte for each name in the result, and a byte for each two roles in the role result.
 #[unsafe(no_mangle)]
 pub extern "C" fn berrytick_compare(
     first: &[u8],
     second: &[u8],
     signature: &[u8],
     result_bytes: &mut [u8],
+    role_result: &mut [u8],
     work: &mut [u8],
 ) -> u32
     ensures { CompareReturns first.now second.now signature.now
-        result_bytes.old result_bytes.new work.old work.new result }
+        result_bytes.old result_bytes.new role_result.old role_result.new work.old work.new result }
 {
-    exported::berrytick_compare(first, second, signature, result_bytes, work)
+    exported::berrytick_compare(first, second, signature, result_bytes, role_result, work)
 }
 
 // Compares two releases over `count` signatures: a row for each.
