@@ -1,6 +1,6 @@
 """What checking a release file, showing an axiom, rewriting a release and building a signature answer by docs/FORMAT.md,
-and which refusal a question, a comparison, a sheet, a concept shown and rows checked meet: written apart from the library,
-to confirm the tables refusals.txt, shows.txt, rewrites.txt, signatures.txt, questions.txt, comparisons.txt, sheets.txt,
+which refusal a question, a comparison, a sheet, a concept shown and rows checked meet, and the role result of a comparison:
+written apart from the library, to confirm the tables refusals.txt, shows.txt, rewrites.txt, signatures.txt, questions.txt, comparisons.txt, sheets.txt,
 concepts.txt and rowchecks.txt."""
 from typing import NamedTuple
 
@@ -9,14 +9,20 @@ MOST_ROLES = 32
 
 
 class Version(NamedTuple):
-    """What the versions differ in: how many bytes n, a, names and fillers take, the largest n, ⊤ as a filler."""
+    """What the versions differ in: how many bytes n, a, names and fillers take, the largest n, ⊤ as a filler, and whether pairs of
+    roles stand before the axioms."""
     number: int
     width: int
     most_names: int
     everything: int
+    has_pairs: bool
+
+    def header_length(self):
+        """Up to a and, where there are pairs, their count."""
+        return 6 + 2 * self.width + self.has_pairs
 
 
-VERSIONS = {1: Version(1, 1, 127, 255), 2: Version(2, 2, 1023, 65535)}
+VERSIONS = {1: Version(1, 1, 127, 255, False), 2: Version(2, 2, 1023, 65535, False), 3: Version(3, 2, 1023, 65535, True)}
 
 
 class Refused(Exception):
@@ -27,7 +33,7 @@ class Reader:
     """The numbers after the header, one at a time: 7 where there is none or half of one, and then its own range."""
 
     def __init__(self, file, version):
-        self.file, self.version, self.at = file, version, 6 + 2 * version.width
+        self.file, self.version, self.at = file, version, version.header_length()
 
     def number(self, width, refusal, fits):
         if self.at + width > len(self.file):
@@ -45,8 +51,7 @@ class Reader:
         return self.number(self.version.width, refusal, fits)
 
 
-def header(file):
-    """The version, n, m and a."""
+def version_of(file):
     if len(file) < 8:
         raise Refused(1)
     if file[:3] != b"ELT":
@@ -54,8 +59,14 @@ def header(file):
     version = VERSIONS.get(file[3] + 256 * file[4])
     if version is None:
         raise Refused(3)
+    return version
+
+
+def header(file):
+    """The version, n, m and a."""
+    version = version_of(file)
     width = version.width
-    if len(file) < 6 + 2 * width:
+    if len(file) < version.header_length():
         raise Refused(1)
     n = int.from_bytes(file[5:5 + width], "little")
     m = file[5 + width]
@@ -85,10 +96,22 @@ def axiom(reader, n, m, before):
     return left, kind, conjuncts
 
 
-def axioms_of(file):
-    """n, m and the axioms of an accepted file, each with the places where it starts and ends."""
+def pairs(reader, m):
+    """The pairs of roles, lower and upper, which rise."""
+    found = []
+    for _ in range(reader.file[reader.at - 1] if reader.version.has_pairs else 0):
+        pair = tuple(reader.byte(11, lambda x: x < m) for _ in ("lower", "upper"))
+        if found and pair <= found[-1]:
+            raise Refused(49)
+        found.append(pair)
+    return found
+
+
+def pairs_and_axioms_of(file):
+    """n, m, the pairs and the axioms of an accepted file, each axiom with the places where it starts and ends."""
     version, n, m, a = header(file)
     reader, axioms = Reader(file, version), []
+    found_pairs = pairs(reader, m)
     for _ in range(a):
         start = reader.at
         found = axiom(reader, n, m, axioms[-1][0] if axioms else None)
@@ -98,6 +121,11 @@ def axioms_of(file):
     defined = {left for left, kind, *_ in axioms if kind == 2}
     if any(defined & set(conjuncts) for _, _, conjuncts, *_ in axioms):
         raise Refused(15)
+    return n, m, found_pairs, axioms
+
+
+def axioms_of(file):
+    n, m, _, axioms = pairs_and_axioms_of(file)
     return n, m, axioms
 
 
@@ -124,7 +152,11 @@ def show(first, second, side, name):
 
 def rewrite(file, wanted, length):
     """Number, side and the output where the release is rewritten as version `wanted` into so many bytes."""
+    if VERSIONS[wanted].has_pairs:
+        return 3, 0, b""
     try:
+        if version_of(file).has_pairs:
+            raise Refused(3)
         n, m, axioms = axioms_of(file)
     except Refused as refused:
         return refused.args[0], 1, b""
@@ -198,11 +230,30 @@ def first_of(conditions):
     return next(((number, 0) for number, holds in conditions if holds), (0, 0))
 
 
-def comparison(first, second, signature, result, work):
+def comparison(first, second, signature, result, role_result, work):
     number, side, n, m = agreed(first, second)
     return (number, side) if number else first_of((
         (17, len(signature) != n + m), (18, any(byte > 1 for byte in signature)),
-        (31, result < n), (32, work < 4 * (n + 1) ** 2)))
+        (31, result < n), (50, role_result < m * m), (32, work < 4 * (n + 1) ** 2)))
+
+
+def roles_above(file, role):
+    """The roles that a role lies under, by the pairs of an accepted release: itself, and those that are reached by chains."""
+    above, listed = {role}, pairs_and_axioms_of(file)[2]
+    while True:
+        more = {upper for lower, upper in listed if lower in above} - above
+        if not more:
+            return above
+        above |= more
+
+
+def role_result(first, second, signature):
+    """The bytes of an accepted comparison, m for each role: 1 where both roles are chosen and the one lies under the other by the first
+    release and not by the second."""
+    _, n, m, _ = header(first)
+    chosen = {role for role in range(m) if signature[n + role] == 1}
+    reported = {role: chosen & roles_above(first, role) - roles_above(second, role) for role in chosen}
+    return bytes(upper in reported.get(role, ()) for role in range(m) for upper in range(m))
 
 
 def concept(first, second, signature, lent, work):

@@ -3,12 +3,13 @@
 
 usage: tools/vectors.py FOLDER..
 
-The folders hold vectors, NAME.jsonl, one JSON object a line with bytes in hex; the first that has a family's counts. The
-cases of the families `refusals`, `shows`, `rewrites`, `signatures`, `questions`, `comparisons`, `sheets`, `concepts` and
-`rowchecks` come from the tables of that name beside this script; release.py confirms these, of the last five which are
-refused and how many names are chosen. Those of the family `deep` are made here, those of the family `lines` of the
-vectors `sheet`, those of the families `starts` and `steps` of the vectors `session`, and those of the families `held`
-and `edits` of the table sessions.txt, which release.py confirms too, but for the result bytes.
+The folders hold vectors, NAME.jsonl, one JSON object a line with bytes in hex, the newest folder first. Those of a family come from
+all folders that have it; of an older folder those lines are left out that have a file of version 3, which was refused then. The cases
+of the families `refusals`, `shows`, `rewrites`, `signatures`, `questions`, `comparisons`, `sheets`, `concepts` and `rowchecks` come
+from the tables of that name beside this script; release.py confirms these, of the last five which are refused, how many names are
+chosen and what the role result is. Those of the family `deep` are made here, those of the family `lines` of the vectors `sheet`,
+those of the families `starts` and `steps` of the vectors `session`, and those of the families `held` and `edits` of the table
+sessions.txt, which release.py confirms too, but for the result bytes.
 
 A data file is a case after the other. A case is a length of four bytes and that many bytes: its fields, one after the
 other, each again a length of four bytes and that many bytes. A number is a field of one to eight bytes. Numbers and
@@ -19,9 +20,11 @@ The fields of a case: first what the call is given, then what it answers.
     check, refusals     file; number, side, n, m, a
     show, shows         first, second, side, name; file that holds the part, its start, the part
     rewrite, rewrites   file, wanted version, length of the output; number, side, the rewritten file
-    question, questions, deep    file, c, d, length of the work memory; number, side, value, zeros
-    compare, comparisons         first, second, signature, lengths of the result and the work memory; number, side, result,
-                        zeros
+    question, question-roles, questions, deep
+                        file, c, d, length of the work memory; number, side, value, zeros
+    compare, compare-roles, comparisons
+                        first, second, signature, lengths of the result, the role result and the work memory; number, side, result,
+                        role result, zeros
     station             first, second, signature; the text
     lines               first, second, the signatures; the text of the program `sheet`
     sheet, sheets       first, second, how many signatures, the signatures, how many rows, length of the work memory; number,
@@ -40,8 +43,8 @@ The fields of a case: first what the call is given, then what it answers.
 
 The bytes of a session past those given are marked; so the file of a length above its bytes goes on in marks.
 
-Where a call is refused, n, m, a, value and zeros are 0, and the result and the rewritten file have no byte: what is lent
-stays as it was.
+Where a call is refused, n, m, a, value and zeros are 0, and the results and the rewritten file have no byte: what is lent stays
+as it was.
 
 A family more from the folders is a line more in VECTORS: for each field its key and how it is written.
 """
@@ -100,14 +103,18 @@ def text(value):
     return value.encode("ascii")
 
 
+QUESTION = dict(file=bytes.fromhex, c=bytes.fromhex, d=bytes.fromhex, work_len=number, number=number, side=number,
+                value=number, zeros=number)
+COMPARE = dict(first=bytes.fromhex, second=bytes.fromhex, sig=bytes.fromhex, result_len=number, role_len=number,
+               work_len=number, number=number, side=number, result=bytes.fromhex, roles=bytes.fromhex, zeros=number)
 VECTORS = {
     "check": dict(file=bytes.fromhex, number=number, side=number, n=number, m=number, a=number),
     "show": dict(first=bytes.fromhex, second=bytes.fromhex, side=number, name=number, file=number, start=number,
                  part=bytes.fromhex),
-    "question": dict(file=bytes.fromhex, c=bytes.fromhex, d=bytes.fromhex, work_len=number, number=number, side=number,
-                     value=number, zeros=number),
-    "compare": dict(first=bytes.fromhex, second=bytes.fromhex, sig=bytes.fromhex, result_len=number, work_len=number,
-                    number=number, side=number, result=bytes.fromhex, zeros=number),
+    "question": QUESTION,
+    "question-roles": QUESTION,
+    "compare": COMPARE,
+    "compare-roles": COMPARE,
     "rewrite": dict(file=bytes.fromhex, wanted=number, out_len=output, number=number, side=number,
                     out_file=bytes.fromhex),
     "sheet": dict(first=bytes.fromhex, second=bytes.fromhex, q=number, sigs=bytes.fromhex, rows_len=number, work_len=number,
@@ -149,9 +156,16 @@ def write(family, cases):
 
 
 def outside(folders, family):
-    """The family's vectors, from the first folder that has them."""
-    path = next(path for path in (folder / f"{family}.jsonl" for folder in folders) if path.exists())
-    return map(json.loads, path.read_text().splitlines())
+    """The family's vectors, from all folders that have them: of all but the first, without those that have a file of version 3."""
+    paths = [path for path in (folder / f"{family}.jsonl" for folder in folders) if path.exists()]
+    for path in paths:
+        for row in map(json.loads, path.read_text().splitlines()):
+            if path == paths[0] or not any(is_version_3(row[key]) for key in ("file", "first", "second") if key in row):
+                yield row
+
+
+def is_version_3(file):
+    return bytes.fromhex(file)[:5] == b"ELT\x03\x00"
 
 
 def vectors(folders, family):
@@ -343,10 +357,10 @@ def expected(words):
     return 0, 0, words[1:] if words[0] == "ok" else words
 
 
-def confirmed(name, line, answer, refusal):
-    """Stops where release.py refuses another way than the table says."""
-    if answer != refusal:
-        sys.exit(f"{name}.txt: {line}: {refusal}")
+def confirmed(name, line, answer, told):
+    """Stops where release.py tells another refusal, or another role result, than the table."""
+    if answer != told:
+        sys.exit(f"{name}.txt: {line}: {told}")
 
 
 def questions():
@@ -368,11 +382,14 @@ def comparisons():
         asked, answer = line.split("=")
         *files, lengths = asked.split("|")
         first, second, signature = map(file_bytes, files)
-        result, work = map(int, lengths.split())
+        lengths = list(map(int, lengths.split()))
+        answer, _, pairs = answer.partition(",")
+        pairs = file_bytes(pairs)
         number_, side, words = expected(answer.split())
-        confirmed("comparisons", line, (number_, side), release.comparison(first, second, signature, result, work))
-        cases.append([first, second, signature, number(result), number(work), number(number_), number(side),
-                      file_bytes(" ".join(words or [])), number(0 if words is None else needed(first))])
+        confirmed("comparisons", line, (number_, side), release.comparison(first, second, signature, *lengths))
+        confirmed("comparisons", line, pairs, b"" if words is None else release.role_result(first, second, signature))
+        cases.append([first, second, signature, *map(number, lengths), number(number_), number(side),
+                      file_bytes(" ".join(words or [])), pairs, number(0 if words is None else needed(first))])
     return cases
 
 
@@ -444,13 +461,38 @@ def rowchecks():
     return cases
 
 
-def circle(kind, version=1, names=127):
-    """A release with one role in which each name is, by this kind, ∃ of the next, and the last of the first."""
+def circle(kind, version=1, names=127, pairs=None):
+    """A release in which each name is, by this kind, ∃ of the next, and the last of the first: by its one role, or, in version 3 with these
+    pairs, by all of 32 roles in turn."""
     def written(number):
-        return number.to_bytes(version, "little")
+        return number.to_bytes(release.VERSIONS[version].width, "little")
 
-    axioms = b"".join(written(name) + bytes([kind, 0]) + written((name + 1) % names) for name in range(names))
-    return b"ELT" + bytes([version, 0]) + written(names) + bytes([1]) + written(names) + axioms
+    roles = 1 if pairs is None else 32
+    listed = b"" if pairs is None else bytes([len(pairs)]) + b"".join(map(bytes, pairs))
+    axioms = b"".join(written(name) + bytes([kind, name % roles]) + written((name + 1) % names) for name in range(names))
+    return b"ELT" + bytes([version, 0]) + written(names) + bytes([roles]) + written(names) + listed + axioms
+
+
+def deep_roles():
+    """Questions about such circles whose roles lie each under the next, and whose roles lie in a circle: 126 ∃ in each other, by the roles
+    of the release's own, by the lowest, by the highest."""
+    def nested(roles):
+        return b"".join(bytes([3, role]) for role in roles) + bytes([1, 126, 0])
+
+    own, lowest, highest = (nested(roles) for roles in ([name % 32 for name in range(126)], [0] * 126, [31] * 126))
+    first = bytes([1, 0, 0])
+    rising = [(role, role + 1) for role in range(31)]
+    chain = [circle(kind, 3, pairs=rising) for kind in (3, 4)]
+    equal = [circle(kind, 3, pairs=[*rising, (31, 0)]) for kind in (3, 4)]
+    none = [circle(kind, 3, pairs=[]) for kind in (3, 4)]
+    return [answered(file, below, above, 65536, value) for below, above, files, values in (
+        # what is below the name, and above it: its own ∃, and by rules only what is above; those by higher roles; all, where roles are equal
+        (first, own, chain, (1, 3)), (first, highest, chain, (1, 1)), (first, lowest, chain, (0, 2)),
+        (first, own, equal, (1, 3)), (first, highest, equal, (1, 3)), (first, lowest, equal, (1, 3)),
+        (first, own, none, (1, 3)), (first, highest, none, (0, 0)), (first, lowest, none, (0, 0)),
+        # and among each other
+        (lowest, own, chain, (1, 1)), (highest, own, chain, (2, 2)), (lowest, highest, equal, (3, 3)), (lowest, highest, none, (0, 0)),
+    ) for file, value in zip(files, values)]
 
 
 def deep(version):
@@ -535,7 +577,7 @@ def main():
     write("sheets", sheets())
     write("concepts", concepts())
     write("rowchecks", rowchecks())
-    write("deep", deep(1) + deep(2) + wide())
+    write("deep", deep(1) + deep(2) + wide() + deep_roles())
     write("starts", starts(folders))
     write("steps", steps(folders))
     held, edits = sessions()

@@ -35,9 +35,11 @@ fn main(rt: HostRuntime) -> io::Result<()> {
     family(&rt, "shows", show::judge)?;
     family(&rt, "signatures", signatures::judge)?;
     family(&rt, "question", questions::judge)?;
+    family(&rt, "question-roles", questions::judge)?;
     family(&rt, "questions", questions::judge)?;
     family(&rt, "deep", questions::judge)?;
     family(&rt, "compare", compare::judge)?;
+    family(&rt, "compare-roles", compare::judge)?;
     family(&rt, "comparisons", compare::judge)?;
     family(&rt, "station", |case| {
         printed::judge(case, programs::station)

@@ -19,7 +19,7 @@ pub(crate) fn judge(case: &[u8]) -> Verdict {
     )
 }
 
-// The data files have no version but 1 and 2, and any other is taken for 2: a case has no way to tell that it is wrong.
+// The data files have no version but 1 to 3, and any other is taken for 2: a case has no way to tell that it is wrong.
 fn rewritten(case: Case, output: &mut [u8]) -> Verdict {
     let Case([file, version, _, number, side, expected, ..]) = case;
     let version = Version::try_from(number_in(version)).unwrap_or(Version::Two);

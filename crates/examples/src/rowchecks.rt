@@ -9,7 +9,7 @@ use std::array;
 use witness::checking::check_concept;
 
 // How many numbers a case can lend for rows, and the bytes of each.
-const NUMBERS: usize = 512;
+const NUMBERS: usize = 640;
 
 const NUMBER: usize = 4;
 

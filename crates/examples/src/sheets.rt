@@ -17,6 +17,9 @@ const ROW: usize = 8;
 
 const NUMBER: usize = 2;
 
+// The bytes of the longest role result.
+const ROLE_PAIRS: usize = Release::ROLES * Release::ROLES;
+
 // What a row holds before the call: no answer has these numbers.
 const MARKED: Row = Row {
     chosen: u32::MAX,
@@ -119,8 +122,16 @@ fn single_rows(case: Case, filled: Filled) -> Verdict {
 fn single_row(case: Case, signature: &[u8], names: usize) -> Row {
     let Case([first, second, ..]) = case;
     let mut result_bytes = [0u8; Release::NAMES];
+    let mut role_result = [0u8; ROLE_PAIRS];
     let mut work = [0u8; ROOM];
-    let _answer = compare_releases(first, second, signature, &mut result_bytes, &mut work);
+    let _answer = compare_releases(
+        first,
+        second,
+        signature,
+        &mut result_bytes,
+        &mut role_result,
+        &mut work,
+    );
     let told = &result_bytes[..names.min(Release::NAMES)];
     let chosen = count(&signature[..names.min(signature.len())], |byte| byte == 1);
     let reported = count(told, |byte| 0 < byte);

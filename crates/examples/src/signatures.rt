@@ -33,8 +33,11 @@ fn wider(built: Signature, step: &[u8]) -> Signature {
     };
     let number = number_in(number);
     if *kind == b'n' {
-        built.with_name(ConceptName(number))
-    } else {
-        built.with_role(RoleName(number))
+        return built.with_name(ConceptName(number));
     }
+    // A number past a byte is no role's, and so changes nothing.
+    let Some(role) = RoleName::numbered(number) else {
+        return built;
+    };
+    built.with_role(role)
 }
