@@ -8,6 +8,7 @@ pub mod bits;
 mod classify;
 mod file;
 mod forward;
+mod inclusions;
 mod question;
 mod rows;
 
@@ -15,6 +16,7 @@ use bits::{is_small, Bits, LARGE, SMALL};
 use classify::Order;
 pub use file::names_of;
 use file::{Release, Version, MOST_ROLES};
+use inclusions::members;
 
 /// Why an input is refused, by the numbers of the file format, and which release or concept is concerned.
 #[derive(Clone, Copy, Debug, PartialEq, Eq)]
@@ -50,7 +52,13 @@ impl<const W: usize> Side<W> {
 /// The signature.
 pub struct Chosen<const W: usize> {
     names: Bits<W>,
-    roles: [bool; MOST_ROLES],
+    roles: u32,
+}
+
+impl<const W: usize> Chosen<W> {
+    fn has_role(&self, role: usize) -> bool {
+        role < MOST_ROLES && self.roles >> role & 1 == 1
+    }
 }
 
 fn read<const W: usize>(file: &[u8], side: u8) -> Result<Release<W>, Refusal> {
@@ -74,18 +82,19 @@ pub fn check(file: &[u8]) -> Result<Counts, Refusal> {
     check_side(file, 1)
 }
 
-/// Writes a byte for each name to `result` and leaves the work memory zero.
+/// Writes a byte for each name to `result`, one for each pair of roles to `role_result`, and leaves the work memory zero.
 pub fn compare(
     first: &[u8],
     second: &[u8],
     signature: &[u8],
     result: &mut [u8],
+    role_result: &mut [u8],
     work: &mut [u8],
 ) -> Result<(), Refusal> {
     if is_small(names_of(first)) {
-        compare_in::<SMALL>(first, second, signature, result, work)
+        compare_in::<SMALL>(first, second, signature, result, role_result, work)
     } else {
-        compare_in::<LARGE>(first, second, signature, result, work)
+        compare_in::<LARGE>(first, second, signature, result, role_result, work)
     }
 }
 
@@ -94,19 +103,36 @@ fn compare_in<const W: usize>(
     second: &[u8],
     signature: &[u8],
     result: &mut [u8],
+    role_result: &mut [u8],
     work: &mut [u8],
 ) -> Result<(), Refusal> {
     let both = read_both::<W>(first, second)?;
     let chosen = choose(signature, &both.0)?;
-    let names = both.0.names;
+    let (names, roles) = (both.0.names, both.0.roles);
     if result.len() < names {
         return Err(refusal(31, 0));
     }
+    let pairs = role_result.get_mut(..roles * roles).ok_or(refusal(50, 0))?;
     let work = enough(work, names)?;
+    write_role_result(&both, &chosen, pairs);
     let (first, second) = (Side::of(both.0), Side::of(both.1));
     write_result(&first, &second, &chosen, result);
     work.fill(0);
     Ok(())
+}
+
+/// 1 where both roles are chosen and the first lies under the second by the first release only.
+fn write_role_result<const W: usize>(
+    (first, second): &(Release<W>, Release<W>),
+    chosen: &Chosen<W>,
+    role_result: &mut [u8],
+) {
+    role_result.fill(0);
+    for lower in members(chosen.roles) {
+        for upper in members(first.inclusions.above(lower) & chosen.roles) {
+            role_result[lower * first.roles + upper] = u8::from(!second.inclusions.has(lower, upper));
+        }
+    }
 }
 
 /// Both releases, where they are accepted and agree in their counts.
@@ -130,12 +156,12 @@ fn choose<const W: usize>(signature: &[u8], release: &Release<W>) -> Result<Chos
     if signature.iter().any(|&byte| byte > 1) {
         return Err(refusal(18, 0));
     }
-    let mut chosen = Chosen { names: Bits::EMPTY, roles: [false; MOST_ROLES] };
+    let mut chosen = Chosen { names: Bits::EMPTY, roles: 0 };
     for (place, _) in signature.iter().enumerate().filter(|(_, &byte)| byte == 1) {
         if place < release.names {
             chosen.names.insert(place);
         } else {
-            chosen.roles[place - release.names] = true;
+            chosen.roles |= 1 << (place - release.names);
         }
     }
     Ok(chosen)
@@ -263,6 +289,7 @@ pub fn rewrite_as_second(file: &[u8], out: &mut [u8]) -> Result<usize, Refusal> 
 
 /// A release that has the wanted version already comes out the same.
 fn rewrite(file: &[u8], wanted: &Version, out: &mut [u8]) -> Result<usize, Refusal> {
+    file::version_without_pairs(file).map_err(|number| refusal(number, 1))?;
     check(file)?;
     let header = file::header(file).map_err(|number| refusal(number, 1))?;
     if !wanted.has_room_for(header.names) {
@@ -291,8 +318,10 @@ mod tests {
             let mut large = small.clone();
             let same = match &input.call {
                 Call::Compare { first, second, signature } => {
-                    compare_in::<SMALL>(first, second, signature, &mut small.result, &mut small.work)
-                        == compare_in::<LARGE>(first, second, signature, &mut large.result, &mut large.work)
+                    let Buffers { result, role_result, work, .. } = &mut small;
+                    let answer = compare_in::<SMALL>(first, second, signature, result, role_result, work);
+                    let Buffers { result, role_result, work, .. } = &mut large;
+                    answer == compare_in::<LARGE>(first, second, signature, result, role_result, work)
                 }
                 Call::Ask { file, below, above } => {
                     ask_in::<SMALL>(file, below, above, &mut small.work)

@@ -24,6 +24,7 @@ pub enum Call {
 #[derive(Clone, PartialEq, Eq)]
 pub struct Buffers {
     pub result: Vec<u8>,
+    pub role_result: Vec<u8>,
     pub work: Vec<u8>,
     pub answer: Result<u32, Refusal>,
 }
@@ -35,17 +36,22 @@ const FILLED: u8 = 0xA5;
 /// Bytes more than a call needs, which it has to leave alone.
 const SPARE: usize = 8;
 
+/// The bytes of the role result of a release with 32 roles.
+pub const MOST_PAIRS: usize = 32 * 32;
+
 impl Buffers {
     pub fn for_names(names: usize) -> Buffers {
-        Buffers::of(names + SPARE, 4 * (names + 1) * (names + 1) + SPARE)
+        Buffers::of(names + SPARE, MOST_PAIRS + SPARE, 4 * (names + 1) * (names + 1) + SPARE)
     }
 
-    pub fn of(result: usize, work: usize) -> Buffers {
-        Buffers { result: vec![FILLED; result], work: vec![FILLED; work], answer: Ok(0) }
+    pub fn of(result: usize, role_result: usize, work: usize) -> Buffers {
+        let lent = |length| vec![FILLED; length];
+        Buffers { result: lent(result), role_result: lent(role_result), work: lent(work), answer: Ok(0) }
     }
 
     pub fn refill(&mut self) {
         self.result.fill(FILLED);
+        self.role_result.fill(FILLED);
         self.work.fill(FILLED);
         self.answer = Ok(0);
     }
@@ -68,13 +74,13 @@ impl Call {
     }
 
     pub fn run(&self, by: Implementation, buffers: &mut Buffers) {
-        let Buffers { result, work, answer } = buffers;
+        let Buffers { result, role_result, work, answer } = buffers;
         *answer = match (self, by) {
             (Call::Compare { first, second, signature }, Implementation::Ours) => {
-                ours::compare(first, second, signature, result, work).map(|()| 0)
+                ours::compare(first, second, signature, result, role_result, work).map(|()| 0)
             }
             (Call::Compare { first, second, signature }, Implementation::Baseline) => {
-                baseline::compare(first, second, signature, result, work).map(|()| 0)
+                baseline::compare(first, second, signature, result, role_result, work).map(|()| 0)
             }
             (Call::Ask { file, below, above }, Implementation::Ours) => ours::ask(file, below, above, work),
             (Call::Ask { file, below, above }, Implementation::Baseline) => baseline_ask(file, below, above, work),

@@ -5,8 +5,8 @@
 
 use crate::agreement;
 use crate::baseline::{self, Asked, Refusal};
-use crate::calls::{Buffers, Call};
-use crate::inputs::Input;
+use crate::calls::{Buffers, Call, Implementation, MOST_PAIRS};
+use crate::inputs::{Input, Kind};
 use crate::ours::{self, ConceptRow};
 use crate::practice::Draws;
 use crate::vectors;
@@ -49,7 +49,7 @@ fn are_as_lent(names: usize, rows: &[ConceptRow]) -> bool {
 fn some_reported(first: &[u8], second: &[u8], signature: &[u8], draws: &mut Draws) -> Option<(usize, usize)> {
     let names = baseline::names_of(first);
     let (mut result, mut work) = (vec![0; names], vec![FILLED; work_needed(names, 0)]);
-    baseline::compare(first, second, signature, &mut result, &mut work).ok()?;
+    baseline::compare(first, second, signature, &mut result, &mut [0; MOST_PAIRS], &mut work).ok()?;
     let pairs = (0..names).flat_map(|name| [(name, LEFT), (name, RIGHT)]);
     let all: Vec<(usize, usize)> = pairs.filter(|&(name, side)| result[name] as usize & side != 0).collect();
     (!all.is_empty()).then(|| all[draws.below(all.len())])
@@ -67,8 +67,8 @@ struct Drawn {
 }
 
 impl Drawn {
-    fn of(wide: bool, draws: &mut Draws) -> Drawn {
-        let call = agreement::some_comparison(wide, draws);
+    fn of(kind: Kind, draws: &mut Draws) -> Drawn {
+        let call = agreement::some_comparison(kind, draws);
         let names = call.names();
         let Call::Compare { first, second, signature } = call else { unreachable!("a comparison was drawn") };
         let any_name = if draws.chance(5) { usize::MAX } else { draws.below(names + 2) };
@@ -150,7 +150,7 @@ fn rows_to_check(drawn: &Drawn, shown: &[ConceptRow], draws: &mut Draws) -> Vec<
 }
 
 /// Tries so many inputs; prints how often each number was answered, and how often yes.
-pub fn try_many(count: usize, wide: bool) -> bool {
+pub fn try_many(count: usize, kind: Kind) -> bool {
     let mut draws = Draws::from(0x5DEE_CE66_D1CE_5EED);
     let mut numbers: [BTreeMap<u8, usize>; 2] = Default::default();
     let (mut different, mut written, mut yes) = (0, 0, 0);
@@ -158,7 +158,7 @@ pub fn try_many(count: usize, wide: bool) -> bool {
         *numbers[place].entry(refusal.map_or(0, |refusal| refusal.number)).or_default() += 1;
     };
     for _ in 0..count {
-        let drawn = Drawn::of(wide, &mut draws);
+        let drawn = Drawn::of(kind, &mut draws);
         let Some((answer, shown)) = drawn.shown() else {
             different += 1;
             continue;
@@ -264,7 +264,10 @@ fn measure(input: &Input) -> Option<OfInput> {
     };
     let names = baseline::names_of(first);
     let mut buffers = Buffers::for_names(names);
-    let mut compare = || ours::compare(first, second, signature, &mut buffers.result, &mut buffers.work);
+    let mut compare = || {
+        let Buffers { result, role_result, work, .. } = &mut buffers;
+        ours::compare(first, second, signature, result, role_result, work)
+    };
     compare().ok()?;
     let compare = shortest(|| _ = black_box(compare()));
     let result = buffers.result[..names].to_vec();
@@ -391,7 +394,8 @@ pub fn repeat(input: &Input, named: Option<usize>, check: bool, count: usize) ->
     };
     let names = baseline::names_of(first);
     let mut buffers = Buffers::for_names(names);
-    if ours::compare(first, second, signature, &mut buffers.result, &mut buffers.work).is_err() {
+    input.call.run(Implementation::Ours, &mut buffers);
+    if buffers.answer.is_err() {
         return false;
     }
     let first_reported = buffers.result[..names].iter().position(|&byte| byte != 0);

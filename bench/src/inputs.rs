@@ -16,26 +16,51 @@ pub enum Axiom {
     Some { equal: bool, role: u8, filler: Option<u16> },
 }
 
-/// The version of a release file; the number of a name takes as many bytes, in the file and in a question about it.
+/// A role and one that it lies under.
+pub type Pair = (u8, u8);
+
+/// Which files the inputs have: of version 1 alone; of version 2 too, with more names; of all versions, with pairs of roles.
+#[derive(Clone, Copy, PartialEq, Eq)]
+pub enum Kind {
+    Narrow,
+    Wide,
+    Pairs,
+}
+
+/// The version of a release file.
 #[derive(Clone, Copy, Debug, PartialEq, Eq)]
 pub enum Version {
     One = 1,
     Two = 2,
+    Three = 3,
 }
 
 impl Version {
+    /// How many bytes the number of a name takes, in the file and in a question about it.
+    pub fn width(self) -> usize {
+        if self == Version::One {
+            1
+        } else {
+            2
+        }
+    }
+
     pub fn number(self, number: u16) -> Vec<u8> {
-        number.to_le_bytes()[..self as usize].to_vec()
+        number.to_le_bytes()[..self.width()].to_vec()
     }
 }
 
-/// A release file with an axiom for each name.
-pub fn file_of(version: Version, names: usize, roles: usize, axioms: &[Axiom]) -> Vec<u8> {
+/// A release file with an axiom for each name. Only one of version 3 has pairs.
+pub fn file_of(version: Version, names: usize, roles: usize, pairs: &[Pair], axioms: &[Axiom]) -> Vec<u8> {
     let count = axioms.iter().filter(|axiom| !matches!(axiom, Axiom::None)).count();
     let mut file = [b"ELT".as_slice(), &[version as u8, 0]].concat();
     file.extend(version.number(names as u16));
     file.push(roles as u8);
     file.extend(version.number(count as u16));
+    if version == Version::Three {
+        file.push(pairs.len() as u8);
+        pairs.iter().for_each(|&(lower, upper)| file.extend([lower, upper]));
+    }
     for (name, axiom) in axioms.iter().enumerate() {
         let name = version.number(name as u16);
         match axiom {
@@ -84,7 +109,7 @@ const MOST_NAMES: usize = 1023;
 fn longest_file() -> Vec<u8> {
     let axiom =
         |name: u16| Axiom::Conjunction { equal: false, parts: (0..16).map(|part| name / 16 * 15 + part).collect() };
-    file_of(Version::Two, MOST_NAMES, 0, &(0..MOST_NAMES as u16).map(axiom).collect::<Vec<_>>())
+    file_of(Version::Two, MOST_NAMES, 0, &[], &(0..MOST_NAMES as u16).map(axiom).collect::<Vec<_>>())
 }
 
 /// Every NAME.a of the folder, with NAME.b and NAME.s, by name.

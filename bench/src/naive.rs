@@ -2,10 +2,12 @@
 //! or indices, straight from the rules.
 
 use crate::baseline;
-use crate::inputs::{file_of, Axiom, Version};
-use crate::practice::{self, Draws, Practice};
+use crate::inputs::{file_of, Axiom, Pair, Version};
+use crate::practice::{self, Draws, Form, Practice};
 
 type Table = Vec<Vec<bool>>;
+
+const MOST_ROLES: usize = 32;
 
 /// Sets every cell that the rule allows, until it allows no more.
 fn sweep(size: usize, rule: impl Fn(&Table, usize, usize) -> bool) -> Table {
@@ -23,6 +25,27 @@ fn sweep(size: usize, rule: impl Fn(&Table, usize, usize) -> bool) -> Table {
         }
     }
     table
+}
+
+/// What a release says: its axioms, and which roles lie under which.
+#[derive(Clone)]
+struct Terms {
+    axioms: Vec<Axiom>,
+    under: Table,
+}
+
+impl Terms {
+    fn of(axioms: &[Axiom], pairs: &[Pair]) -> Terms {
+        let by_pair = |under: &Table, lower: usize, upper: usize| {
+            pairs.iter().any(|&(one, other)| usize::from(one) == lower && under[usize::from(other)][upper])
+        };
+        let under = sweep(MOST_ROLES, |under, lower, upper| lower == upper || by_pair(under, lower, upper));
+        Terms { axioms: axioms.to_vec(), under }
+    }
+
+    fn is_under(&self, lower: u8, upper: u8) -> bool {
+        self.under[usize::from(lower)][usize::from(upper)]
+    }
 }
 
 fn conjunction(axioms: &[Axiom], x: usize) -> Option<(bool, Vec<usize>)> {
@@ -44,17 +67,18 @@ fn is_conjunction(axioms: &[Axiom], x: usize) -> bool {
     conjunction(axioms, x).is_some_and(|(equal, _)| equal)
 }
 
-/// The edges of a node by a role, by their ends.
-fn ends(axioms: &[Axiom], order: &Table, x: usize, role: u8) -> Vec<usize> {
-    (0..axioms.len())
+/// The edges of a node by a role, by their ends: those by a role under it are such.
+fn ends(terms: &Terms, order: &Table, x: usize, role: u8) -> Vec<usize> {
+    (0..terms.axioms.len())
         .filter(|&name| order[x][name])
-        .filter_map(|name| restriction(axioms, name))
-        .filter(|&(_, other, _)| other == role)
+        .filter_map(|name| restriction(&terms.axioms, name))
+        .filter(|&(_, other, _)| terms.is_under(other, role))
         .map(|(_, _, end)| end)
         .collect()
 }
 
-fn order(axioms: &[Axiom]) -> Table {
+fn order(terms: &Terms) -> Table {
+    let axioms = &terms.axioms;
     let everything = axioms.len();
     sweep(everything + 1, |below, x, y| {
         let by_part = || {
@@ -66,7 +90,7 @@ fn order(axioms: &[Axiom]) -> Table {
             _ => false,
         };
         let by_edge = || match restriction(axioms, y) {
-            Some((true, role, filler)) => ends(axioms, below, x, role).iter().any(|&end| below[end][filler]),
+            Some((true, role, filler)) => ends(terms, below, x, role).iter().any(|&end| below[end][filler]),
             _ => false,
         };
         x == y || y == everything || by_part() || by_all_parts() || by_edge()
@@ -75,11 +99,20 @@ fn order(axioms: &[Axiom]) -> Table {
 
 struct Both<'a> {
     made: &'a Practice,
+    first_terms: Terms,
+    second_terms: Terms,
     first: Table,
     second: Table,
 }
 
 impl Both<'_> {
+    fn of(made: &Practice) -> Both<'_> {
+        let first_terms = Terms::of(&made.first, &made.first_pairs);
+        let second_terms = Terms::of(&made.second, &made.second_pairs);
+        let (first, second) = (order(&first_terms), order(&second_terms));
+        Both { made, first_terms, second_terms, first, second }
+    }
+
     fn names(&self) -> impl Iterator<Item = usize> + '_ {
         (0..self.made.names).filter(|&name| self.made.signature[name] == 1)
     }
@@ -91,12 +124,12 @@ impl Both<'_> {
     fn forward(&self) -> Table {
         sweep(self.made.names + 1, |table, x, y| {
             let unmatched = |role: u8, end: usize| {
-                ends(&self.made.second, &self.second, y, role).iter().all(|&other| table[end][other])
+                ends(&self.second_terms, &self.second, y, role).iter().all(|&other| table[end][other])
             };
             self.names().any(|name| self.first[x][name] && !self.second[y][name])
                 || self
                     .roles()
-                    .any(|role| ends(&self.made.first, &self.first, x, role).iter().any(|&end| unmatched(role, end)))
+                    .any(|role| ends(&self.first_terms, &self.first, x, role).iter().any(|&end| unmatched(role, end)))
         })
     }
 
@@ -125,14 +158,25 @@ impl Both<'_> {
         let Some((true, role, filler)) = restriction(&self.made.first, x) else {
             return false;
         };
-        if !self.roles().any(|chosen| chosen == role) {
-            return false;
-        }
-        match restriction(&self.made.second, y) {
+        let second = restriction(&self.made.second, y);
+        self.roles().filter(|&chosen| self.first_terms.is_under(chosen, role)).any(|chosen| match second {
             // A partner ⊤ never marks: everything lies below it.
-            Some((true, other, partner)) if other == role => partner != nothing && table[filler][partner],
+            Some((true, other, partner)) if self.second_terms.is_under(chosen, other) => {
+                partner != nothing && table[filler][partner]
+            }
             _ => table[filler][nothing],
-        }
+        })
+    }
+
+    fn role_result(&self) -> Vec<u8> {
+        let roles = 0..self.made.roles as u8;
+        let pairs = roles.clone().flat_map(|lower| roles.clone().map(move |upper| (lower, upper)));
+        let is_chosen = |role: u8| self.roles().any(|chosen| chosen == role);
+        let is_reported = |(lower, upper): Pair| {
+            let follows = [&self.first_terms, &self.second_terms].map(|terms| terms.is_under(lower, upper));
+            is_chosen(lower) && is_chosen(upper) && follows == [true, false]
+        };
+        pairs.map(|pair| u8::from(is_reported(pair))).collect()
     }
 
     fn result(&self) -> Vec<u8> {
@@ -151,7 +195,7 @@ fn define(axioms: &mut Vec<Axiom>, version: Version, concept: &[u8], at: usize) 
     let (axiom, next) = match concept[at] {
         0 => return (None, at + 1),
         1 => {
-            let next = at + 1 + version as usize;
+            let next = at + 1 + version.width();
             let name = concept[at + 1..next].iter().rev().fold(0, |high, &low| 256 * high + low as u16);
             return (Some(name), next);
         }
@@ -171,60 +215,75 @@ fn define(axioms: &mut Vec<Axiom>, version: Version, concept: &[u8], at: usize) 
 }
 
 /// How two concepts lie: 1 where the first lies below the second, and 2 more where the second lies below the first.
-fn position(axioms: &[Axiom], version: Version, first: &[u8], second: &[u8]) -> u8 {
-    ask(axioms, version, first, second) as u8 + 2 * ask(axioms, version, second, first) as u8
+fn position(terms: &Terms, version: Version, first: &[u8], second: &[u8]) -> u8 {
+    ask(terms, version, first, second) as u8 + 2 * ask(terms, version, second, first) as u8
 }
 
 /// Asks by classifying the release with a new name for each concept inside C and D.
-fn ask(axioms: &[Axiom], version: Version, below: &[u8], above: &[u8]) -> bool {
-    let mut axioms = axioms.to_vec();
-    let (below, _) = define(&mut axioms, version, below, 0);
-    let (above, _) = define(&mut axioms, version, above, 0);
-    let node = |name: Option<u16>| name.map_or(axioms.len(), usize::from);
-    order(&axioms)[node(below)][node(above)]
+fn ask(terms: &Terms, version: Version, below: &[u8], above: &[u8]) -> bool {
+    let mut terms = terms.clone();
+    let (below, _) = define(&mut terms.axioms, version, below, 0);
+    let (above, _) = define(&mut terms.axioms, version, above, 0);
+    let node = |name: Option<u16>| name.map_or(terms.axioms.len(), usize::from);
+    order(&terms)[node(below)][node(above)]
 }
 
-fn compared(first: &[u8], second: &[u8], signature: &[u8], names: usize) -> Vec<u8> {
-    let (mut result, mut work) = (vec![9; names], vec![9; 4 * (names + 1) * (names + 1)]);
-    baseline::compare(first, second, signature, &mut result, &mut work).expect("accepted");
+/// The result and the role result.
+fn compared(first: &[u8], second: &[u8], signature: &[u8], names: usize) -> (Vec<u8>, Vec<u8>) {
+    let roles = signature.len() - names;
+    let (mut result, mut role_result) = (vec![9; names], vec![9; roles * roles]);
+    let mut work = vec![9; 4 * (names + 1) * (names + 1)];
+    baseline::compare(first, second, signature, &mut result, &mut role_result, &mut work).expect("accepted");
     assert!(work.iter().all(|&byte| byte == 0));
-    result
+    (result, role_result)
 }
 
-/// One version or the other.
-fn some_version(draws: &mut Draws) -> Version {
-    [Version::One, Version::Two][draws.below(2)]
+/// A version that can say what a release with these pairs says.
+fn some_version(pairs: &[Pair], draws: &mut Draws) -> Version {
+    let choices = [Version::One, Version::Two, Version::Three];
+    choices[if pairs.is_empty() { draws.below(3) } else { 2 }]
 }
 
-fn result_of(made: &Practice) -> Vec<u8> {
-    Both { first: order(&made.first), second: order(&made.second), made }.result()
+/// Both files of an input, of one version or another.
+fn files(made: &Practice, draws: &mut Draws) -> (Vec<u8>, Vec<u8>) {
+    let (first, second) = (some_version(&made.first_pairs, draws), some_version(&made.second_pairs, draws));
+    (made.first_file(first), made.second_file(second))
+}
+
+fn result_of(made: &Practice) -> (Vec<u8>, Vec<u8>) {
+    let both = Both::of(made);
+    (both.result(), both.role_result())
+}
+
+/// A small form, in every other turn with pairs.
+fn some_form(turn: usize, draws: &mut Draws) -> Form {
+    [practice::small_form, practice::small_form_with_pairs][turn % 2](draws)
 }
 
 #[test]
 fn comparisons_agree_with_plain_sweeps() {
     let mut draws = Draws::from(77);
-    let mut reported = [0; 4];
-    for _ in 0..6000 {
-        let form = practice::small_form(&mut draws);
-        let made = practice::practice(&form, &mut draws);
-        let (first, second) = (some_version(&mut draws), some_version(&mut draws));
-        let (first, second) = (made.first_file(first), made.second_file(second));
-        let result = compared(&first, &second, &made.signature, made.names);
-        assert_eq!(result, result_of(&made), "{first:?} {second:?} {:?}", made.signature);
-        result.iter().for_each(|&byte| reported[byte as usize] += 1);
+    let (mut reported, mut pairs_reported) = ([0; 4], [0; 2]);
+    for turn in 0..6000 {
+        let made = practice::practice(&some_form(turn, &mut draws), &mut draws);
+        let (first, second) = files(&made, &mut draws);
+        let results = compared(&first, &second, &made.signature, made.names);
+        assert_eq!(results, result_of(&made), "{first:?} {second:?} {:?}", made.signature);
+        results.0.iter().for_each(|&byte| reported[byte as usize] += 1);
+        results.1.iter().for_each(|&byte| pairs_reported[byte as usize] += 1);
     }
-    println!("bytes 0 to 3: {reported:?}");
-    assert!(reported.iter().all(|&count| count > 100));
+    println!("bytes 0 to 3: {reported:?}, role pairs 0 and 1: {pairs_reported:?}");
+    assert!(reported.iter().chain(&pairs_reported).all(|&count| count > 100));
 }
 
 #[test]
 fn questions_agree_with_plain_sweeps() {
     let mut draws = Draws::from(78);
     let mut answers = [0; 4];
-    for _ in 0..6000 {
-        let form = practice::small_form(&mut draws);
+    for turn in 0..6000 {
+        let form = some_form(turn, &mut draws);
         let made = practice::practice(&form, &mut draws);
-        let version = some_version(&mut draws);
+        let version = some_version(&made.first_pairs, &mut draws);
         let below = practice::concept(version, form.names, form.roles, 4, &mut draws);
         let above = practice::concept(version, form.names, form.roles, 3, &mut draws);
         if below.len().max(above.len()) > 255 {
@@ -232,7 +291,8 @@ fn questions_agree_with_plain_sweeps() {
         }
         let file = made.first_file(version);
         let answer = baseline::ask(&file, &below, &above, &mut [9; 1024]).expect("accepted");
-        assert_eq!(answer, position(&made.first, version, &below, &above), "{file:?} {below:?} {above:?}");
+        let terms = Terms::of(&made.first, &made.first_pairs);
+        assert_eq!(answer, position(&terms, version, &below, &above), "{file:?} {below:?} {above:?}");
         answers[answer as usize] += 1;
     }
     println!("answers 0 to 3: {answers:?}");
@@ -240,8 +300,7 @@ fn questions_agree_with_plain_sweeps() {
 }
 
 /// Adds a definition for each of well-formed rows; gives the node of the last.
-fn define_rows(axioms: &[Axiom], rows: &[[u32; 3]]) -> (Vec<Axiom>, usize) {
-    let mut axioms = axioms.to_vec();
+fn define_rows(axioms: &mut Vec<Axiom>, rows: &[[u32; 3]]) -> usize {
     let mut nodes: Vec<Option<u16>> = Vec::new();
     for &[kind, one, other] in rows {
         let axiom = match kind {
@@ -256,14 +315,13 @@ fn define_rows(axioms: &[Axiom], rows: &[[u32; 3]]) -> (Vec<Axiom>, usize) {
         nodes.push(Some(axioms.len() as u16));
         axioms.push(axiom);
     }
-    let last = axioms.len() - 1;
-    (axioms, last)
+    axioms.len() - 1
 }
 
 /// Whether the last row lies above the name (side 1), or below it.
-fn lies(axioms: &[Axiom], rows: &[[u32; 3]], name: usize, side: usize) -> bool {
-    let (axioms, last) = define_rows(axioms, rows);
-    let order = order(&axioms);
+fn lies(mut terms: Terms, rows: &[[u32; 3]], name: usize, side: usize) -> bool {
+    let last = define_rows(&mut terms.axioms, rows);
+    let order = order(&terms);
     if side == 1 {
         order[name][last]
     } else {
@@ -290,17 +348,18 @@ fn some_rows(made: &Practice, draws: &mut Draws) -> Vec<[u32; 3]> {
 fn rows_agree_with_plain_sweeps() {
     let mut draws = Draws::from(82);
     let mut answers = [0; 2];
-    for _ in 0..3000 {
-        let form = practice::small_form(&mut draws);
-        let made = practice::practice(&form, &mut draws);
-        let (first, second) = (made.first_file(some_version(&mut draws)), made.second_file(some_version(&mut draws)));
+    for turn in 0..3000 {
+        let made = practice::practice(&some_form(turn, &mut draws), &mut draws);
+        let (first, second) = files(&made, &mut draws);
+        let both = Both::of(&made);
         let rows = some_rows(&made, &mut draws);
         let signature = vec![1; made.names + made.roles];
         let mut work = vec![9; 4 * (made.names + 1) * (made.names + 1) + 2 * (made.names + 1) * rows.len()];
         for (name, side) in (0..made.names).flat_map(|name| [(name, 1), (name, 2)]) {
             let asked = baseline::Asked { first: &first, second: &second, signature: &signature, name, side };
             let answer = baseline::check_concept(asked, rows.as_flattened(), &mut work).expect("accepted");
-            let [before, after] = [&made.first, &made.second].map(|axioms| lies(axioms, &rows, name, side));
+            let [before, after] =
+                [&both.first_terms, &both.second_terms].map(|terms| lies(terms.clone(), &rows, name, side));
             assert_eq!(answer, before && !after, "{first:?} {second:?} {rows:?} {name} {side}");
             answers[answer as usize] += 1;
         }
@@ -327,7 +386,9 @@ fn spread(made: &Practice, names: usize) -> Practice {
     let mut signature = vec![0; names + made.roles];
     (0..made.names).for_each(|name| signature[place(name as u16) as usize] = made.signature[name]);
     signature[names..].copy_from_slice(&made.signature[made.names..]);
-    Practice { names, roles: made.roles, first: axioms(&made.first), second: axioms(&made.second), signature }
+    let (first_pairs, second_pairs) = (made.first_pairs.clone(), made.second_pairs.clone());
+    let (first, second) = (axioms(&made.first), axioms(&made.second));
+    Practice { names, roles: made.roles, first, second, first_pairs, second_pairs, signature }
 }
 
 /// Names without an axiom, and not chosen, change nothing about the others.
@@ -335,13 +396,14 @@ fn spread(made: &Practice, names: usize) -> Practice {
 fn large_comparisons_agree_with_small_ones() {
     let mut draws = Draws::from(79);
     for turn in 0..400 {
-        let form = practice::small_form(&mut draws);
-        let made = practice::practice(&form, &mut draws);
+        let made = practice::practice(&some_form(turn, &mut draws), &mut draws);
         let large = spread(&made, [128, 255, 256, 700, 1023][turn % 5]);
-        let result =
-            compared(&large.first_file(Version::Two), &large.second_file(Version::Two), &large.signature, large.names);
-        let small = spread(&Practice { signature: result_of(&made), roles: 0, ..made }, large.names).signature;
-        assert_eq!(result, small);
+        let version = if large.first_pairs.is_empty() { Version::Two } else { Version::Three };
+        let (first, second) = (large.first_file(version), large.second_file(version));
+        let (result, role_result) = compared(&first, &second, &large.signature, large.names);
+        let (small, small_roles) = result_of(&made);
+        let small = spread(&Practice { signature: small, roles: 0, ..made }, large.names).signature;
+        assert_eq!((result, role_result), (small, small_roles));
     }
 }
 
@@ -350,15 +412,16 @@ fn large_comparisons_agree_with_small_ones() {
 fn large_comparisons_and_questions_agree_with_plain_sweeps() {
     let mut draws = Draws::from(80);
     for names in [128, 130, 140] {
-        let form = practice::Form { names, most_parts: 3, changes: 6, ..practice::small_form(&mut draws) };
+        let form = Form { names, most_parts: 3, changes: 6, ..practice::small_form_with_pairs(&mut draws) };
         let made = practice::practice(&form, &mut draws);
-        let (first, second) = (made.first_file(Version::Two), made.second_file(Version::Two));
+        let (first, second) = (made.first_file(Version::Three), made.second_file(Version::Three));
         assert_eq!(compared(&first, &second, &made.signature, names), result_of(&made));
         for _ in 0..3 {
             let [below, above] =
-                [2, 2].map(|depth| practice::concept(Version::Two, names, form.roles, depth, &mut draws));
+                [2, 2].map(|depth| practice::concept(Version::Three, names, form.roles, depth, &mut draws));
             let answer = baseline::ask(&first, &below, &above, &mut vec![9; 4 * (names + 1) * (names + 1)]);
-            assert_eq!(answer, Ok(position(&made.first, Version::Two, &below, &above)));
+            let terms = Terms::of(&made.first, &made.first_pairs);
+            assert_eq!(answer, Ok(position(&terms, Version::Three, &below, &above)));
         }
     }
 }
@@ -384,8 +447,13 @@ fn rewriting_there_and_back() {
             assert_eq!(baseline::rewrite_as_second(from, &mut enough), Ok(two.len()));
         }
     }
-    let large = file_of(Version::Two, 128, 0, &[]);
+    let large = file_of(Version::Two, 128, 0, &[], &[]);
     assert_eq!(baseline::rewrite_as_first(&large, &mut []), Err(baseline::Refusal { number: 40, side: 1 }));
+    let with_pairs = file_of(Version::Three, 128, 0, &[], &[]);
+    for file in [&with_pairs, &with_pairs[..10]] {
+        assert_eq!(baseline::rewrite_as_first(file, &mut []), Err(baseline::Refusal { number: 3, side: 1 }));
+        assert_eq!(baseline::rewrite_as_second(file, &mut []), Err(baseline::Refusal { number: 3, side: 1 }));
+    }
 }
 
 /// What checking answers: the number of a refusal, or 0.
@@ -394,14 +462,32 @@ fn number_of(file: &[u8]) -> u8 {
 }
 
 #[test]
-fn headers_of_both_versions() {
+fn headers_of_all_versions() {
     let header = |version: u8, rest: &[u8]| number_of(&[b"ELT", [version, 0].as_slice(), rest].concat());
     // Eight and nine bytes: the length is tested again once the version is known.
     assert_eq!([header(2, &[0, 0, 0]), header(2, &[0, 0, 0, 0]), header(2, &[0, 0, 0, 0, 0])], [1, 1, 0]);
-    assert_eq!([header(0, &[0, 0, 0]), header(3, &[0; 5]), header(255, &[0; 5])], [3, 3, 3]);
+    assert_eq!([header(3, &[0; 3]), header(3, &[0; 5]), header(3, &[0; 6])], [1, 1, 0]);
+    assert_eq!([header(0, &[0, 0, 0]), header(4, &[0; 5]), header(255, &[0; 6])], [3, 3, 3]);
+    assert_eq!([header(3, &[255, 3, 32, 0, 0, 0]), header(3, &[0, 4, 33, 0, 0, 0])], [0, 4]);
+    assert_eq!([header(3, &[0, 0, 33, 0, 0, 1]), header(3, &[0, 0, 32, 1, 0, 1])], [5, 6]);
     assert_eq!([header(2, &[255, 3, 32, 0, 0]), header(2, &[0, 4, 33, 0, 0])], [0, 4]);
     assert_eq!([header(2, &[255, 3, 33, 0, 4]), header(2, &[255, 3, 32, 0, 4])], [5, 6]);
     assert_eq!([header(1, &[127, 0, 0]), header(1, &[128, 0, 0]), header(2, &[128, 0, 0, 0, 0])], [0, 4, 0]);
+}
+
+#[test]
+fn pairs_of_roles() {
+    // Two roles and no axiom; what a file of version 3 has from the count of pairs on.
+    let pairs = |rest: &[u8]| number_of(&[b"ELT\x03\x00\x00\x00\x02\x00\x00".as_slice(), rest].concat());
+    assert_eq!([pairs(&[1]), pairs(&[1, 0]), pairs(&[1, 0, 1]), pairs(&[2, 0, 1])], [7, 7, 0, 7]);
+    assert_eq!([pairs(&[1, 2]), pairs(&[1, 2, 2]), pairs(&[1, 0, 2]), pairs(&[1, 1, 1])], [11, 11, 11, 0]);
+    assert_eq!([pairs(&[2, 0, 0, 0, 1]), pairs(&[2, 0, 1, 1, 0]), pairs(&[2, 1, 0, 1, 1])], [0, 0, 0]);
+    assert_eq!([pairs(&[2, 0, 1, 0, 1]), pairs(&[2, 0, 1, 0, 0]), pairs(&[2, 1, 0, 0, 1])], [49, 49, 49]);
+    // 49 after 7 and 11 of the same pair, before all of the next; 14 after the last.
+    assert_eq!(
+        [pairs(&[2, 1, 1, 0, 2]), pairs(&[2, 1, 1, 0]), pairs(&[3, 1, 1, 0, 0, 2]), pairs(&[0, 0])],
+        [11, 7, 49, 14]
+    );
 }
 
 #[test]

@@ -51,9 +51,10 @@ pub fn compare(
     second: &[u8],
     signature: &[u8],
     result: &mut [u8],
+    role_result: &mut [u8],
     work: &mut [u8],
 ) -> Result<(), Refusal> {
-    linked::compare(first, second, signature, result, work).map_err(told)
+    linked::compare(first, second, signature, result, role_result, work).map_err(told)
 }
 
 pub fn compare_branches(
@@ -97,6 +98,7 @@ mod linked {
     use crate::baseline;
     pub use crate::baseline::{compare, Refusal};
     pub use crate::calls::baseline_ask as ask;
+    use crate::calls::MOST_PAIRS;
 
     pub const NAME: &str = "stand-in";
 
@@ -118,9 +120,9 @@ mod linked {
         rows: &mut [Row],
     ) -> Result<(), Refusal> {
         let names = baseline::names_of(first);
-        let mut result = vec![0; names];
+        let (mut result, mut role_result) = (vec![0; names], [0; MOST_PAIRS]);
         for (signature, row) in signatures.chunks(signatures.len() / count.max(1)).zip(rows) {
-            compare(first, second, signature, &mut result, work)?;
+            compare(first, second, signature, &mut result, &mut role_result, work)?;
             *row = row_of(signature, &result);
         }
         Ok(())

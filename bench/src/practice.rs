@@ -2,7 +2,7 @@
 //! made the same at each run.
 
 use crate::calls::Call;
-use crate::inputs::{file_of, Axiom, Input, Version};
+use crate::inputs::{file_of, Axiom, Input, Pair, Version};
 
 /// Random numbers that are the same at each run (xorshift).
 pub struct Draws(u64);
@@ -37,6 +37,8 @@ pub struct Form {
     /// How many names get another axiom in the second release.
     pub changes: usize,
     pub chosen: usize,
+    /// How many pairs of roles are drawn; as many of the second release's are drawn anew as axioms are.
+    pub pairs: usize,
 }
 
 /// Two releases by their axioms, and a signature.
@@ -45,16 +47,18 @@ pub struct Practice {
     pub roles: usize,
     pub first: Vec<Axiom>,
     pub second: Vec<Axiom>,
+    pub first_pairs: Vec<Pair>,
+    pub second_pairs: Vec<Pair>,
     pub signature: Vec<u8>,
 }
 
 impl Practice {
     pub fn first_file(&self, version: Version) -> Vec<u8> {
-        file_of(version, self.names, self.roles, &self.first)
+        file_of(version, self.names, self.roles, &self.first_pairs, &self.first)
     }
 
     pub fn second_file(&self, version: Version) -> Vec<u8> {
-        file_of(version, self.names, self.roles, &self.second)
+        file_of(version, self.names, self.roles, &self.second_pairs, &self.second)
     }
 }
 
@@ -80,7 +84,7 @@ const fn form(
     changes: usize,
     chosen: usize,
 ) -> Form {
-    Form { name, names, roles, weights, fewest_parts: 1, most_parts, changes, chosen }
+    Form { name, names, roles, weights, fewest_parts: 1, most_parts, changes, chosen, pairs: 0 }
 }
 
 /// How many inputs of each form.
@@ -111,7 +115,28 @@ pub fn practice(form: &Form, draws: &mut Draws) -> Practice {
     }
     let places = form.names + form.roles;
     let signature = (0..places).map(|_| draws.chance(form.chosen) as u8).collect();
-    Practice { names: form.names, roles: form.roles, first, second, signature }
+    let (first_pairs, second_pairs) = pairs(form, draws);
+    Practice { names: form.names, roles: form.roles, first, second, first_pairs, second_pairs, signature }
+}
+
+/// The pairs of both releases, in their order and each once.
+fn pairs(form: &Form, draws: &mut Draws) -> (Vec<Pair>, Vec<Pair>) {
+    let some_pair = |draws: &mut Draws| (draws.below(form.roles) as u8, draws.below(form.roles) as u8);
+    let mut first = Vec::new();
+    for _ in 0..if form.roles == 0 { 0 } else { form.pairs } {
+        first.push(some_pair(draws));
+    }
+    let mut second = first.clone();
+    for _ in 0..if first.is_empty() { 0 } else { form.changes } {
+        let place = draws.below(second.len());
+        second[place] = some_pair(draws);
+    }
+    let [first, second] = [first, second].map(|mut pairs| {
+        pairs.sort();
+        pairs.dedup();
+        pairs
+    });
+    (first, second)
 }
 
 fn kind(form: &Form, draws: &mut Draws) -> usize {
@@ -146,7 +171,14 @@ pub fn small_form(draws: &mut Draws) -> Form {
         most_parts: 1 + draws.below(3),
         changes: 1 + draws.below(3),
         chosen: 30 + draws.below(71),
+        pairs: 0,
     }
+}
+
+/// A small form with pairs of roles: few roles, so that chains and circles of them are frequent.
+pub fn small_form_with_pairs(draws: &mut Draws) -> Form {
+    let form = small_form(draws);
+    Form { roles: 1 + draws.below(6), pairs: draws.below(9), chosen: form.chosen.max(60), ..form }
 }
 
 /// How many names a wide form has, apart from a few: at the ends of a byte and of each version.

@@ -1,5 +1,5 @@
-//! The worst questions: circular releases with concepts of as many bytes as a question takes; with 127 names in version
-//! 1, and a choice of them with 1,023 names in version 2.
+//! The worst questions: circular releases with concepts of as many bytes as a question takes; with 127 names in versions
+//! 1 and 3, and a choice of them with 1,023 names in version 2.
 
 use crate::calls::Call;
 use crate::inputs::{file_of, Axiom, Input, Version};
@@ -16,6 +16,7 @@ struct Size {
 
 const NARROW: Size = Size { version: Version::One, names: 127, stride: 50 };
 const WIDE: Size = Size { version: Version::Two, names: 1023, stride: 400 };
+const PAIRS: Size = Size { version: Version::Three, ..NARROW };
 
 /// An axiom of a release in which every name leads on to the next, by the place of the name.
 type Link = fn(place: usize, next: u16, after_next: u16) -> Axiom;
@@ -62,7 +63,7 @@ fn release(link: Link, circle: bool, mixed: bool, size: Size) -> Vec<u8> {
         let after_next = name_at((place + 2).min(last), mixed, size);
         axioms[name_at(place, mixed, size) as usize] = without_repeats(link(place, next, after_next));
     }
-    file_of(size.version, size.names, 1, &axioms)
+    file_of(size.version, size.names, 1, &[], &axioms)
 }
 
 fn without_repeats(axiom: Axiom) -> Axiom {
@@ -196,6 +197,11 @@ const WIDE_RELEASES: [&str; 6] = [
 /// Each release with each question, named RELEASE/BELOW/ABOVE.
 pub fn inputs() -> Vec<Input> {
     asked(NARROW.version, &releases(NARROW), &ASKED)
+}
+
+/// The same in version 3, without a pair.
+pub fn pairs_inputs() -> Vec<Input> {
+    asked(PAIRS.version, &releases(PAIRS), &ASKED)
 }
 
 /// The same with 1,023 names, named RELEASE_1023/BELOW/ABOVE.

@@ -3,8 +3,8 @@
 
 use crate::agreement;
 use crate::baseline::{self, Refusal};
-use crate::calls::{Buffers, Call};
-use crate::inputs::Input;
+use crate::calls::{Buffers, Call, MOST_PAIRS};
+use crate::inputs::{Input, Kind};
 use crate::ours;
 use crate::practice::Draws;
 use berrytick::{Session, SESSION_BYTES};
@@ -63,7 +63,7 @@ impl Expected {
     /// Compares these files; where that is not refused, the session holds them, with the bytes of their comparison.
     fn hold(&mut self, files: [Vec<u8>; 2], signature: Vec<u8>, work: &mut [u8]) -> Result<(), Refusal> {
         let mut result = vec![0; 127];
-        baseline::compare(&files[0], &files[1], &signature, &mut result, work)?;
+        baseline::compare(&files[0], &files[1], &signature, &mut result, &mut [0; MOST_PAIRS], work)?;
         let names = baseline::names_of(&files[0]);
         for (place, file) in files.iter().enumerate() {
             self.put(4 * place, &(file.len() as u32).to_le_bytes());
@@ -190,8 +190,8 @@ pub fn try_many(count: usize) -> bool {
     let mut numbers: BTreeMap<u8, usize> = BTreeMap::new();
     let mut different = 0;
     for _ in 0..count {
-        let wide = draws.chance(10);
-        match try_script(agreement::some_comparison(wide, &mut draws), &mut draws) {
+        let kind = if draws.chance(80) { Kind::Narrow } else { [Kind::Wide, Kind::Pairs][draws.below(2)] };
+        match try_script(agreement::some_comparison(kind, &mut draws), &mut draws) {
             Some(met) => met.into_iter().for_each(|number| *numbers.entry(number).or_default() += 1),
             None => different += 1,
         }
@@ -239,7 +239,8 @@ impl Edited {
     /// Compares the files that the session holds after such a step.
     fn compare(&mut self, adds: bool) -> Result<(), Refusal> {
         let first = &self.files[usize::from(!adds)];
-        ours::compare(first, &self.files[2], &self.signature, &mut self.buffers.result, &mut self.buffers.work)
+        let Buffers { result, role_result, work, .. } = &mut self.buffers;
+        ours::compare(first, &self.files[2], &self.signature, result, role_result, work)
     }
 }
 

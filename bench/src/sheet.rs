@@ -52,7 +52,8 @@ impl Sheet<'_> {
     }
 
     fn compare(&self, signature: &[u8], buffers: &mut Buffers) -> Result<(), Refusal> {
-        ours::compare(self.first, self.second, signature, &mut buffers.result, &mut buffers.work)
+        let Buffers { result, role_result, work, .. } = buffers;
+        ours::compare(self.first, self.second, signature, result, role_result, work)
     }
 
     /// The row that a single comparison tells.

@@ -1,6 +1,7 @@
 //! Agreement with outside vectors: one JSON object a line, bytes in hex.
 
 use crate::baseline::{self, Asked, Refusal};
+use crate::calls::MOST_PAIRS;
 use std::path::Path;
 
 /// What follows `"key": ` in a line, up to the next comma or brace, without quotes.
@@ -76,24 +77,29 @@ fn question_agrees(line: &str) -> bool {
         && work_is_right(&work, answer.is_ok(), names)
 }
 
+/// Whether the bytes begin with these, and are as before behind them.
+fn begins_with(bytes: &[u8], start: &[u8]) -> bool {
+    bytes.starts_with(start) && bytes[start.len()..].iter().all(|&byte| byte == FILLED)
+}
+
 fn compare_agrees(line: &str) -> bool {
     let (first, second) = (bytes(line, "first"), bytes(line, "second"));
-    let mut result = vec![FILLED; number(line, "result_len")];
-    let mut work = vec![FILLED; number(line, "work_len")];
-    let answer = baseline::compare(&first, &second, &bytes(line, "sig"), &mut result, &mut work);
+    let [mut result, mut role_result, mut work] =
+        ["result_len", "role_len", "work_len"].map(|length| vec![FILLED; number(line, length)]);
+    let answer = baseline::compare(&first, &second, &bytes(line, "sig"), &mut result, &mut role_result, &mut work);
     let expected = bytes(line, "result");
-    let names = expected.len();
     refusal_of(&answer) == refusal(line)
-        && result[..names] == expected
-        && result[names..].iter().all(|&byte| byte == FILLED)
-        && work_is_right(&work, answer.is_ok(), names)
+        && begins_with(&result, &expected)
+        && begins_with(&role_result, &bytes(line, "roles"))
+        && work_is_right(&work, answer.is_ok(), expected.len())
 }
 
 /// The station program's output: a comparison with 64 KiB of work memory.
 fn station_output(first: &[u8], second: &[u8], signature: &[u8]) -> String {
     let mut result = [FILLED; 1023];
+    let mut role_result = [FILLED; MOST_PAIRS];
     let mut work = vec![FILLED; 1 << 16];
-    if let Err(refusal) = baseline::compare(first, second, signature, &mut result, &mut work) {
+    if let Err(refusal) = baseline::compare(first, second, signature, &mut result, &mut role_result, &mut work) {
         return format!("refused {} side {}\n", refusal.number, refusal.side);
     }
     let names = baseline::names_of(first);
@@ -122,10 +128,7 @@ fn rewrite_agrees(line: &str) -> bool {
         other => panic!("there is no call for version {other}"),
     };
     let expected = bytes(line, "out_file");
-    refusal_of(&answer) == refusal(line)
-        && answer.unwrap_or(0) == expected.len()
-        && out.starts_with(&expected)
-        && out[expected.len()..].iter().all(|&byte| byte == FILLED)
+    refusal_of(&answer) == refusal(line) && answer.unwrap_or(0) == expected.len() && begins_with(&out, &expected)
 }
 
 /// A line of the vectors that is reported, and how many rows another station needs for it.
@@ -199,10 +202,12 @@ fn rowcheck_agrees(line: &str) -> bool {
 
 /// Tries every line of the files and prints how many agree. Gives whether all do. A family without a file is left out.
 pub fn try_all(folder: &Path) -> bool {
-    let families: [(&str, fn(&str) -> bool); 7] = [
+    let families: [(&str, fn(&str) -> bool); 9] = [
         ("check", check_agrees),
         ("question", question_agrees),
+        ("question-roles", question_agrees),
         ("compare", compare_agrees),
+        ("compare-roles", compare_agrees),
         ("station", station_agrees),
         ("rewrite", rewrite_agrees),
         ("shown", shown_agrees),

@@ -5,8 +5,29 @@
 use super::agenda::Agenda;
 use super::bits::{Bits, Fresh, Rows};
 use super::classify::names_with_filler_in;
-use super::file::{Kind, Release};
+use super::file::{Kind, Release, MOST_ROLES};
+use super::inclusions::members;
 use super::{Chosen, Side};
+
+/// A name that the first release defines as ∃q.X has below it ∃r.C for each role r under q and C below X. Of these roles r, where
+/// they are in the signature: the names that the second release defines by ∃ of a role above r, for some r and for every r.
+#[derive(Clone, Copy)]
+struct Restrictions<const W: usize> {
+    some: Bits<W>,
+    every: Bits<W>,
+    are_there: bool,
+}
+
+impl<const W: usize> Restrictions<W> {
+    fn of(role: usize, first: &Release<W>, second: &Release<W>, chosen: &Chosen<W>) -> Restrictions<W> {
+        let roles = first.inclusions.under(role) & chosen.roles;
+        let start = Restrictions { some: Bits::EMPTY, every: second.defined_by_some, are_there: roles != 0 };
+        members(roles).fold(start, |all, role| {
+            let names = second.with_role_above[role] & second.defined_by_some;
+            Restrictions { some: all.some | names, every: all.every & names, ..all }
+        })
+    }
+}
 
 pub struct Backward<'a, const W: usize> {
     first: &'a Release<W>,
@@ -15,6 +36,8 @@ pub struct Backward<'a, const W: usize> {
     nothing: usize,
     /// Nothing, and the names that the second release does not define as a conjunction.
     plain: Bits<W>,
+    /// For each role of the first release what ∃ by it comes to.
+    restrictions: [Restrictions<W>; MOST_ROLES],
     agenda: Agenda<W>,
 }
 
@@ -27,6 +50,7 @@ impl<'a, const W: usize> Backward<'a, W> {
             chosen,
             nothing: names,
             plain: Bits::below(names + 1) - second.release.conjunctions,
+            restrictions: std::array::from_fn(|role| Restrictions::of(role, &first.release, &second.release, chosen)),
             agenda: Agenda::new(&dependents(&first.release, chosen), names + 1),
         };
         backward.start(first, second);
@@ -79,8 +103,8 @@ impl<'a, const W: usize> Backward<'a, W> {
         }
     }
 
-    /// From C below x to ∃r.C below a name defined as ∃r.x. It is not below y where y is not defined by ∃r, nor where
-    /// y is ∃r.Y with C not below Y.
+    /// From C below x to ∃r.C below a name defined as ∃q.x, r under q. It is not below y where y is not defined by ∃ of a role
+    /// above r, nor where y is ∃s.Y with C not below Y.
     fn to_some_over(&mut self, x: usize, fresh: &Fresh<W>) {
         let (first, second) = (self.first, self.second);
         if !first.fillers_of_defined.has(x) {
@@ -92,14 +116,13 @@ impl<'a, const W: usize> Backward<'a, W> {
             names_with_filler_in(second, fresh)
         };
         for name in first.defined_over(x) {
-            let role = first.role(name);
-            if !self.chosen.roles[role] {
+            let Restrictions { some, every, are_there } = self.restrictions[first.role(name)];
+            if !are_there {
                 continue;
             }
-            let same = second.with_role[role] & second.defined_by_some;
-            self.add(name, &narrower.and(&same));
+            self.add(name, &narrower.and(&some));
             if fresh.has(self.nothing) {
-                self.add(name, &Fresh::of(self.plain - same));
+                self.add(name, &Fresh::of(self.plain - every));
             }
         }
     }
@@ -111,7 +134,7 @@ fn dependents<const W: usize>(first: &Release<W>, chosen: &Chosen<W>) -> Rows<W>
     for node in 0..=first.names {
         dependents[node] = first.conjunctions_with.row(node);
         for name in first.defined_over(node) {
-            if chosen.roles[first.role(name)] {
+            if first.inclusions.under(first.role(name)) & chosen.roles != 0 {
                 dependents[node].insert(name);
             }
         }

@@ -23,7 +23,7 @@ impl<const W: usize> Order<W> {
 struct Classification<'a, const W: usize> {
     release: &'a Release<W>,
     agenda: Agenda<W>,
-    /// For a name b with ∃r.X: the names defined as ∃r.Y with X below Y. Each lies above b.
+    /// For a name b with ∃r.X: the names defined as ∃s.Y with X below Y and r under s. Each lies above b.
     above_some: Rows<W>,
 }
 
@@ -65,14 +65,14 @@ impl<'a, const W: usize> Classification<'a, W> {
         }
     }
 
-    /// What lies below y = ∃r.X lies below every ∃r.Y with X below Y.
+    /// What lies below y = ∃r.X lies below every ∃s.Y with X below Y and r under s.
     fn to_wider_some(&mut self, y: usize, fresh: &Fresh<W>) {
         for wider in self.above_some[y].members() {
             self.agenda.add(wider, fresh);
         }
     }
 
-    /// Where X came to lie below y, names with ∃r.X come to lie below those defined as ∃r.y.
+    /// Where X came to lie below y, names with ∃r.X come to lie below those defined as ∃s.y with r under s.
     fn to_some_over(&mut self, y: usize, fresh: &Fresh<W>) {
         let release = self.release;
         if !release.fillers_of_defined.has(y) {
@@ -80,7 +80,7 @@ impl<'a, const W: usize> Classification<'a, W> {
         }
         let narrower = names_with_filler_in(release, fresh);
         for wider in release.defined_over(y) {
-            narrower.and(&release.with_role[release.role(wider)]).each(|name| {
+            narrower.and(&release.with_role_under[release.role(wider)]).each(|name| {
                 self.above_some[name].insert(wider);
                 self.agenda.hand_on(name, wider);
             });
@@ -99,7 +99,7 @@ fn dependents<const W: usize>(release: &Release<W>) -> Rows<W> {
         dependents[node] = release.parts.row(node) | release.conjunctions_with.row(node);
         release.defined_over(node).for_each(|name| dependents[node].insert(name));
         if matches!(release.kind(node), Kind::BelowSome | Kind::Some) {
-            dependents[node] |= release.with_role[release.role(node)] & release.defined_by_some;
+            dependents[node] |= release.with_role_above[release.role(node)] & release.defined_by_some;
         }
     }
     dependents

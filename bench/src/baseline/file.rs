@@ -1,7 +1,9 @@
-//! The release file, versions 1 and 2: reading, refusing and rewriting it. The versions differ in how many bytes the
-//! number of a name takes, so there is one reader, with a width. ⊤ is node n, after the names 0 to n − 1.
+//! The release file, versions 1 to 3: reading, refusing and rewriting it. The versions differ in how many bytes the
+//! number of a name takes, and in whether pairs of roles stand before the axioms, so there is one reader, with a width.
+//! ⊤ is node n, after the names 0 to n − 1.
 
 use super::bits::{Bits, Relation};
+use super::inclusions::{members, Inclusions};
 
 pub const MOST_ROLES: usize = 32;
 const MOST_PARTS: usize = 16;
@@ -20,23 +22,26 @@ pub struct Version {
     most_names: usize,
     /// ⊤ as a filler.
     everything: usize,
+    /// Pairs of roles stand before the axioms, and how many they are at the header's end.
+    has_pairs: bool,
 }
 
-pub const FIRST: Version = Version { number: 1, width: 1, most_names: 127, everything: 255 };
-pub const SECOND: Version = Version { number: 2, width: 2, most_names: 1023, everything: 65535 };
+pub const FIRST: Version = Version { number: 1, width: 1, most_names: 127, everything: 255, has_pairs: false };
+pub const SECOND: Version = Version { number: 2, width: 2, most_names: 1023, everything: 65535, has_pairs: false };
+pub const THIRD: Version = Version { number: 3, has_pairs: true, ..SECOND };
 
 impl Version {
     fn of_number(number: u16) -> Option<Version> {
-        [FIRST, SECOND].into_iter().find(|version| version.number == number)
+        [FIRST, SECOND, THIRD].into_iter().find(|version| version.number == number)
     }
 
     pub fn has_room_for(&self, names: usize) -> bool {
         names <= self.most_names
     }
 
-    /// n, a byte for m, and the count of axioms follow the start.
+    /// n, a byte for m, the count of axioms and that of pairs follow the start.
     fn header(&self) -> usize {
-        START + 2 * self.width + 1
+        START + 2 * self.width + 1 + usize::from(self.has_pairs)
     }
 }
 
@@ -60,17 +65,28 @@ pub struct Header {
     pub names: usize,
     pub roles: usize,
     pub axioms: usize,
+    pub pairs: usize,
 }
 
-/// What the header says, or the number of the first condition that holds of it: 1, 2, 3, 1 again, 4, 5, 6.
-pub fn header(file: &[u8]) -> Result<Header, u8> {
+/// The version of a file, or 1, 2 or 3.
+fn version(file: &[u8]) -> Result<Version, u8> {
     if file.len() < SHORTEST {
         return Err(1);
     }
     if &file[..MARK.len()] != MARK {
         return Err(2);
     }
-    let version = Version::of_number(u16::from_le_bytes([file[3], file[4]])).ok_or(3)?;
+    Version::of_number(u16::from_le_bytes([file[3], file[4]])).ok_or(3)
+}
+
+/// The same, where a file with pairs is of no version that is known.
+pub fn version_without_pairs(file: &[u8]) -> Result<Version, u8> {
+    version(file).and_then(|version| if version.has_pairs { Err(3) } else { Ok(version) })
+}
+
+/// What the header says, or the number of the first condition that holds of it: 1, 2, 3, 1 again, 4, 5, 6.
+pub fn header(file: &[u8]) -> Result<Header, u8> {
+    let version = version(file)?;
     if file.len() < version.header() {
         return Err(1);
     }
@@ -78,10 +94,11 @@ pub fn header(file: &[u8]) -> Result<Header, u8> {
     let names = number_at(file, START, width).ok_or(1)?;
     let roles = file[START + width] as usize;
     let axioms = number_at(file, START + width + 1, width).ok_or(1)?;
+    let pairs = if version.has_pairs { usize::from(file[version.header() - 1]) } else { 0 };
     let conditions = [(4, !version.has_room_for(names)), (5, roles > MOST_ROLES), (6, axioms > names)];
     match conditions.iter().find(|(_, holds)| *holds) {
         Some((number, _)) => Err(*number),
-        None => Ok(Header { version, names, roles, axioms }),
+        None => Ok(Header { version, names, roles, axioms, pairs }),
     }
 }
 
@@ -124,8 +141,11 @@ pub struct Release<const W: usize> {
     pub everything: Bits<W>,
     /// The names defined as a conjunction in which a name is a part.
     pub conjunctions_with: Relation<W>,
-    /// The names with ∃, by role and by filler.
-    pub with_role: [Bits<W>; MOST_ROLES],
+    pub inclusions: Inclusions,
+    /// For each role the names with ∃ by a role that lies under it, and by one that it lies under.
+    pub with_role_under: [Bits<W>; MOST_ROLES],
+    pub with_role_above: [Bits<W>; MOST_ROLES],
+    /// The names with ∃, by filler.
     pub with_filler: Relation<W>,
     /// The names defined by ∃ (≡), and their fillers.
     pub defined_by_some: Bits<W>,
@@ -150,7 +170,9 @@ impl<const W: usize> Release<W> {
             conjunctions: Bits::EMPTY,
             everything: Bits::EMPTY,
             conjunctions_with: Relation::empty(nodes),
-            with_role: [Bits::EMPTY; MOST_ROLES],
+            inclusions: Inclusions::OWN,
+            with_role_under: [Bits::EMPTY; MOST_ROLES],
+            with_role_above: [Bits::EMPTY; MOST_ROLES],
             with_filler: Relation::empty(nodes),
             defined_by_some: Bits::EMPTY,
             fillers_of_defined: Bits::EMPTY,
@@ -194,7 +216,8 @@ impl<const W: usize> Release<W> {
     fn add_some(&mut self, name: usize, role: usize, filler: usize, equal: bool) {
         let kind = if equal { Kind::Some } else { Kind::BelowSome };
         self.axiom[name] = Axiom { kind, role: role as u8, filler: filler as u16 };
-        self.with_role[role].insert(name);
+        members(self.inclusions.above(role)).for_each(|above| self.with_role_under[above].insert(name));
+        members(self.inclusions.under(role)).for_each(|under| self.with_role_above[under].insert(name));
         self.with_filler.add(filler, name);
         if equal {
             self.defined_by_some.insert(name);
@@ -237,6 +260,23 @@ impl Reader<'_> {
         }
     }
 
+    /// Reads the pairs of roles; each lies above the one before.
+    fn pairs(&mut self, count: usize, roles: usize) -> Result<Inclusions, u8> {
+        let mut inclusions = Inclusions::OWN;
+        let mut before = None;
+        for _ in 0..count {
+            let lower = self.byte(11, |role| role < roles)?;
+            let upper = self.byte(11, |role| role < roles)?;
+            if before.is_some_and(|before| (lower, upper) <= before) {
+                return Err(49);
+            }
+            before = Some((lower, upper));
+            inclusions.add(lower, upper);
+        }
+        inclusions.close();
+        Ok(inclusions)
+    }
+
     /// Reads one axiom into the release, and gives its left name.
     fn axiom<const W: usize>(&mut self, release: &mut Release<W>, before: Option<usize>) -> Result<usize, u8> {
         let (names, roles) = (release.names, release.roles);
@@ -262,12 +302,13 @@ impl Reader<'_> {
     }
 }
 
-/// The release that a file holds, or the number of the first condition 1 to 15 that holds of it. The sets have room
+/// The release that a file holds, or the number of the first condition, 1 to 15 or 49, that holds of it. The sets have room
 /// for its names, by `names_of`.
 pub fn read<const W: usize>(file: &[u8]) -> Result<Release<W>, u8> {
     let header = header(file)?;
     let mut release = Release::empty(&header);
     let mut reader = Reader { file, at: header.version.header(), width: header.version.width };
+    release.inclusions = reader.pairs(header.pairs, release.roles)?;
     let mut before = None;
     for _ in 0..release.axioms {
         before = Some(reader.axiom(&mut release, before)?);
@@ -282,8 +323,8 @@ pub fn read<const W: usize>(file: &[u8]) -> Result<Release<W>, u8> {
     Ok(release)
 }
 
-/// An accepted file in a version that has room for its names. Nothing is tested: every byte but the version and the
-/// numbers of names is copied.
+/// An accepted file without pairs in a version that has room for its names. Nothing is tested: every byte but the version and
+/// the numbers of names is copied.
 pub fn rewritten(file: &[u8], header: &Header, to: &Version) -> Vec<u8> {
     let from = header.version;
     let mut out = MARK.to_vec();
@@ -291,6 +332,7 @@ pub fn rewritten(file: &[u8], header: &Header, to: &Version) -> Vec<u8> {
     push_number(&mut out, header.names, to.width);
     out.push(header.roles as u8);
     push_number(&mut out, header.axioms, to.width);
+    out.extend(to.has_pairs.then_some(0));
     let mut at = from.header();
     let copy_name = |out: &mut Vec<u8>, at: usize| {
         let name = number_at(file, at, from.width).expect("an accepted file");

@@ -1,10 +1,12 @@
 //! Left witnesses. Row x is the set of the nodes y such that some signature concept lies above x by the first release
 //! and not above y by the second. Such a concept is a name, or ∃r.D for an edge x -r-> X of the first release that no
-//! edge y -r-> Y of the second can match, Y being in row X each time.
+//! edge y -r-> Y of the second can match, Y being in row X each time. An edge by a role is one by every role above it; of
+//! those in the signature the lowest by the second release are enough, since what matches them matches the others.
 
 use super::agenda::Agenda;
 use super::bits::{Bits, Fresh, Rows};
 use super::classify::names_with_filler_in;
+use super::inclusions::{members, Inclusions};
 use super::{Chosen, Side};
 
 /// The edges of the first release to one node by one role of the signature.
@@ -123,6 +125,17 @@ impl<'a, const W: usize> Forward<'a, W> {
     }
 }
 
+/// Of a set of roles those that no other of them lies under, and the first of those that lie under each other.
+fn lowest(roles: u32, inclusions: &Inclusions) -> u32 {
+    members(roles).fold(roles, |lowest, role| {
+        if lowest >> role & 1 == 1 {
+            lowest & !inclusions.above(role) | 1 << role
+        } else {
+            lowest
+        }
+    })
+}
+
 /// Appends the edges of the first release to `target`, one group for each role of the signature.
 fn add_edges_to<const W: usize>(
     target: usize,
@@ -131,15 +144,15 @@ fn add_edges_to<const W: usize>(
     chosen: &Chosen<W>,
     edges: &mut Vec<Edges<W>>,
 ) {
-    let mut rest = first.release.with_filler.row(target);
-    while let Some(name) = rest.next(0) {
-        let role = first.release.role(name);
-        let same = rest & first.release.with_role[role];
-        rest -= same;
-        if chosen.roles[role] {
-            let starts = same.members().fold(Bits::EMPTY, |starts, name| starts | first.order.below[name]);
-            let matching = second.release.with_role[role];
-            edges.push(Edges { starts, matching, left: matching.count(), unmatched: Bits::EMPTY });
-        }
+    let release = &first.release;
+    let leading = release.with_filler.row(target);
+    let edge_roles = |name| release.inclusions.above(release.role(name)) & chosen.roles;
+    let inclusions = &second.release.inclusions;
+    let roles = leading.members().fold(0, |roles, name| roles | lowest(edge_roles(name), inclusions));
+    for role in members(roles) {
+        let serving = leading & release.with_role_under[role];
+        let starts = serving.members().fold(Bits::EMPTY, |starts, name| starts | first.order.below[name]);
+        let matching = second.release.with_role_under[role];
+        edges.push(Edges { starts, matching, left: matching.count(), unmatched: Bits::EMPTY });
     }
 }

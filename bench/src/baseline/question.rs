@@ -4,6 +4,7 @@
 use super::bits::{Bits, Fresh};
 use super::classify::names_with_filler_in;
 use super::file::{number_at, Release};
+use super::inclusions::Inclusions;
 use super::Side;
 
 const LONGEST: usize = 255;
@@ -67,6 +68,7 @@ pub fn holds<const W: usize>(side: &Side<W>, below: &[Concept], above: &[Concept
         restrictions: Vec::with_capacity(LONGEST),
         above,
         nodes_below: nodes_below(side, above),
+        inclusions: &side.release.inclusions,
     };
     let whole = question.new_layer();
     question.spread(below, 0, whole);
@@ -95,6 +97,7 @@ struct Question<'a, const W: usize> {
     above: &'a [Concept],
     /// The nodes below each concept in D.
     nodes_below: Vec<Bits<W>>,
+    inclusions: &'a Inclusions,
 }
 
 impl<const W: usize> Question<'_, W> {
@@ -134,8 +137,8 @@ impl<const W: usize> Question<'_, W> {
         }
     }
 
-    /// A conjunction lies below a name by one of its names, or by one of its ∃r.C where the name is defined as ∃r.D and
-    /// C lies below D; below a defined conjunction it lies when it lies below all parts, which are not such themselves.
+    /// A conjunction lies below a name by one of its names, or by one of its ∃r.C where the name is defined as ∃s.D, r lies
+    /// under s and C below D; below a defined conjunction it lies when it lies below all parts, which are not such themselves.
     fn names_above(&self, side: &Side<W>, layer: usize) -> Bits<W> {
         let release = &side.release;
         let mut found = Bits::one(release.names);
@@ -144,7 +147,7 @@ impl<const W: usize> Question<'_, W> {
         }
         for restriction in self.restrictions_of(layer) {
             let wider = names_with_filler_in(release, &Fresh::of(self.layers[restriction.inner].names_above));
-            wider.and(&release.with_role[restriction.role]).and(&release.defined_by_some).add_to(&mut found);
+            wider.and(&release.with_role_above[restriction.role]).and(&release.defined_by_some).add_to(&mut found);
         }
         with_conjunctions(release, found)
     }
@@ -157,8 +160,9 @@ impl<const W: usize> Question<'_, W> {
             Concept::Both(left, right) => self.holds(layer, left) && self.holds(layer, right),
             Concept::Some(role, inside) => {
                 let by_name = !(self.layers[layer].names & self.nodes_below[place]).is_empty();
-                let fits =
-                    |restriction: &Restriction| restriction.role == role && self.holds(restriction.inner, inside);
+                let fits = |restriction: &Restriction| {
+                    self.inclusions.has(restriction.role, role) && self.holds(restriction.inner, inside)
+                };
                 by_name || self.restrictions_of(layer).any(fits)
             }
         }
@@ -189,10 +193,10 @@ fn nodes_below<const W: usize>(side: &Side<W>, concept: &[Concept]) -> Vec<Bits<
     nodes
 }
 
-/// The nodes with an edge of the role into a set.
+/// The nodes with an edge of the role, or of one under it, into a set.
 pub fn nodes_with_edge<const W: usize>(side: &Side<W>, role: usize, targets: Bits<W>) -> Bits<W> {
     let mut nodes = Bits::EMPTY;
-    for name in side.release.with_role[role].members() {
+    for name in side.release.with_role_under[role].members() {
         if targets.has(side.release.axiom[name].filler as usize) {
             nodes |= side.order.below[name];
         }

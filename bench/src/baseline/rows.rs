@@ -28,7 +28,7 @@ fn read_row<const W: usize>(row: &[u32], at: usize, names: usize, chosen: &Chose
         0 if one == 0 && other == 0 => Some(Row::Everything),
         1 if left < names && chosen.names.has(left) && other == 0 => Some(Row::Name(left)),
         2 if left < at && right < at => Some(Row::Both(left, right)),
-        3 if chosen.roles.get(left) == Some(&true) && right < at => Some(Row::Some(left, right)),
+        3 if chosen.has_role(left) && right < at => Some(Row::Some(left, right)),
         _ => None,
     }
 }
@@ -62,7 +62,7 @@ pub fn names_above<const W: usize>(side: &Side<W>, rows: &[Row]) -> Vec<Bits<W>>
             }
             Row::Some(role, inner) => {
                 let wider = names_with_filler_in(release, &Fresh::of(above[inner]));
-                wider.and(&release.with_role[role]).and(&release.defined_by_some).add_to(&mut found);
+                wider.and(&release.with_role_above[role]).and(&release.defined_by_some).add_to(&mut found);
             }
         }
         above.push(with_conjunctions(release, found));
