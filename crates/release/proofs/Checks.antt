@@ -150,13 +150,13 @@ module _ (s : List ℕ) where
         none = (is_accepted 1 axiom_number tt tt read.fault).0
 
         is_shaped : Shaped (names_of s) s t
-        is_shaped = shaped (roles_of s) (read.decoded none) none long
+        is_shaped = shaped (roles_of s) (read.decoded none) none header.roles long
 
         pub read_shaped : Shaped c.names s t
         read_shaped = rw counts_same is_shaped
 
         conjunct : (b : Bool) → Tells b (SomePartDefined c.names s t) → b ≡ conjunct_defined (axioms_of s)
-        conjunct b tells = defined_parts (roles_of s) (read.decoded none) none long b (rw counts_same at tells)
+        conjunct b tells = defined_parts (roles_of s) (read.decoded none) none b (rw counts_same at tells)
 
         last : fault s ≡ pick (conjunct_defined (axioms_of s)) 15 0
         unfolding fault

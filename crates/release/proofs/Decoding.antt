@@ -6,11 +6,12 @@ use mathlib.Core.Path.{◌≡◌, refl, sym, ◌∙◌}
 use mathlib.Core.Bool.{Bool, true, false, true≢false, false≢true}
 use mathlib.Core.List.{List, []}
 use Prim.Native.Nat.{ℕ, zero, suc, ◌+◌, ◌*◌, ◌≤◌, ◌<◌}
+use native.Mathlib.Nat.{lt_of_lt_of_le}
 use native.Mathlib.Omega.{arith}
 use lib.ListN.{length, get_or}
 use Rattle.el.specs.Lists.{In, first, later}
 use Rattle.el.specs.Axioms.{Axiom, is_conjunction, parts_of}
-use Rattle.release.specs.Files.{number, numbers, width_of, first_place, joins, restricts, axiom_length, axioms_fault, axiom_at, axioms_from, first_of, filler_node}
+use Rattle.release.specs.Files.{most_roles, number, numbers, width_of, first_place, joins, restricts, axiom_length, axioms_fault, axiom_at, axioms_from, first_of, filler_node}
 use Rattle.release.specs.Tables.{kind_at, role_at, filler_at, tail_at, count_at, part_at, Stands, here, there, Row, entry_at, blank, of_axiom, Decoded, Shaped}
 use Rattle.release.specs.Entries.{node_number, entry_of}
 use Rattle.release.proofs.Sound.{Sound, axiom_sound, Tail, joined, restricted, Joined, tail_kind}
@@ -77,6 +78,13 @@ module _ (m : ℕ) {n c : ℕ} {s : List ℕ} {t : Table} (d : Decoded n c s t) 
   pub kind_is : {q : ℕ} → Stands c s (first_place s) q → kind_at t (number (width_of s) s q) ≡ get_or s (q + width_of s) 0
   kind_is {q} i = (holds d i).kind ∙ number_of_byte (get_or s (q + width_of s) 0) (tail_kind (sound i).tail)
 
+  shaped_role : {q : ℕ} → Stands c s (first_place s) q → restricts (kind_at t (number (width_of s) s q)) ≡ true → role_at t (number (width_of s) s q) < m
+  shaped_role {q} i e = by_tail (sound i).tail
+    where
+      by_tail : Tail (width_of s) n m (get_or s (q + width_of s) 0) s (q + width_of s + 1) → role_at t (number (width_of s) s q) < m
+      by_tail (joined j k) = absurd (true≢false (sym j ∙ restricts_not_joins (get_or s (q + width_of s) 0) (rw (kind_is i) at e)))
+      by_tail (restricted j r k) = rw ((holds d i).role j) k.role
+
   shaped_filler : {q : ℕ} → Stands c s (first_place s) q → restricts (kind_at t (number (width_of s) s q)) ≡ true → filler_at t (number (width_of s) s q) ≤ n
   shaped_filler {q} i e = by_tail (sound i).tail
     where
@@ -95,14 +103,15 @@ module _ (m : ℕ) {n c : ℕ} {s : List ℕ} {t : Table} (d : Decoded n c s t) 
       → tail_at t (number (width_of s) s q) + 1 + width_of s * count_at s t (number (width_of s) s q) ≤ length s
   shaped_inside i e = rw (count_is d i, (holds d i).tail) (conjuncts i e).parts.within
 
-  shaped_part : {q : ℕ} → Stands c s (first_place s) q → (j : ℕ) → joins (kind_at t (number (width_of s) s q)) ≡ true → j < count_at s t (number (width_of s) s q)
+  pub shaped_part : {q : ℕ} → Stands c s (first_place s) q → (j : ℕ) → joins (kind_at t (number (width_of s) s q)) ≡ true → j < count_at s t (number (width_of s) s q)
       → part_at s t (number (width_of s) s q) j < n
   shaped_part {q} i j e l = rw (part_is d i j) ((conjuncts i e).parts.each j (omega (arith, l, count_is d i)))
 
-  pub shaped : first_place s ≤ length s → Shaped n s t
-  shaped long = record {
+  pub shaped : m ≤ most_roles → first_place s ≤ length s → Shaped n s t
+  shaped few long = record {
     version = omega (arith, first_is s, header_far s);
     rows = d.rows;
+    role = λ x l e. elim (d.origin x l) [ blank z ↦ absurd (false≢true (rw z at e)) | of_axiom i z ↦ rw z at (lt_of_lt_of_le (shaped_role i (rw (← z) at e)) few) ];
     filler = λ x l e. elim (d.origin x l) [ blank z ↦ absurd (false≢true (rw z at e)) | of_axiom i z ↦ rw z at (shaped_filler i (rw (← z) at e)) ];
     inside = λ x l e. elim (d.origin x l) [ blank z ↦ absurd (false≢true (rw z at e)) | of_axiom i z ↦ rw z at (shaped_inside i (rw (← z) at e)) ];
     part = λ x j l e k. elim (d.origin x l) [ blank z ↦ absurd (false≢true (rw z at e)) | of_axiom i z ↦ rw z at (shaped_part i j (rw (← z) at e) (rw (← z) at k)) ];

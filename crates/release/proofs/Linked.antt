@@ -127,7 +127,7 @@ module _ {s : List ℕ} {t : Table} (r : Release s t) where
   n = names_of s
 
   pub ranges : Shaped n s t
-  ranges = shaped (roles_of s) r.decoded (no_axiom_fault s r.accepted) (first_inside s r.accepted)
+  ranges = shaped (roles_of s) r.decoded (no_axiom_fault s r.accepted) (header_sound s (no_header_fault s r.accepted)).roles (first_inside s r.accepted)
 
   pub tells_serves_at : (p q : ℕ) → Tells (serves_at t p q) (Under (content_of s).roles p q)
   unfolding serves_at

@@ -2,9 +2,9 @@
 use mathlib.Core.Path.{◌≡◌, refl, sym, ap, ◌∙◌}
 use mathlib.Core.Bool.{Bool, true, false, true≢false, false≢true}
 use mathlib.Core.List.{List}
-use Prim.Native.Nat.{ℕ, zero, suc, ◌+◌, ◌≤◌, ◌<◌}
+use Prim.Native.Nat.{ℕ, zero, suc, ◌+◌, ◌<◌}
 use native.Mathlib.Omega.{arith}
-use lib.ListN.{length, get_or}
+use lib.ListN.{get_or}
 use Rattle.el.specs.Lists.{In}
 use Rattle.el.specs.Axioms.{Axiom, is_conjunction, parts_of}
 use Rattle.el.proofs.Lists.{Some}
@@ -13,7 +13,7 @@ use Rattle.release.specs.Files.{number, width_of, first_place, joins, defines, a
 use Rattle.release.specs.Tables.{kind_at, count_at, part_at, Stands, blank, of_axiom, Decoded, PartDefined, SomePartDefined}
 use Rattle.release.specs.declared.table.Table.{Table}
 use Rattle.release.proofs.Faults.{high_not_joins}
-use Rattle.release.proofs.Decoding.{kind_is, count_is, part_is, sound, shaped, stands_in, in_stands, axiom_joins, axiom_parts, axiom_no_parts}
+use Rattle.release.proofs.Decoding.{kind_is, count_is, part_is, sound, shaped_part, stands_in, in_stands, axiom_joins, axiom_parts, axiom_no_parts}
 use Rattle.release.proofs.Numbers.{in_numbers, numbers_at}
 
 -- the two tests that say kind 2
@@ -43,7 +43,7 @@ unfolding conjunct_defined
 tells_listed al = tells_any _ al (λ a _. tells_any _ (parts_of a)
     (λ x _. tells_any _ al (λ b _. tells_and (tells_eq b.left x) (λ _. tells_and (tells_true b.defined) (λ _. tells_true (is_conjunction b))))))
 
-module _ (m : ℕ) {n c : ℕ} {s : List ℕ} {t : Table} (d : Decoded n c s t) (none : axioms_fault (width_of s) n m c 0 s (first_place s) ≡ 0) (long : first_place s ≤ length s) where
+module _ (m : ℕ) {n c : ℕ} {s : List ℕ} {t : Table} (d : Decoded n c s t) (none : axioms_fault (width_of s) n m c 0 s (first_place s) ≡ 0) where
   -- from the table to the axioms
   part_in : {q : ℕ} → Stands c s (first_place s) q → joins (kind_at t (number (width_of s) s q)) ≡ true → (j : ℕ) → j < count_at s t (number (width_of s) s q)
       → In (parts_of (axiom_at (width_of s) s q)) (part_at s t (number (width_of s) s q) j)
@@ -52,7 +52,7 @@ module _ (m : ℕ) {n c : ℕ} {s : List ℕ} {t : Table} (d : Decoded n c s t) 
   listed_of : {q : ℕ} → Stands c s (first_place s) q → joins (kind_at t (number (width_of s) s q)) ≡ true → PartDefined s t (number (width_of s) s q) → Listed (axioms_from c s (first_place s))
   listed_of {q} i e w =
       let x : ℕ = part_at s t (number (width_of s) s q) w.at in
-      elim (d.origin x ((shaped m d none long).part (number (width_of s) s q) w.at (sound m d none i).left e w.among)) [
+      elim (d.origin x (shaped_part m d none i w.at e w.among)) [
         | blank z ↦ absurd (omega (arith, z, w.is_defined))
         | of_axiom {q = p} k z ↦ record {
           it = axiom_at (width_of s) s q;

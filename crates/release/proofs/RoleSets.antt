@@ -1,5 +1,6 @@
 -- A set of roles is a word: its bits are its roles.
---   tells_role, tells_no_role   the test of a bit; a role from 32 on is in no set
+--   tells_bit                   the test of a role's bit
+--   tells_role, tells_no_role   that test where the role may have none, by whether a bit is 1; a role from 32 on is in no set
 --   joined, with_role, with_none     a set with more roles
 --   met, without                the roles of both of two sets, and those of the first alone
 --   tells_empty                 a word is 0 where it has no role;  some_role: where it is not, it has one
@@ -9,27 +10,42 @@ use mathlib.Core.Logic.{◌⊎◌, inl, inr}
 use Prim.Native.Nat.{ℕ, zero, suc, ◌+◌, ◌-◌, ◌*◌, ◌/◌, ◌%◌, ◌^◌, ◌≤◌, ◌<◌, max, min}
 use native.Mathlib.Omega.{arith}
 use native.Mathlib.Decide.{ℕ_discrete, dec_lt}
-use borrow.Author.Tests.{le-ltb}
+use borrow.Author.Tests.{lt-ltb, le-ltb, ne_eqb}
 use lib.Bits.{bit_or, bit_and, bit_xor}
 use lib.Count.{count_trailing_zeros}
 use lib.Dec.{eqb, ltb}
 use lib.Pow.{pow_pos}
 use native.Mathlib.Nat.{pow-suc}
-use Rattle.el.proofs.Tests.{Tells, tells_as, tells_eq, never}
+use Rattle.el.proofs.Tests.{Tells, tells_as, tells_eq, always, never}
 use Rattle.marks.specs.Squares.{bit, First, Nowhere}
 use Rattle.marks.proofs.Bits.{bit_small, bit_of_zero, bit_or_lem, bit_and_lem, bit_same, bit_other, outside_bit, not_within, not_outside}
 use Rattle.marks.proofs.WordBits.{bit_few, bit_shifted, lowest}
 use Rattle.release.specs.Roles.{HasRole, NoRole, SomeRole, With, Joined, Met, Without}
 
-pub tells_role : (set r : ℕ) → Tells (eqb (set / 2 ^ r % 2) 1) (HasRole set r)
+pub tells_bit : (set r : ℕ) → Tells (eqb (set / 2 ^ r % 2) 1) (HasRole set r)
 unfolding bit
-tells_role set r = tells_as (λ e. record { is = e }) (λ h. h.is) (tells_eq (set / 2 ^ r % 2) 1)
+tells_bit set r = tells_as (λ e. record { is = e }) (λ h. h.is) (tells_eq (set / 2 ^ r % 2) 1)
 
 no_role : {set r : ℕ} → set < 2 ^ 32 → 32 ≤ r → HasRole set r → ⊥
 no_role l f h = omega (arith, bit_few {d = 32} l h.is)
 
-pub tells_no_role : {set r : ℕ} → set < 2 ^ 32 → 32 ≤ r → Tells (ltb r 32) (HasRole set r)
-tells_no_role {set} {r} l f = rw (le-ltb r 32 f) (never (no_role l f))
+-- the bit that is looked at is the role's own below 32
+module _ {set r : ℕ} (few : set < 2 ^ 32) where
+  pub tells_role : set / 2 ^ (r % 32) % 2 ≡ 1 → Tells (ltb r 32) (HasRole set r)
+  unfolding bit
+  tells_role e = by_size (dec_lt r 32)
+    where
+      by_size : Dec (r < 32) → Tells (ltb r 32) (HasRole set r)
+      by_size (yes l) = let own : r % 32 ≡ r = omega arith in rw (lt-ltb r 32 l) (always (record { is = rw own at e }))
+      by_size (no l) = rw (le-ltb r 32 (omega arith)) (never (no_role few (omega arith)))
+
+  pub tells_no_role : (set / 2 ^ (r % 32) % 2 ≡ 1 → ⊥) → Tells (eqb (set / 2 ^ (r % 32) % 2) 1) (HasRole set r)
+  unfolding bit
+  tells_no_role f = rw (ne_eqb _ 1 f) (never (λ h. by_size h (dec_lt r 32)))
+    where
+      by_size : HasRole set r → Dec (r < 32) → ⊥
+      by_size h (yes l) = let own : r % 32 ≡ r = omega arith in f (rw own h.is)
+      by_size h (no l) = no_role few (omega arith) h
 
 -- more roles
 either_one : {p q : ℕ} → p < 2 → q < 2 → max p q ≡ 1 → (p ≡ 1) ⊎ (q ≡ 1)

@@ -43,10 +43,13 @@ unfolding serves_by
 past_table t r {s} l = rw (le-ltb s 32 l)
 
 pub entry_serves : (t : RoleTable) {s : ℕ} → s < 32 → Serving t s (entry t s)
-entry_serves t l = record { tells = λ r h. ((tells_entry t l).complete, (tells_entry t l).sound) }
+entry_serves t l = record { tells = λ r h. ((tells_entry t l).complete, (tells_entry t l).sound); all = λ h r. ((tells_entry t l).complete, (tells_entry t l).sound) }
 
 pub none_serves : (t : RoleTable) {s : ℕ} → 32 ≤ s → Serving t s 0
-none_serves t {s} l = record { tells = λ r h. (λ k. absurd (empty.none r k), λ e. absurd (omega (arith, (tells_eq r s).sound (sym (past_table t r l) ∙ e)))) }
+none_serves t {s} l = record {
+  tells = λ r h. (λ k. absurd (empty.none r k), λ e. absurd (omega (arith, (tells_eq r s).sound (sym (past_table t r l) ∙ e))));
+  all = λ h r. absurd (omega arith);
+}
 
 -- the roles of entry s once the pair is taken in
 abbrev pub Enlarged : RolePair → RoleTable → ℕ → ℕ → Type 0

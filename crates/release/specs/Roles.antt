@@ -5,7 +5,7 @@
 --   NextRole set from r  r is the first role of the set from `from` on, if there is one
 --   entry t s            the roles under s by the table t, a set
 --   serves_by t r s      by the table t the role r serves where s is asked for: r lies under s
---   Serving t s set      the set has the roles that serve for s by the table t, of those that have a bit
+--   Serving t s set      the set has the roles that serve for s by the table t, of those that have a bit; where s has one, these are all
 --   RolesOf pairs t      the table t tells what lies under what by these pairs, chains included
 use Rattle.std.specs.Prelude.{◌≡◌, ◌↔◌, Bool, true, List, ℕ, ◌<◌, eqb, ltb, get_or, Option, MatchOption, ◌⊎◌}
 use Rattle.el.specs.Lists.{pick}
@@ -53,6 +53,7 @@ serves_by t r s = pick (ltb s most_roles) (eqb (bit (entry t s) r) 1) (eqb r s)
 
 pub record Serving (t : RoleTable) (s set : ℕ) : Type 0 where
   pub tells : (r : ℕ) → r < most_roles → HasRole set r ↔ (serves_by t r s ≡ true)
+  pub all : s < most_roles → (r : ℕ) → HasRole set r ↔ (serves_by t r s ≡ true)
 
 pub record RolesOf (pairs : List RolePair) (t : RoleTable) : Type 0 where
   pub tells : (r s : ℕ) → Tells (serves_by t r s) (Under pairs r s)

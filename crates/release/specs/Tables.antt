@@ -2,7 +2,7 @@
 --   kind_at t x, role_at t x, filler_at t x, tail_at t x     the numbers in the row of the name x in the table t; kind 0: no axiom
 --   count_at s t x, part_at s t x i                        the number of x's conjuncts, and the conjunct i, read from the file s
 --   serves_at t r s                                     the role r serves where s is asked for
---   ServingAt t s set                                   the set has the roles that serve where s is asked for, of those that have a bit
+--   ServingAt t s set                                   the set has the roles that serve where s is asked for, of those that have a bit; where s has one, all
 --   SuccessorOf t x r o                                 o is the filler of x's axiom where that is a restriction with a role that serves for r, else none
 --   Stands c s p q                                       q is the place of one of the c axioms from place p of s on
 --   Decoded n c s t                                      t is the table of the c axioms of s, which has n names
@@ -57,6 +57,7 @@ serves_at t r s = serves_by t.roles r s
 
 pub record ServingAt (t : Table) (s set : ℕ) : Type 0 where
   pub tells : (r : ℕ) → r < most_roles → HasRole set r ↔ (serves_at t r s ≡ true)
+  pub all : s < most_roles → (r : ℕ) → HasRole set r ↔ (serves_at t r s ≡ true)
 
 -- the axiom of x is a restriction to the filler y, with a role that serves for r: r leads from x to y; it leads to none
 pub record HasSuccessor (t : Table) (x r y : ℕ) : Type 0 where
@@ -162,11 +163,12 @@ pub record HasPart (s : List ℕ) (t : Table) (x i : ℕ) : Type 0 where
   pub row : x < most_names
   pub inside : tail_at t x + 1 + width_of s * i + width_of s ≤ length s
 
--- the ranges that loops over a table rely on: a file with a version, rows for all names, fillers that are nodes, conjuncts in the
--- file that are names
+-- the ranges that loops over a table rely on: a file with a version, rows for all names, roles that have a bit, fillers that are nodes,
+-- conjuncts in the file that are names
 pub record Shaped (n : ℕ) (s : List ℕ) (t : Table) : Type 0 where
   pub version : 3 < length s
   pub rows : n ≤ most_names
+  pub role : (x : ℕ) → x < n → restricts (kind_at t x) ≡ true → role_at t x < most_roles
   pub filler : (x : ℕ) → x < n → restricts (kind_at t x) ≡ true → filler_at t x ≤ n
   pub inside : (x : ℕ) → x < n → joins (kind_at t x) ≡ true → tail_at t x + 1 + width_of s * count_at s t x ≤ length s
   pub part : (x i : ℕ) → x < n → joins (kind_at t x) ≡ true → i < count_at s t x → part_at s t x i < n

@@ -66,7 +66,7 @@ impl<'a> Terminology<'a> {
         self.table.roles.serves(role, asked)
     }
 
-    // The roles that serve where this one is asked for.
+    // The roles that serve where this one is asked for: taken once before a loop, it spares each turn the look into the table of roles.
     pub fn under(&self, role: RoleName) -> RoleSet
         ensures { ServingAt self.now.table.now role.0 result.0 }
     {

@@ -4,4 +4,4 @@ use Rattle.release.proofs.terminology.Terminology.under.Goals as goal
 
 pub returns : goal.returns
 unfolding serves_at
-returns c = record { tells = c.under.ensures.tells }
+returns c = record { tells = c.under.ensures.tells; all = c.under.ensures.all }
