@@ -27,6 +27,7 @@ use Rattle.release.proofs.Refusing.{is_accepted}
 use Rattle.std.specs.Prelude.{Result, Ok, Err, IfOk}
 use Rattle.release.specs.declared.number.Version.{Version}
 use Rattle.release.specs.declared.number.Version.TheVariants.{One, Two, Three}
+use Rattle.release.specs.declared.TheConstants.Release.{LONGEST}
 use Rattle.rewriting.specs.Rewriting.{Rewrites, RewritesAs}
 use Rattle.rewriting.specs.Refusals.{rewrite_refusal}
 use Rattle.rewriting.specs.declared.refusals.RewriteRefusal.{RewriteRefusal}
@@ -60,7 +61,7 @@ pub record PlaceFits (p : Place) : Type 0 where
   pub length : Fits32 p.length
 
 -- a part of one of two short files
-part_fits : (s t : List ℕ) → length s ≤ 37349 → length t ≤ 37349 → (p : Place) → p.start + p.length ≤ length (holder s t p) → PlaceFits p
+part_fits : (s t : List ℕ) → length s ≤ LONGEST → length t ≤ LONGEST → (p : Place) → p.start + p.length ≤ length (holder s t p) → PlaceFits p
 part_fits s t short short' p h = by_side (eqb p.side 2) h
   where
     by_side : (b : Bool) → p.start + p.length ≤ length (pick b t s) → PlaceFits p

@@ -4,15 +4,15 @@
 ghost use Rattle.std.specs.Prelude.{◌≤◌, length, take};
 ghost use Rattle.std.specs.Io.KnownBytes.{Consumes};
 
+use release::Release;
 use std::io::Read;
 use std::rt::Files;
 use std::{fs, str};
 
-// One byte more than the longest accepted release, of version 3: 11 bytes, 255 pairs of roles of 2 bytes, and 1,023 axioms of 36. A longer file
-// is refused by these first bytes as by all of it. Every byte that a header, a pair or an axiom is read from stands among the first 37,349,
-// so the refusals 1 to 13 and 49 come out alike; where none of them holds, bytes are left over in both, and the refusal is 14, whatever they
-// are.
-pub const RELEASE_BYTES: usize = 37350;
+// One byte more than the longest accepted release. A longer file is refused by these first bytes as by all of it (`first_bytes_decide` of crate
+// release): every byte that a header, a pair or an axiom is read from stands before the last of them, so the refusals 1 to 13 and 49 come out
+// alike; where none of them holds, bytes are left over in both, and the refusal is 14, whatever they are.
+pub const RELEASE_BYTES: usize = Release::LONGEST + 1;
 
 // Reads the file's bytes to the start of `room`, as many as it holds, and answers those bytes. A missing file counts as empty, and a read
 // that fails as the end of the file. A name is bytes and no `&str`, so that any can be asked for: one that is not UTF-8 is no file's.

@@ -16,6 +16,7 @@ use Rattle.release.specs.Files.{header_fault, ends, pair_at, least_pair, after, 
 use Rattle.release.specs.Files.{axiom_length, axioms_fault, fault}
 use Rattle.el.specs.Axioms.{RolePair}
 use Rattle.release.specs.Readings.{checked}
+use Rattle.release.specs.declared.TheConstants.Release.{LONGEST}
 use Rattle.release.proofs.Numbers.{is_width}
 use Rattle.release.proofs.Sound.{axiom_sound, tail_within}
 use Rattle.release.proofs.Checks.{header_sound}
@@ -219,7 +220,7 @@ module _ {k : ℕ} {s t : List ℕ} (alike : Alike k s t) where
 
 -- how many bytes decide: one more than the longest accepted release has
 abbrev pub enough : ℕ
-enough = 37350
+enough = suc LONGEST
 
 -- a refusal met by both files, whatever else they hold
 record Met (s t : List ℕ) : Type 0 where

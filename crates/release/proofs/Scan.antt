@@ -23,6 +23,7 @@ use Rattle.release.specs.Tables.{Stands, here, there, Row, Put, Fits, entry_at, 
 use Rattle.release.specs.Entries.{node_number, entry_of, reading, reading_at}
 use Rattle.release.specs.Kinds.{kind_number, kind_of_byte}
 use Rattle.release.specs.Refusals.{file_refusal, answer}
+use Rattle.release.specs.declared.TheConstants.Release.{LONGEST}
 use Rattle.release.proofs.Refusing.{refuses, accepts, is_refused, is_accepted, passes_on}
 use Rattle.release.proofs.KindNumbers.{joins_of_byte}
 use Rattle.release.proofs.Readings.{axiom_read}
@@ -91,7 +92,7 @@ filler_node_lem w n b h = go (eqb b (top_number w)) refl
     go true e = rw e (omega arith)
     go false e = let l : b < n = ltb-true b n (or_false _ (rw e at h)) in rw e (omega arith)
 
-entry_fits : (n m least : ℕ) (s : List ℕ) (q : ℕ) → n ≤ most_names → m ≤ most_roles → q ≤ 37349 → Sound (width_of s) n m least s q → Fits (entry_at n s q)
+entry_fits : (n m least : ℕ) (s : List ℕ) (q : ℕ) → n ≤ most_names → m ≤ most_roles → q ≤ LONGEST → Sound (width_of s) n m least s q → Fits (entry_at n s q)
 unfolding entry_at entry_of
 entry_fits n m least s q hn hm hq v = let l : width_of s ≤ 2 = (is_width s).few in go l v.tail
   where

@@ -65,6 +65,15 @@ impl Release {
     pub const ROLES: usize = 32;
 
     pub const CONJUNCTS: usize = 16;
+
+    // How many pairs of roles a file has is a byte.
+    pub const PAIRS: usize = 255;
+
+    // The bytes of the longest accepted file, of version 3: a header of 11, pairs of 2, and for each name an axiom of 36, with two bytes for its
+    // name and for each conjunct, a byte for its kind and one for how many conjuncts it has.
+    pub const LONGEST: usize = 11
+        + 2 * Release::PAIRS
+        + (4 + 2 * Release::CONJUNCTS) * Release::NAMES;
 }
 
 // The counts of an accepted release.

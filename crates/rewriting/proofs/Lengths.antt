@@ -12,6 +12,7 @@ use lib.Dec.{ltb}
 use lib.ListN.{length, get_or, length-append}
 use Rattle.el.specs.Axioms.{Axiom, Right, conjunction, restriction}
 use Rattle.release.specs.Files.{number, width_of, names_of, roles_of, count_of, joins, first_place, axioms_fault, axiom_at, axiom_length, axioms_from, axioms_of, fault, kind_of}
+use Rattle.release.specs.declared.TheConstants.Release.{LONGEST}
 use Rattle.release.proofs.Numbers.{is_width}
 use Rattle.release.proofs.Sound.{axiom_sound, tail_within, passed}
 use Rattle.release.proofs.Decoding.{both_none}
@@ -104,7 +105,7 @@ axioms_end n m (suc c) least s p h l =
     }
 
 -- an accepted file of any version, with 255 pairs at most and 1,023 axioms of 36 bytes
-pub accepted_few : (s : List ℕ) → fault s ≡ 0 → get_or s 10 0 ≤ 255 → length s ≤ 37349
+pub accepted_few : (s : List ℕ) → fault s ≡ 0 → get_or s 10 0 ≤ 255 → length s ≤ LONGEST
 accepted_few s ok byte =
     let end = axioms_end (names_of s) (roles_of s) (count_of s) 0 s (first_place s) (no_axiom_fault s ok) (first_inside s ok) in
     let header = header_sound s (no_header_fault s ok) in
