@@ -6,13 +6,14 @@
 --   gathered_.., filled_.., axiom_..      what is left to mark by conjuncts, by fillers, by an axiom
 -- Not here: the other laws of passes for any rule (crate marks).
 use mathlib.Core.Path.{◌≡◌, refl, sym, ◌∙◌}
-use mathlib.Core.Bool.{Bool, true, false, ◌||◌, false≢true, true≢false}
+use mathlib.Core.Bool.{Bool, true, false, ◌||◌, false≢true}
 use mathlib.Core.List.{List}
 use Prim.Native.Nat.{ℕ, suc, ◌≤◌, ◌<◌}
 use native.Mathlib.Omega.{arith}
 use Rattle.el.proofs.Tests.{Tells, tells_as}
 use Rattle.release.specs.Files.{joins, restricts}
-use Rattle.release.specs.Tables.{kind_at, role_at, filler_at, serves_at, count_at, part_at, HasRow, Conjunctive, Shaped}
+use Rattle.release.specs.Roles.{HasRole}
+use Rattle.release.specs.Tables.{kind_at, role_at, filler_at, ServingAt, count_at, part_at, HasRow, Conjunctive, Shaped}
 use Rattle.release.proofs.Faults.{restricts_not_joins}
 use Rattle.release.specs.declared.table.Table.{Table}
 use Rattle.marks.specs.declared.Square.{Square}
@@ -56,8 +57,11 @@ module _ {s : List ℕ} {t : Table} {q : Square} {w : List ℕ} {x b : ℕ} (h :
 
 -- a definition, for a whole column
 module _ {s : List ℕ} {t : Table} {q : Square} {w : List ℕ} {y : ℕ} (h : Setting s t q w) (l : y < q.names) where
-  pub pair : {b r f : ℕ} → b < q.names → restricts (kind_at t b) ≡ true → DefinedRestriction t y r f → Pair t q w b y r f
-  pair i k d = record { rows = h.shaped.rows; room = h.room; fillers = h.shaped.filler; left = i; is_restriction = k; right = l; defined = d }
+  pub defined_restriction : {role set f : ℕ} → kind_at t y ≡ 4 → role ≡ role_at t y → ServingAt t role set → f ≡ filler_at t y → DefinedRestriction t y set f
+  defined_restriction k e serving i = let at : ServingAt t (role_at t y) _ = rw e at serving in record { kind = k; serving = at.all (h.shaped.role y l (rw k refl)); filler = i }
+
+  pub pair : {b set f : ℕ} → b < q.names → restricts (kind_at t b) ≡ true → DefinedRestriction t y set f → Pair t q w b y set f
+  pair i k d = record { rows = h.shaped.rows; room = h.room; roles = h.shaped.role; fillers = h.shaped.filler; left = i; is_restriction = k; right = l; defined = d }
 
 -- conjuncts and fillers of a marked name
 module _ {s : List ℕ} {t : Table} {q : Square} {w v : List ℕ} {x b : ℕ} {r : Bool} (h : Source s t q w x b) where
@@ -68,18 +72,18 @@ module _ {s : List ℕ} {t : Table} {q : Square} {w v : List ℕ} {x b : ℕ} {r
   fill_pass k l f p = put_pass p (to_filled b h.in_row.name k h.marked l f)
 
 -- the fillers of two names
-module _ {t : Table} {q : Square} {w : List ℕ} {b y r f : ℕ} (h : Pair t q w b y r f) where
+module _ {t : Table} {q : Square} {w : List ℕ} {b y set f : ℕ} (h : Pair t q w b y set f) where
   pub fillers_small : {under : ℕ} → under ≡ filler_at t b → (under ≤ q.names) × (f ≤ q.names)
   fillers_small e =
       let z : restricts (kind_at t y) ≡ true = rw h.defined.kind refl in
       (rw e (h.fillers b h.left h.is_restriction), rw h.defined.filler (h.fillers y h.right z))
 
-pub not_due : {t : Table} {q : Square} {w : List ℕ} {b y r f role : ℕ} → DefinedRestriction t y r f → role ≡ role_at t b → serves_at t role r ≡ false → Due false (Fills t q b y w) (Marked q w b y)
-not_due d e n = due_not (λ g. true≢false (sym (rw (e, d.role) g.role) ∙ n))
+pub not_due : {t : Table} {q : Square} {w : List ℕ} {b y set f role : ℕ} → DefinedRestriction t y set f → role ≡ role_at t b → (HasRole set role → ⊥) → Due false (Fills t q b y w) (Marked q w b y)
+not_due d e n = due_not (λ g. n ((d.serving _).1 (rw e g.role)))
 
-pub due_fill : {t : Table} {q : Square} {w : List ℕ} {b y r f role under : ℕ} {a : Bool} → DefinedRestriction t y r f → role ≡ role_at t b → serves_at t role r ≡ true → under ≡ filler_at t b
+pub due_fill : {t : Table} {q : Square} {w : List ℕ} {b y set f role under : ℕ} {a : Bool} → DefinedRestriction t y set f → role ≡ role_at t b → HasRole set role → under ≡ filler_at t b
     → Tells a (Marked q w under f) → Due a (Fills t q b y w) (Marked q w b y)
-due_fill d e same i m = due_as (tells_as (λ z. record { kind = d.kind; role = rw (← e, ← d.role) same; filler = rw (← i, ← d.filler) z }) (λ z. rw (i, d.filler) z.filler) m)
+due_fill d e has i m = due_as (tells_as (λ z. record { kind = d.kind; role = rw (← e) ((d.serving _).0 has); filler = rw (← i, ← d.filler) z }) (λ z. rw (i, d.filler) z.filler) m)
 
 -- a defined conjunction in a row
 module _ {s : List ℕ} {t : Table} {q : Square} {w : List ℕ} {x b : ℕ} where

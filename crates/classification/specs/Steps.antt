@@ -10,8 +10,9 @@
 --   Row s t q x w           nothing is left to mark in row x;  Settled s t q x w: what a pass finishes of it
 --   AxiomSettled s t q y w  nothing is left to mark by the axiom of y, in its own row and in its column
 -- Not here: what the rules mean (proofs/Bridge).
-use Rattle.std.specs.Prelude.{◌≡◌, Bool, true, List, ℕ, suc, ◌≤◌, ◌<◌, length}
-use Rattle.release.specs.Files.{joins, restricts, most_names}
+use Rattle.std.specs.Prelude.{◌≡◌, ◌↔◌, Bool, true, List, ℕ, suc, ◌≤◌, ◌<◌}
+use Rattle.release.specs.Files.{joins, restricts, most_names, most_roles}
+use Rattle.release.specs.Roles.{HasRole}
 use Rattle.release.specs.Tables.{kind_at, role_at, filler_at, serves_at, count_at, part_at, Shaped}
 use Rattle.release.specs.declared.table.Table.{Table}
 use Rattle.marks.specs.declared.Square.{Square}
@@ -125,10 +126,10 @@ pub record Source (s : List ℕ) (t : Table) (q : Square) (w : List ℕ) (x b : 
   pub in_row : InRow s t q w x b
   pub marked : Marked q w x b
 
--- what is read of a definition once for a whole column: its role and filler
-pub record DefinedRestriction (t : Table) (y r f : ℕ) : Type 0 where
+-- what is read of a definition once for a whole column: the roles that serve for its own, as a set, and its filler
+pub record DefinedRestriction (t : Table) (y set f : ℕ) : Type 0 where
   pub kind : kind_at t y ≡ 4
-  pub role : r ≡ role_at t y
+  pub serving : (r : ℕ) → HasRole set r ↔ (serves_at t r (role_at t y) ≡ true)
   pub filler : f ≡ filler_at t y
 
 -- z is a defined ∃s.F with the filler f, and the role r serves for s
@@ -138,14 +139,15 @@ pub record FilledBy (t : Table) (z r f : ℕ) : Type 0 where
   pub filler : f ≡ filler_at t z
 
 -- two names whose fillers are compared, restrictions both, the second of them defined
-pub record Pair (t : Table) (q : Square) (w : List ℕ) (b y r f : ℕ) : Type 0 where
+pub record Pair (t : Table) (q : Square) (w : List ℕ) (b y set f : ℕ) : Type 0 where
   pub rows : q.names ≤ most_names
   pub room : Room q w
+  pub roles : (z : ℕ) → z < q.names → restricts (kind_at t z) ≡ true → role_at t z < most_roles
   pub fillers : (z : ℕ) → z < q.names → restricts (kind_at t z) ≡ true → filler_at t z ≤ q.names
   pub left : b < q.names
   pub is_restriction : restricts (kind_at t b) ≡ true
   pub right : y < q.names
-  pub defined : DefinedRestriction t y r f
+  pub defined : DefinedRestriction t y set f
 
 -- what dealing with new marks asks: a marked cell; a restriction b with the filler x; one whose filler lies below y
 pub record MarkedCell (s : List ℕ) (t : Table) (q : Square) (w : List ℕ) (x y : ℕ) : Type 0 where

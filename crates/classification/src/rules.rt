@@ -8,7 +8,8 @@ ghost use Rattle.marks.specs.Passes.{Pass, Below, Due};
 ghost use Rattle.classification.specs.Steps.{Of, Step, PartMarked, Gathers, Fills, Gathered, Seeds, InRow, Source, Pair};
 
 use crate::Classification;
-use release::{Kind, RoleName};
+use release::Kind;
+use release::roles::RoleSet;
 
 impl<'a> Classification<'a> {
     // Marks x ⊑ x and x ⊑ ⊤. Whether a mark is new.
@@ -36,23 +37,23 @@ impl<'a> Classification<'a> {
         changed
     }
 
-    // Whether y, a defined restriction with this role and filler, is not marked in row b yet, and the restriction b serves for it. The
-    // cell is looked at first, since most are marked or not asked for.
+    // Whether y, a defined restriction with this filler, whose role those of the set serve for, is not marked in row b yet, and the restriction
+    // b serves for it. The cell is looked at first, since most are marked or not asked for.
     pub(crate) fn fills(
         &self,
         work: &[u8],
         b: usize,
         y: usize,
-        role: RoleName,
+        serving: RoleSet,
         filler: usize,
     ) -> bool
-        requires { Pair self.now.terminology.table.now self.now.square work.now b y role.0 filler }
+        requires { Pair self.now.terminology.table.now self.now.square work.now b y serving.0 filler }
         ensures { Due result (Fills self.now.terminology.table.now self.now.square b y work.now) (Marked self.now.square work.now b y) }
     {
         if self.square.is_marked(work, b, y) {
             return false;
         }
-        if self.terminology.serves(self.terminology.role(b), role) {
+        if serving.has_small(self.terminology.role(b)) {
             let under = self.terminology.filler(b);
             return self.square.is_marked(work, under, filler);
         }

@@ -58,10 +58,11 @@ impl<'a> Classification<'a> {
     {
         let own = *self;
         let role = own.terminology.role(y);
+        let serving = own.terminology.under(role);
         let filler = own.terminology.filler(y);
         let mut changed = false;
         for b in 0..own.square.names {
-            if own.terminology.is_restriction(b) && own.fills(work, b, y, role, filler) {
+            if own.terminology.is_restriction(b) && own.fills(work, b, y, serving, filler) {
                 let new = own.square.mark(work, b, y);
                 changed |= new;
             }

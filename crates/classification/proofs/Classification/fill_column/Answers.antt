@@ -2,7 +2,7 @@
 use native.Mathlib.Omega.{arith}
 use mathlib.Core.Path.{sym, ◌∙◌}
 use Rattle.marks.proofs.Passes.{turns_none, turn_both, turn_skipped, turns_end}
-use Rattle.classification.proofs.Marking.{shaped_row, seeded_stays, seeded_source, pair, fill_pass, filled_at, filled_none, filled_not}
+use Rattle.classification.proofs.Marking.{shaped_row, seeded_stays, seeded_source, defined_restriction, pair, fill_pass, filled_at, filled_none, filled_not}
 use Rattle.classification.proofs.Classification.fill_column.Goals.{then-is_restriction+then-fills, else-is_restriction}
 use Rattle.classification.proofs.Classification.fill_column.Goals.{else-is_restriction-via-then-is_restriction+else-fills, else-is_restriction-via-else-is_restriction}
 use Rattle.classification.proofs.Classification.fill_column.Goals as goal
@@ -21,7 +21,8 @@ is_restriction-requires c = shaped_row c.requires.seeded_setting.setting.shaped 
 
 pub fills-requires : goal.fills-requires
 fills-requires c = pair (seeded_stays c.loop-b.invariant.grows c.requires.seeded_setting).setting c.requires.y_lt_names c.loop-b-test.true
-    (sym c.is_restriction.ensures ∙ c.if-is_restriction.true) (record { kind = c.requires.y_value; role = c.role-role.ensures; filler = c.filler-filler.ensures })
+    (sym c.is_restriction.ensures ∙ c.if-is_restriction.true)
+    (defined_restriction c.requires.seeded_setting.setting c.requires.y_lt_names c.requires.y_value c.role-role.ensures c.under-serving.ensures c.filler-filler.ensures)
 
 pub mark-new-requires : goal.mark-new-requires
 mark-new-requires c = record {
