@@ -29,7 +29,7 @@ pub chosen_below : (l : Layout) (g : List ℕ) → NamesBelow l.names (chosen l 
 chosen_below l g x h = ltb-true x l.names (and_left (ltb x l.names) _ h)
 
 pub rowed : {n : ℕ} {s : List ℕ} {t : Table} → Shaped n s t → Rowed n t
-rowed h = record { rows = h.rows; filler = h.filler }
+rowed h = record { rows = h.rows; role = h.role; filler = h.filler }
 
 module _ {s t : List ℕ} {given : Given} {w : List ℕ} (c : Comparing s t given w) where
   abbrev pub l : Layout
