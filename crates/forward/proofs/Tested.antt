@@ -1,29 +1,32 @@
 -- Laws of the rules of forward marks.
 --   joined_below, second_small, join_asks     what lies below a name, by a row of the turned inclusions
 --   KeptTo, kept_more                     the line of the nodes that the names before one keep
---   roles_to, roles_end                   the roles of an edge, one after the other
+--   roles_to, roles_end, roles_full       the roles of an edge, one after the other, and where its row is full
+--   role_small                            the roles of an edge have bits
 --   no_partner_stays                      where there is no partner, marks put later give none
 --   seen_stays                            what is asked holds after marks are seen
 --   named, named_stays                    what is asked to mark names is there, and stays
 --   edges_lost                            marks put where a line has nothing, as steps of the rules;  by_name_pass, by_role_pass: as passes
 --   row_quiet, row_lost                   what is answered of all nodes at once
 --   edge_lost, cell_kept, cell_lost, cells_to, cells_end     the edge of a name at one node, and at those that its line leaves open
---   missing_start .. missing_none         the next node that a line leaves open
+--   missing_start .. missing_none         the next node that a line leaves open;  row_full: none is left open
 --   FreeSuccessor                         what the search for a partner looks for
 --   above_grows, row_from_above, taking_grows     marks taken from above, as steps of the rules
 --   name_grows, follows_grows, taking_pass, looked     marks by names, and those that follow, as steps of all rules
 --   quiet_rows                            rows with nothing left to mark
-use mathlib.Core.Path.{◌≡◌, sym, ◌∙◌}
-use mathlib.Core.Bool.{Bool, true, false, ◌||◌, false≢true}
+use mathlib.Core.Path.{◌≡◌, sym, ap, ◌∙◌}
+use mathlib.Core.Bool.{Bool, true, false, not, ◌||◌, true≢false, false≢true}
 use mathlib.Core.List.{List}
 use mathlib.Core.Logic.{◌⊎◌, inl, inr}
 use Prim.Native.Nat.{ℕ, suc, ◌+◌, ◌≤◌, ◌<◌}
 use native.Mathlib.Omega.{arith}
 use native.Mathlib.Decide.{ℕ_discrete, dec_lt}
+use Rattle.std.specs.Prelude.{Option, None, Some, is_some}
+use Rattle.release.specs.Files.{most_roles}
 use Rattle.release.specs.Tables.{filler_at, HasSuccessor}
 use Rattle.marks.specs.declared.Square.{Square}
 use Rattle.marks.specs.Squares as squares
-use Rattle.marks.specs.Squares.{behind, Small, Room, First, Nowhere, Marked, NotMarked, Apart, Frame, Put}
+use Rattle.marks.specs.Squares.{behind, Small, Room, First, Nowhere, Marked, NotMarked, NextUnmarked, Apart, Frame, Put}
 use Rattle.marks.specs.Passes.{Grows, Pass, Below, FromRow}
 use Rattle.marks.specs.Lines.{Has, Spans, Empty, Joined, Missing, Full}
 use Rattle.marks.specs.Inclusions.{Taking, Takes}
@@ -38,7 +41,7 @@ use Rattle.layout.specs.Layouts.{first_square, second_square, below_square, mark
 use Rattle.layout.proofs.Layouts.{second_apart}
 use Rattle.layout.proofs.Searches.{each_more, each_to}
 use Rattle.forward.specs.Rules.{Beneath, beneath_stays, Serves, Setting, setting_stays, Named, NameLost, Partner, Edge, RoleLost, Own, by_name, by_edge, FromAbove, Follows}
-use Rattle.forward.specs.Rules.{from_edge, from_above, Step, by_itself, by_above, follows_step, JoinedBelow, Kept, LeftOpen, ByName, ByRole, ByEdge, EdgeCell, RowLost, Looked, Row}
+use Rattle.forward.specs.Rules.{from_edge, from_above, Step, by_itself, by_above, follows_step, JoinedBelow, Kept, RowFull, LeftOpen, ByName, ByRole, ByEdge, EdgeCell, RowLost, Looked, Row}
 
 -- what lies below a name, by a row of the turned inclusions
 pub joined_below : {l : Layout} {w : List ℕ} {c : ℕ} {i j : List ℕ} {p : Square} → p ≡ below_square l → Beneath l w → c < l.names → Joined p w c i j → JoinedBelow l w c i j
@@ -79,6 +82,10 @@ kept_more {given} {w} {z} {r} {c} {i} {j} serves joined k = record {
     by_place y d h o p (yes e) = let q : Partner given w z y r c = rw e at p in joined.has y h q.second
     by_place y d h o p (no e) = joined.stays y (k.has y d h (omega arith) p)
 
+-- the roles of an edge have bits
+pub role_small : {given : Given} {x r : ℕ} → Edge given x r → r < most_roles
+role_small {given} {x} {r} e = given.edges_found.few x r e.is_name e.with_role
+
 -- the roles of an edge one after the other: what is none of them gives nothing
 role_none : {given : Given} {w : List ℕ} {x r : ℕ} → (HasEdge given.edges.now x r → ⊥) → ByRole given x r w
 role_none not = record { marked = λ y h o. absurd (not o.edge.with_role) }
@@ -94,6 +101,10 @@ module _ {given : Given} {x from : ℕ} {u w : List ℕ} {b : Bool} (p : Pass (F
       by_place : Below (ByRole given x) from w → (r : ℕ) → r < 32 → Dec (r < from) → ByRole given x r w
       by_place below r l (yes i) = below.at r i
       by_place below r l (no i) = role_none (past.each r (omega arith) (omega arith))
+
+  -- a row that is full
+  pub roles_full : {q : Square} → q ≡ mark_square given.layout → RowFull q x w → Pass (Follows given) (mark_square given.layout) (ByEdge given x) u w b
+  roles_full e full = let all : RowFull (mark_square given.layout) x w = rw e at full in pass_as (λ below. record { marked = λ y h o. all.marked y h }) p
 
 -- what is seen of the marks changes none
 pub seen_stays : {given : Given} {w v : List ℕ} → squares.Kept (mark_square given.layout) w v → Setting given w → Setting given v
@@ -238,6 +249,11 @@ module _ {q : Square} {w : List ℕ} {x : ℕ} {k : List ℕ} {from : ℕ} where
       by_place : (i : ℕ) → from ≤ i → i ≤ q.names → Dec (i < m) → Has k i ⊎ Marked q w x i
       by_place i j h (yes l) = (p.at i l).settled j
       by_place i j h (no l) = inr (past.each i (omega arith) h)
+
+-- a row without a node that is not marked
+pub row_full : {q : Square} {w : List ℕ} {x : ℕ} (o : Option ℕ) {b : Bool} → NextUnmarked q w x 0 o → is_some o ≡ not b → b ≡ true → RowFull q x w
+row_full None next e t = record { marked = λ y h. next.each y (omega arith) h }
+row_full (Some y) next e t = absurd (true≢false (e ∙ ap not t))
 
 -- the search for a partner: a successor of a candidate that `end` is not marked with
 pub record FreeSuccessor (given : Given) (w : List ℕ) (z r c d : ℕ) : Type 0 where

@@ -14,6 +14,7 @@
 --   Step given w x y            a rule allows the mark x, y: it is lost by x itself, or by what lies above x
 --   JoinedBelow l w c i j       the line j is i, with what lies below c by the second release
 --   Kept given w z r k          the line k is what lies below a name that serves
+--   RowFull q x w               row x is marked with all nodes
 --   LeftOpen q w x k y          the cell x, y is not marked, and y is not in the line k
 --   NextMissing q w x k from o  o is the first such column of row x from `from` on, if there is one
 --   ByName given x w            nothing is left to mark by the name x;  ByRole given x r w: by its edge with r;  ByEdge given x w: by its edge
@@ -152,6 +153,9 @@ pub record Kept (given : Given) (w : List ℕ) (z r : ℕ) (k : List ℕ) : Type
 pub record LeftOpen (q : Square) (w : List ℕ) (x : ℕ) (k : List ℕ) (y : ℕ) : Type 0 where
   pub not_marked : Marked q w x y → ⊥
   pub not_there : Has k y → ⊥
+
+pub record RowFull (q : Square) (x : ℕ) (w : List ℕ) : Type 0 where
+  pub marked : (y : ℕ) → y ≤ q.names → Marked q w x y
 
 abbrev pub NextMissing : Square → List ℕ → ℕ → List ℕ → ℕ → Option ℕ → Type 0
 NextMissing q w x k from o = Next (LeftOpen q w x k) (λ y. Has k y ⊎ Marked q w x y) q.names from o

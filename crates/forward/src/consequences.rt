@@ -9,7 +9,7 @@ ghost use Rattle.marks.specs.Lines.{Spans};
 ghost use Rattle.layout.specs.Layouts.{first_square, second_square, mark_square};
 ghost use Rattle.forward.specs.Rules.{Beneath, Setting, Edge, FromAbove, Follows, Followed, RowLost};
 
-use crate::kept::{join_below, keep_partners};
+use crate::kept::{is_full, join_below, keep_partners};
 use crate::partner::look_at_pair;
 use classification::hints::{BELOW, FILLERS};
 use layout::Given;
@@ -17,6 +17,7 @@ use marks::columns;
 use marks::line::Line;
 use marks::waiting::Waiting;
 use release::RoleName;
+use release::roles::RoleSet;
 
 // What is few. Where more bytes of a row have something new, the nodes that can lose a partner by it are not looked for; where more
 // such nodes are left, they are not tested one by one. To test all nodes at once is then quicker.
@@ -42,22 +43,26 @@ fn lose_row(given: &Given, work: &mut [u8], x: usize, role: RoleName) -> bool
     true
 }
 
-// The same for each role of the edge of x.
+// The same for each role of the edge of x, until the row is full: what a role without a partner loses is lost once.
 pub fn lose_rows(given: &Given, work: &mut [u8], x: usize)
     requires setting { Setting given.now work.old }
     requires x_lt_names { x < given.now.layout.names }
     ensures { Followed given.now work.old work.new }
 {
     let roles = given.edges[x];
+    let marks = given.layout.mark_square();
     let mut next = 0;
     while let Some(role) = roles.next(next) {
+        if is_full(marks, work, x) {
+            return;
+        }
         next = role.0 + 1;
         lose_row(given, work, x, role);
     }
 }
 
-// Adds to the line what lies below the restrictions of the second release with a role that serves for this one, and this filler.
-fn touch_by(given: &Given, work: &[u8], touched: &mut [u8], role: RoleName, filler: usize)
+// Adds to the line what lies below the restrictions of the second release with one of these roles, and this filler.
+fn touch_by(given: &Given, work: &[u8], touched: &mut [u8], serving: RoleSet, filler: usize)
     requires area { Area (second_square given.now.layout) work.now × Beneath given.now.layout work.now }
     requires spans { Spans given.now.layout.names touched.old }
     requires filler_le_names { filler ≤ given.now.layout.names }
@@ -66,20 +71,21 @@ fn touch_by(given: &Given, work: &[u8], touched: &mut [u8], role: RoleName, fill
     let second = given.second;
     let inclusions = given.layout.second_square();
     for name in inclusions.hinted(work, FILLERS, filler) {
-        if name < inclusions.names && second.serves(second.role(name), role) {
+        if name < inclusions.names && serving.has(second.role(name)) {
             join_below(given, work, touched, name);
         }
     }
 }
 
-// Adds what lies below such restrictions for each filler among the new columns. A node that is not in the line has no partner with such a
-// filler, so the new marks take none from it.
+// Adds what lies below the restrictions with a role that serves for this one, for each filler among the new columns. A node that is not in the
+// line has no partner with such a filler, so the new marks take none from it.
 fn touch(given: &Given, work: &[u8], new: &[u8], touched: &mut [u8], role: RoleName)
     requires area { Area (second_square given.now.layout) work.now × Beneath given.now.layout work.now }
     requires spans { Spans given.now.layout.names new.now × Spans given.now.layout.names touched.old }
 {
+    let serving = given.second.under(role);
     for filler in columns::of(new, given.layout.names) {
-        touch_by(given, work, touched, role, filler);
+        touch_by(given, work, touched, serving, filler);
     }
 }
 
@@ -166,7 +172,7 @@ fn lose_role(
     lose_touched(given, work, &touched, x, role)
 }
 
-// The same for each role of the edge of x.
+// The same for each role of the edge of x, until the row is full. That costs more than to look for the few nodes that can lose the first.
 fn lose_edge(given: &Given, work: &mut [u8], new: &[u8], fresh: usize, x: usize) -> bool
     requires setting { Setting given.now work.old }
     requires spans { Spans given.now.layout.names new.now }
@@ -174,9 +180,13 @@ fn lose_edge(given: &Given, work: &mut [u8], new: &[u8], fresh: usize, x: usize)
     ensures { Followed given.now work.old work.new }
 {
     let roles = given.edges[x];
+    let marks = given.layout.mark_square();
     let mut changed = false;
     let mut next = 0;
     while let Some(role) = roles.next(next) {
+        if (0 < next || FEW_BYTES < fresh) && is_full(marks, work, x) {
+            return changed;
+        }
         next = role.0 + 1;
         changed |= lose_role(given, work, new, fresh, x, role);
     }

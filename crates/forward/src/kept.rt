@@ -1,38 +1,42 @@
 // The nodes that keep a partner of an edge, as a line, and the next node that it leaves open.
 ghost use Rattle.std.specs.Prelude.{◌≡◌, true, ◌≤◌, ◌<◌};
 ghost use Rattle.el.proofs.Tests.{Tells};
+ghost use Rattle.release.specs.Files.{most_roles};
 ghost use Rattle.release.specs.Tables.{filler_at};
 ghost use Rattle.marks.specs.Squares.{Small, Room};
 ghost use Rattle.marks.specs.Lines.{Spans, Empty, Full};
 ghost use Rattle.layout.specs.Tables.{Rowed};
 ghost use Rattle.layout.specs.Layouts.{second_square, below_square, mark_square};
-ghost use Rattle.forward.specs.Rules.{Beneath, JoinedBelow, Serves, Kept, NextMissing};
+ghost use Rattle.forward.specs.Asking.{Asks};
+ghost use Rattle.forward.specs.Rules.{Beneath, JoinedBelow, Serves, Kept, RowFull, NextMissing};
 
+use crate::asked::Asked;
 use layout::{Given, Layout};
 use marks::{Square, hints, line};
 use release::RoleName;
 use release::terminology::Terminology;
 
 // Whether the name is a restriction of the second release with a role that serves, to a node that `end` is not marked with. The role is asked
-// last: that takes longest, and most names have failed before. The role and the end of an edge are two parameters here and in partner: a struct
-// of the two would be made of x's edge in two places, to be taken apart at once in each of the three functions that it is handed to.
+// last, since most names have failed before. The role and the end of an edge are two parameters here and in partner: a struct of the two would be
+// made of x's edge in two places, to be taken apart at once in each of the three functions that it is handed to.
 fn serves(
     second: &Terminology,
     marks: Square,
     work: &[u8],
     end: usize,
-    role: RoleName,
+    asked: Asked,
     name: usize,
 ) -> bool
+    requires asks { Asks second.now.table.now asked }
     requires rowed { Rowed marks.names second.now.table.now }
     requires room { Room marks work.now }
     requires end_le_names { (end ≤ marks.names) × (name < marks.names) }
-    ensures { Tells result (Serves second.now.table.now marks work.now end role.0 name) }
+    ensures { Tells result (Serves second.now.table.now marks work.now end asked.role.0 name) }
 {
     if !second.is_restriction(name) || marks.is_marked(work, end, second.filler(name)) {
         return false;
     }
-    second.serves(second.role(name), role)
+    asked.serves(second, name)
 }
 
 // The inclusions of the second release, turned: row c has what lies below the name c. They lie behind the others, where it was noted what
@@ -55,18 +59,19 @@ pub fn join_below(given: &Given, work: &[u8], line: &mut [u8], name: usize)
 }
 
 // Adds all nodes that have an edge with the role by the second release, to a node that `end` is not marked with.
-fn keep(given: &Given, work: &[u8], kept: &mut [u8], end: usize, role: RoleName)
+fn keep(given: &Given, work: &[u8], kept: &mut [u8], end: usize, asked: Asked)
+    requires asks { Asks given.now.second.table.now asked }
     requires room { Room (mark_square given.now.layout) work.now × Beneath given.now.layout work.now }
     requires spans { Spans given.now.layout.names kept.old × Empty kept.old }
     requires end_le_names { end ≤ given.now.layout.names }
-    ensures { Kept given.now work.now end role.0 kept.new }
+    ensures { Kept given.now work.now end asked.role.0 kept.new }
 {
     // in variables of its own, so that a turn reads them from registers
     let second = given.second;
     let marks = given.layout.mark_square();
     let below = below(given.layout);
     for name in 0..marks.names {
-        if !serves(&second, marks, work, end, role, name) {
+        if !serves(&second, marks, work, end, asked, name) {
             continue;
         }
         below.join(work, name, kept);
@@ -81,14 +86,24 @@ pub fn keep_partners(given: &Given, work: &[u8], kept: &mut [u8], x: usize, role
     requires room { Room (mark_square given.now.layout) work.now × Beneath given.now.layout work.now }
     requires spans { Spans given.now.layout.names kept.old × Empty kept.old }
     requires x_lt_names { (x < given.now.layout.names) × (filler_at given.now.first.table.now x ≤ given.now.layout.names) }
+    requires role { role.0 < most_roles }
     ensures { Kept
         given.now work.now (filler_at given.now.first.table.now x) role.0 kept.new
         × (result ≡ true → Full (mark_square given.now.layout) kept.new x work.now) }
 {
     let end = given.first.filler(x);
-    keep(given, work, kept, end, role);
+    keep(given, work, kept, end, Asked::of(&given.second, role));
     let marks = given.layout.mark_square();
     marks.seems_full(work, x, kept)
+}
+
+// Whether row x is marked with all nodes: then its edge can lose no more, by whichever of its roles.
+pub fn is_full(marks: Square, work: &[u8], x: usize) -> bool
+    requires room { Room marks work.now }
+    requires x_le_names { x ≤ marks.names }
+    ensures { result ≡ true → RowFull marks x work.now }
+{
+    marks.next_unmarked(work, x, 0).is_none()
 }
 
 // The first node from `from` on that x is not marked with and that is not in the line.

@@ -10,6 +10,7 @@ use marks::order::Order;
 use marks::rules;
 use marks::waiting::Waiting;
 
+mod asked;
 mod consequences;
 mod kept;
 mod partner;

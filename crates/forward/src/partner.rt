@@ -6,18 +6,22 @@ ghost use Rattle.marks.specs.Squares.{Room};
 ghost use Rattle.marks.specs.Passes.{Pass};
 ghost use Rattle.layout.specs.Searches.{SomeBelow};
 ghost use Rattle.layout.specs.Layouts.{second_square, mark_square};
+ghost use Rattle.forward.specs.Asking.{Asks, SmallRole};
 ghost use Rattle.forward.specs.Rules.{Partner, NextSuccessor, Setting, Edge, Follows, EdgeCell};
 
+use crate::asked::Asked;
 use layout::Given;
 use release::RoleName;
 use release::terminology::Terminology;
 
 // The first successor of the name by the role, from the node `from` on. A name has one axiom, so one successor at most.
-fn next_successor(second: &Terminology, role: RoleName, name: usize, from: usize) -> Option<usize>
-    requires { HasRow name }
-    ensures { NextSuccessor second.now.table.now role.0 name from result }
+fn next_successor(second: &Terminology, asked: Asked, name: usize, from: usize) -> Option<usize>
+    requires asks { Asks second.now.table.now asked }
+    requires row { HasRow name }
+    requires small { SmallRole second.now.table.now name }
+    ensures { NextSuccessor second.now.table.now asked.role.0 name from result }
 {
-    match second.successor(name, role) {
+    match asked.successor(second, name) {
         Some(filler) if from <= filler => Some(filler),
         _ => None,
     }
@@ -25,10 +29,11 @@ fn next_successor(second: &Terminology, role: RoleName, name: usize, from: usize
 
 // Whether y has an edge with the role by the second release, to a node that `end` is not marked with. The candidates are the names above
 // y by the second release, up to ⊤; of each, its successors by the role are looked at. The first partner ends both loops.
-fn has_partner(given: &Given, work: &[u8], end: usize, role: RoleName, y: usize) -> bool
+fn has_partner(given: &Given, work: &[u8], end: usize, asked: Asked, y: usize) -> bool
+    requires asks { Asks given.now.second.table.now asked }
     requires room { Room (second_square given.now.layout) work.now × Room (mark_square given.now.layout) work.now }
     requires end_le_names { (end ≤ given.now.layout.names) × (y ≤ given.now.layout.names) }
-    ensures { Tells result (SomeBelow (Partner given.now work.now end y role.0) given.now.layout.names) }
+    ensures { Tells result (SomeBelow (Partner given.now work.now end y asked.role.0) given.now.layout.names) }
 {
     // in variables of its own, so that a turn reads them from registers
     let second = given.second;
@@ -43,7 +48,7 @@ fn has_partner(given: &Given, work: &[u8], end: usize, role: RoleName, y: usize)
         }
         next = candidate + 1;
         let mut from = 0;
-        while let Some(successor) = next_successor(&second, role, candidate, from) {
+        while let Some(successor) = next_successor(&second, asked, candidate, from) {
             if !marks.is_marked(work, end, successor) {
                 found = true;
                 break 'search;
@@ -62,7 +67,8 @@ pub fn look_at_pair(given: &Given, work: &mut [u8], x: usize, role: RoleName, y:
     ensures { Pass (Follows given.now) (mark_square given.now.layout) (EdgeCell given.now x role.0 y) work.old work.new result }
 {
     let end = given.first.filler(x);
-    if has_partner(given, work, end, role, y) {
+    let asked = Asked::of(&given.second, role);
+    if has_partner(given, work, end, asked, y) {
         return false;
     }
     let marks = given.layout.mark_square();

@@ -3,4 +3,4 @@ use Rattle.forward.proofs.Tested.{KeptTo}
 use Rattle.forward.proofs.kept.keep.Given as goal
 
 abbrev pub invariant-loop-name : goal.invariant-loop-name
-invariant-loop-name l = KeptTo l.given l.work l.end l.role.0 l.name l.kept
+invariant-loop-name l = KeptTo l.given l.work l.end l.asked.role.0 l.name l.kept

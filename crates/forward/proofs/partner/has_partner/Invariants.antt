@@ -9,13 +9,13 @@ use Rattle.forward.proofs.Tested.{FreeSuccessor}
 use Rattle.forward.proofs.partner.has_partner.Given as goal
 
 abbrev pub invariant-loop-successor : goal.invariant-loop-successor
-invariant-loop-successor l = (l.found ≡ false) × NoneBelow (FreeSuccessor l.given l.work l.end l.role.0 l.candidate) l.from
+invariant-loop-successor l = (l.found ≡ false) × NoneBelow (FreeSuccessor l.given l.work l.end l.asked.role.0 l.candidate) l.from
 
 abbrev pub decreases-loop-successor : goal.decreases-loop-successor
 decreases-loop-successor l = suc l.given.layout.names - l.from
 
 abbrev pub invariant-search : goal.invariant-search
-invariant-search l = (l.found ≡ false) × NoneBelow (Partner l.given l.work l.end l.y l.role.0) l.next
+invariant-search l = (l.found ≡ false) × NoneBelow (Partner l.given l.work l.end l.y l.asked.role.0) l.next
 
 abbrev pub decreases-search : goal.decreases-search
 decreases-search l = suc l.above.names - l.next

@@ -2,7 +2,7 @@
 use native.Mathlib.Omega.{arith}
 use Rattle.marks.proofs.Passes.{turns_none, turn_both}
 use Rattle.forward.specs.Rules.{setting_stays}
-use Rattle.forward.proofs.Tested.{roles_to, roles_end}
+use Rattle.forward.proofs.Tested.{roles_to, roles_end, roles_full}
 use Rattle.forward.proofs.sweep.look_at_edge.Goals as goal
 
 pub loop-next-init : goal.loop-next-init
@@ -13,6 +13,9 @@ loop-next-preserved c =
     let before = c.loop-next.invariant in
     let turn = c.look_at_role-changed.ensures in
     (omega (arith, c.in-Some.ensures.inside), setting_stays turn.grows before.1, turn_both (roles_to before.2 c.in-Some.ensures) turn)
+
+pub returns-then-is_full : goal.returns-then-is_full
+returns-then-is_full c = roles_full c.loop-next.invariant.2 c.mark_square-marks.ensures (c.is_full.ensures c.if-is_full.true)
 
 pub returns : goal.returns
 returns c = roles_end c.loop-next.invariant.2 c.requires.x_lt_names c.in_default.ensures
