@@ -28,7 +28,7 @@ const NONE: &str = "none";
 const SPREAD_NONE: &str = "spread_none";
 
 /// The shapes; 31 pairs in a chain are those with `up` and `down`. Roles are spread over a chain in comparisons only.
-pub const SHAPES: [Shape; 8] = [
+pub const SHAPES: [Shape; 9] = [
     Shape { name: NONE, spread: false, pairs: || [vec![], vec![]], without: NONE },
     Shape { name: "up", spread: false, pairs: || [up(), up()], without: NONE },
     Shape { name: "down", spread: false, pairs: || [down(), down()], without: NONE },
@@ -37,6 +37,7 @@ pub const SHAPES: [Shape; 8] = [
     Shape { name: "first", spread: false, pairs: || [up(), vec![]], without: NONE },
     Shape { name: SPREAD_NONE, spread: true, pairs: || [vec![], vec![]], without: SPREAD_NONE },
     Shape { name: "spread_up", spread: true, pairs: || [up(), up()], without: SPREAD_NONE },
+    Shape { name: "spread_first", spread: true, pairs: || [up(), vec![]], without: SPREAD_NONE },
 ];
 
 /// Each role under the next.
