@@ -2,6 +2,7 @@
 -- the square of the inclusions between its nodes are g.
 --   file_in g, table_in g        its file and its table
 --   Includes g x y               the node x lies below the node y
+--   OwnServe g                   each role serves for itself
 --   PartsSet g a k y             all conjuncts of y are set in row k of the grid a
 --   RootBelow g a k y            root k lies below the node y: ⊤; all its conjuncts are set; or it is
 --   AtomBelow g b a y            the atom b lies below the name y, which is not defined by a conjunction
@@ -25,8 +26,12 @@ table_in g = g.terminology.table.now
 abbrev pub Includes : Classified → ℕ → ℕ → Type 0
 Includes g x y = Marked g.square g.work.now x y
 
+pub record OwnServe (g : Classified) : Type 0 where
+  pub own : (r : ℕ) → serves_at (table_in g) r r ≡ true
+
 pub record Ranges (g : Classified) : Type 0 where
   pub shaped : Shaped g.square.names (file_in g) (table_in g)
+  pub own : OwnServe g
   pub few : g.square.names < most_nodes
 
 pub record PartsSet (g : Classified) (a : Grid) (k y : ℕ) : Type 0 where

@@ -1,14 +1,23 @@
 // The names above each root of a concept, by its outline. A row has the names that are not defined by a conjunction; the others, and ⊤, follow from those.
-ghost use Rattle.std.specs.Prelude.{◌≤◌, ◌<◌};
+ghost use Rattle.std.specs.Prelude.{◌≡◌, ◌≤◌, ◌<◌};
 ghost use Rattle.el.proofs.Tests.{Tells};
 ghost use Rattle.points.specs.Grids.{most_roots};
-ghost use Rattle.points.specs.Above.{Ranges, PartsSet, RootBelow, AtomBelow, InRow, OfAtom, Risen};
+ghost use Rattle.release.specs.Tables.{serves_at};
+ghost use Rattle.points.specs.Above.{table_in, OwnServe, Ranges, PartsSet, RootBelow, AtomBelow, InRow, OfAtom, Risen};
 
 use crate::{Classified, Grid};
 use outline::{Atom, Conjunct};
-use release::Kind;
+use release::{Kind, RoleName};
 
 impl Classified<'_> {
+    // Whether a role serves where another is asked for. First whether it is that one, since then the table is not read.
+    pub(crate) fn serves(&self, role: RoleName, asked: RoleName) -> bool
+        requires { OwnServe self.now }
+        ensures { result ≡ serves_at (table_in self.now) role.0 asked.0 }
+    {
+        role == asked || self.terminology.serves(role, asked)
+    }
+
     // Whether all conjuncts of a name are in the row of a root.
     fn has_parts(&self, above: &Grid, root: usize, name: usize) -> bool
         requires { InRow self.now root name }
@@ -49,7 +58,7 @@ impl Classified<'_> {
                 if !self.terminology.has_kind(name, Kind::DefinedRestriction) {
                     return false;
                 }
-                if !self.terminology.serves(role, self.terminology.role(name)) {
+                if !self.serves(role, self.terminology.role(name)) {
                     return false;
                 }
                 let node = self.terminology.filler(name);

@@ -110,23 +110,20 @@ pub struct Subsumee<'a> {
     pub above: &'a Grid,
 }
 
-// An atom of D: the grid of which the rows have lost the nodes that do not lie below the roots of D, and a line of names by which no node lies below
-// the atom, where it is an ∃. What `idle` has to hold is asked in the contracts: it speaks of the release too (`Classified`), which is no part of it.
-// So is that the numbers of an atom are in range (`OfAtom`), which no value of the release or of the atom alone could say.
+// An atom of D and, where it is an ∃, the line of the names by which no node lies below it. What `idle` has to hold is said in the contracts: it speaks
+// of the release too (`Classified`), which is no part of it. So is that the numbers of an atom are in range (`OfAtom`), which no value of the release
+// or of the atom alone could say.
 #[derive(Clone, Copy, Debug, PartialEq, Eq)]
 pub struct Subsumer<'a> {
     pub atom: Atom,
-    pub lost: &'a Grid,
     pub idle: &'a [u8],
 }
 
-// An ∃ of D, a role over a root: the grid of which the root's row has lost the nodes that do not lie below it, and a line of names by which no
-// node lies below the ∃.
+// An ∃ of D, a role over a root, and the line of the names by which no node lies below it.
 #[derive(Clone, Copy, Debug, PartialEq, Eq)]
 pub struct Restriction<'a> {
     pub role: RoleName,
     pub root: usize,
-    pub lost: &'a Grid,
     pub idle: &'a [u8],
 }
 
@@ -139,7 +136,6 @@ impl<'a> Subsumer<'a> {
         Restriction {
             role,
             root: usize::from(filler),
-            lost: self.lost,
             idle: self.idle,
         }
     }

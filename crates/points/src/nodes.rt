@@ -4,12 +4,12 @@ ghost use Rattle.el.proofs.Tests.{Tells};
 ghost use Rattle.release.specs.Files.{restricts};
 ghost use Rattle.release.specs.Tables.{kind_at, filler_at, HasRow};
 ghost use Rattle.outline.specs.Atoms.{child_number};
-ghost use Rattle.points.specs.Above.{table_in};
-ghost use Rattle.points.specs.Nodes.{AxiomReaches, Idle, IdleOf, IdleBy, IdleFor, NodeReaches, NodeBelow, Ranged, FromNode, OfAtom, NodesLost};
+ghost use Rattle.points.specs.Above.{table_in, OwnServe};
+ghost use Rattle.points.specs.Nodes.{AxiomReaches, Idle, IdleOf, NodeReaches, NodeBelow, Ranged, FromNode, OfAtom, NodesLost};
 ghost use Rattle.points.specs.Grids.{most_roots, most_nodes};
 ghost use Rattle.marks.specs.Lines.{Spans, Empty};
 
-use crate::{Classified, Grid, Restriction, Subsumer};
+use crate::{Classified, Grid, Subsumer};
 use marks::line;
 use outline::{Atom, Conjunct};
 use release::RoleName;
@@ -19,17 +19,22 @@ impl Classified<'_> {
     fn axiom_reaches(&self, lost: &Grid, role: RoleName, root: usize, name: usize) -> bool
         requires has_row { HasRow name
             × (restricts (kind_at (table_in self.now) name) ≡ true → filler_at (table_in self.now) name < most_nodes) }
+        requires own { OwnServe self.now }
         requires root_lt_most_roots { root < most_roots }
         ensures { Tells result (AxiomReaches self.now lost.now role.0 root name) }
     {
-        let Some(filler) = self.terminology.successor(name, role) else {
+        if !self.terminology.is_restriction(name) {
             return false;
-        };
+        }
+        if !self.serves(self.terminology.role(name), role) {
+            return false;
+        }
+        let filler = self.terminology.filler(name);
         !lost.has(root, filler)
     }
 
-    // Adds to the line the names whose axioms do not reach: no node lies below ∃ of the role over the root by one of them. Names are numbers here,
-    // which no slice holds.
+    // Adds to the line the names whose axioms do not reach: by these no node lies below ∃ of the role over the root, and by each other name the nodes
+    // below it do. Names are numbers here, which no slice holds.
     fn find_idle(&self, lost: &Grid, idle: &mut [u8], role: RoleName, root: usize)
         requires ranged { Ranged self.now }
         requires spans { Spans self.now.square.names idle.old × Empty idle.old × (root < most_roots) }
@@ -54,54 +59,41 @@ impl Classified<'_> {
         }
     }
 
-    // Whether a node lies below an ∃ of D. Only names above the node are looked at that the line does not have.
-    pub fn node_reaches(&self, restriction: &Restriction, node: usize) -> bool
-        requires from_node { FromNode self.now node restriction.now.root }
-        requires idle { IdleFor self.now restriction.now }
-        ensures { Tells result (NodeReaches self.now restriction.now.lost.now node restriction.now.role.0 restriction.now.root) }
+    // Whether a node lies below an ∃ of D, by the line of the names that are idle for it: a name above the node is not in the line.
+    pub fn node_reaches(&self, idle: &[u8], node: usize) -> bool
+        requires { FromNode self.now idle.now node }
+        ensures { Tells result (NodeReaches self.now idle.now node) }
     {
-        // a loop, not `any`: of an iterator of its own a proof by `any` asks laws of its runs, as release has them for conjuncts, for this one place
-        for name in self.square.outside(self.work, node, restriction.idle) {
-            // the last column is ⊤
-            if name == self.square.names {
-                return false;
-            }
-            if self.axiom_reaches(restriction.lost, restriction.role, restriction.root, name) {
-                return true;
-            }
-        }
-        false
+        let Some(first) = self.square.next_outside(self.work, node, idle, 0) else {
+            return false;
+        };
+        // the last column is ⊤
+        first < self.square.names
     }
 
     // Whether a node lies below an atom.
     fn node_below(&self, subsumer: &Subsumer, node: usize) -> bool
         requires of_atom { OfAtom self.now subsumer.now.atom }
-        requires node_le_names { node ≤ self.now.square.names }
-        requires idle { IdleBy self.now subsumer.now }
-        ensures { Tells result (NodeBelow self.now subsumer.now.atom subsumer.now.lost.now node) }
+        requires from_node { FromNode self.now subsumer.now.idle.now node }
+        ensures { Tells result (NodeBelow self.now subsumer.now.atom subsumer.now.idle.now node) }
     {
         match subsumer.atom.conjunct {
             Conjunct::Name(name) => self.square.is_marked(self.work, node, usize::from(name)),
-            Conjunct::Restriction { role, filler } => {
-                let restriction = subsumer.restriction(role, filler);
-                self.node_reaches(&restriction, node)
-            }
+            Conjunct::Restriction { .. } => self.node_reaches(subsumer.idle, node),
         }
     }
 
-    // Takes the nodes that do not lie below an atom from the row of its owner, given a line of names by which none does.
-    // Atom, grid and line stand apart and not as a `Subsumer`, which lends the grid to be read: it is written here.
-    pub fn lose_nodes(&self, atom: Atom, lost: &mut Grid, idle: &[u8])
-        requires of_atom { OfAtom self.now atom }
-        requires idle { IdleOf self.now lost.old atom idle.now }
-        ensures { NodesLost self.now atom lost.old lost.new }
+    // Takes the nodes that do not lie below an atom from the row of its owner.
+    pub fn lose_nodes(&self, subsumer: &Subsumer, lost: &mut Grid)
+        requires of_atom { OfAtom self.now subsumer.now.atom }
+        requires spans { Spans self.now.square.names subsumer.now.idle.now }
+        ensures { NodesLost self.now subsumer.now.atom subsumer.now.idle.now lost.old lost.new }
     {
-        let row = atom.owner();
+        let row = subsumer.atom.owner();
         // ⊤ is a node too
         let nodes = self.square.names + 1;
         for node in 0..nodes {
-            let subsumer = Subsumer { atom, lost, idle };
-            if !self.node_below(&subsumer, node) {
+            if !self.node_below(subsumer, node) {
                 lost.add(row, node);
             }
         }

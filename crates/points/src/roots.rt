@@ -3,10 +3,9 @@
 // that the loop writes.
 ghost use Rattle.std.specs.Prelude.{◌≤◌, ◌<◌, length};
 ghost use Rattle.el.proofs.Tests.{Tells};
-ghost use Rattle.marks.specs.Lines.{Empty};
+ghost use Rattle.marks.specs.Lines.{Empty, Spans};
 ghost use Rattle.points.specs.Grids.{most_roots, root_bytes};
-ghost use Rattle.points.specs.Nodes.{IdleBy, IdleFor, NodesLost};
-ghost use Rattle.points.specs.Roots.{AtomReaches, Reaching, FromRoot, FromRoots, OfNode, OfName, OfAtom, LostNotBelow, LostNotReaching, NamesLost, RootsLost};
+ghost use Rattle.points.specs.Roots.{AtomReaches, Reaching, FromRoot, FromRoots, OfNode, OfName, OfAtom, LostNotBelow, LostNotReaching, NamesLost, RootsLost, PointsLost};
 
 use crate::{Classified, Grid, Pairs, ROOT_BYTES, Restriction, Subsumee, Subsumer};
 use marks::line;
@@ -15,16 +14,14 @@ use outline::{Atom, Conjunct, Outline};
 
 impl Classified<'_> {
     // Whether an atom of C lies below an ∃ of D: a name that does, or an ∃ of a role that serves over a root that the row of D's root has not lost.
-    // `lost` is the grid of roots, and the restriction has that of nodes.
     fn atom_reaches(&self, atom: Atom, restriction: &Restriction, lost: &Pairs) -> bool
-        requires from_root { FromRoot self.now atom restriction.now.root }
-        requires idle { IdleFor self.now restriction.now }
-        ensures { Tells result (AtomReaches self.now atom restriction.now.lost.now lost.now restriction.now.role.0 restriction.now.root) }
+        requires from_root { FromRoot self.now atom restriction.now }
+        ensures { Tells result (AtomReaches self.now atom restriction.now.idle.now lost.now restriction.now.role.0 restriction.now.root) }
     {
         match atom.conjunct {
-            Conjunct::Name(name) => self.node_reaches(restriction, usize::from(name)),
+            Conjunct::Name(name) => self.node_reaches(restriction.idle, usize::from(name)),
             Conjunct::Restriction { role, filler } => {
-                self.terminology.serves(role, restriction.role)
+                self.serves(role, restriction.role)
                     && !lost.has(restriction.root, usize::from(filler))
             }
         }
@@ -38,10 +35,9 @@ impl Classified<'_> {
         lost: &Pairs,
         reaching: &mut [u8],
     )
-        requires from_roots { FromRoots self.now outline.now restriction.now.root }
-        requires idle { IdleFor self.now restriction.now }
+        requires from_roots { FromRoots self.now outline.now restriction.now }
         requires reaching { (root_bytes ≤ length reaching.old) × Empty reaching.old }
-        ensures { Reaching self.now outline.now outline.now.extent.atoms restriction.now.lost.now lost.now restriction.now.role.0 restriction.now.root reaching.new }
+        ensures { Reaching self.now outline.now outline.now.extent.atoms restriction.now.idle.now lost.now restriction.now.role.0 restriction.now.root reaching.new }
     {
         for atom in outline.atoms() {
             if self.atom_reaches(*atom, restriction, lost) {
@@ -70,8 +66,7 @@ impl Classified<'_> {
         lost: &mut Pairs,
         row: usize,
     )
-        requires from_roots { FromRoots self.now outline.now restriction.now.root }
-        requires idle { IdleFor self.now restriction.now }
+        requires from_roots { FromRoots self.now outline.now restriction.now }
         requires row { row < most_roots }
         ensures { LostNotReaching self.now outline.now row restriction.now lost.old lost.new }
     {
@@ -93,8 +88,8 @@ impl Classified<'_> {
     // The same where it is an ∃. The grids have the rows of its child.
     fn lose_under_some(&self, outline: &Outline, subsumer: &Subsumer, lost: &mut Pairs)
         requires of_atom { OfAtom self.now outline.now subsumer.now.atom }
-        requires idle { IdleBy self.now subsumer.now }
-        ensures { RootsLost self.now outline.now subsumer.now.atom subsumer.now.lost.now lost.old lost.new }
+        requires spans { Spans self.now.square.names subsumer.now.idle.now }
+        ensures { RootsLost self.now outline.now subsumer.now.atom subsumer.now.idle.now lost.old lost.new }
     {
         let Conjunct::Restriction { role, filler } = subsumer.atom.conjunct else {
             return;
@@ -107,18 +102,13 @@ impl Classified<'_> {
     // does are found once for both.
     pub fn lose_points(&self, outline: &Outline, atom: Atom, nodes: &mut Grid, lost: &mut Pairs)
         requires { OfAtom self.now outline.now atom }
-        ensures roots { RootsLost self.now outline.now atom nodes.old lost.old lost.new }
-        ensures nodes { NodesLost self.now atom nodes.old nodes.new }
+        ensures { PointsLost self.now outline.now atom nodes.old nodes.new lost.old lost.new }
     {
         // as long as any line, since there is no heap
         let mut idle = [0; Line::LENGTH];
         self.find_idle_of(atom, nodes, &mut idle);
-        let subsumer = Subsumer {
-            atom,
-            lost: nodes,
-            idle: &idle,
-        };
+        let subsumer = Subsumer { atom, idle: &idle };
         self.lose_under_some(outline, &subsumer, lost);
-        self.lose_nodes(atom, nodes, &idle);
+        self.lose_nodes(&subsumer, nodes);
     }
 }

@@ -21,8 +21,9 @@ use mathlib.Core.Logic.{◌⊎◌, inl, inr}
 use Prim.Native.Nat.{ℕ, zero, suc, ◌+◌, ◌-◌, ◌≤◌, ◌<◌}
 use native.Mathlib.Decide.{ℕ_discrete}
 use Rattle.el.specs.Concepts.{Concept}
-use Rattle.el.specs.Derivability.{Derives}
+use Rattle.el.specs.Derivability.{Derives, same_role}
 use native.Mathlib.Omega.{arith}
+use Rattle.release.proofs.Linked.{tells_serves_at}
 use Rattle.classification.proofs.AxiomRows as rows
 use Rattle.outline.specs.declared.Atom.{Atom}
 use Rattle.outline.specs.declared.Outline.{Outline}
@@ -32,10 +33,10 @@ use Rattle.points.specs.declared.Pairs.{Pairs}
 use Rattle.points.specs.declared.Classified.{Classified}
 use Rattle.points.specs.declared.Subsumee.{Subsumee}
 use Rattle.points.specs.Grids.{most_roots, most_nodes}
-use Rattle.points.specs.Above.{Ranges, InRange, Risen}
+use Rattle.points.specs.Above.{OwnServe, Ranges, InRange, Risen}
 use Rattle.points.specs.Above as above
-use Rattle.points.specs.Nodes.{Inclusive, NodesLost}
-use Rattle.points.specs.Roots.{outline_of, UnderName, UnderSome, NamesLost, RootsLost}
+use Rattle.points.specs.Nodes.{Inclusive}
+use Rattle.points.specs.Roots.{outline_of, UnderName, UnderSome, NamesLost, PointsLost}
 use Rattle.points.specs.Roots as roots
 use Rattle.question.specs.Evaluation.{World, content_in, Above, KeptRow, node_point, root_point, atom_in, Sifted, ToFill, ToSift, ToLose, Lost}
 use Rattle.question.proofs.AboveRoots.{some_atom, above_none, above_more}
@@ -45,11 +46,14 @@ use Rattle.question.proofs.OwnAtoms.{child_later}
 use Rattle.question.proofs.Sifting.{sifted_none, sifted_more, sifted_row}
 
 module _ {g : Classified} (world : World g) where
+  own : OwnServe g
+  own = record { own = λ r. (tells_serves_at world.release r r).complete same_role }
+
   ranges : Ranges g
-  ranges = record { shaped = rows.ranges world.release world.names; few = world.few }
+  ranges = record { shaped = rows.ranges world.release world.names; own = own; few = world.few }
 
   inclusive : Inclusive g
-  inclusive = record { fillers = ranges.shaped.filler; few = world.few; room = world.room }
+  inclusive = record { fillers = ranges.shaped.filler; own = own; few = world.few; room = world.room }
 
   module _ {o : Outline} (shape : Shape g.square.names o) {i : ℕ} (h : i < o.extent.atoms) where
     in_range : InRange g.square.names (atom_at o.atoms i)
@@ -160,7 +164,7 @@ module _ {g : Classified} {c o : Outline} {ln : Grid} {l : Pairs} (given : ToLos
   }
 
   module _ {left : ℕ} {xn yn : Grid} {x y : Pairs} (some_left : 0 < left) (h : left ≤ o.extent.atoms) (losing : Losing g c o left xn x)
-      (roots_lost : RootsLost g c (atom_at o.atoms (left - 1)) xn x y) (nodes_lost : NodesLost g (atom_at o.atoms (left - 1)) xn yn) where
+      (lost : PointsLost g c (atom_at o.atoms (left - 1)) xn yn x y) where
     abbrev i : ℕ
     i = left - 1
 
@@ -197,21 +201,22 @@ module _ {g : Classified} {c o : Outline} {ln : Grid} {l : Pairs} (given : ToLos
         by_place m (yes z) (no y) = inr (z, (let some : 0 < child_at o.atoms j = omega arith in rw z at some))
         by_place m (no z) (no y) = inl (inr (omega arith))
 
-    root_sound : 0 < child_at o.atoms (left - 1) → (k : ℕ) → k < c.extent.roots → UnderSome g c (atom_at o.atoms (left - 1)) xn x k
+    root_sound : 0 < child_at o.atoms (left - 1) → (k : ℕ) → k < c.extent.roots → UnderSome g c (atom_at o.atoms (left - 1)) lost.line x k
         → Derives (content_in g) (root_point c k) (atom_in o (left - 1))
-    root_sound z k m under = rw (some_atom {r = value_at o.atoms i} {d = child} (child_at o.atoms i) z) (root_reaches_sound given.world given.from (nodes_row z) (roots_row z) (under.reaches z))
+    root_sound z k m under = rw (some_atom {r = value_at o.atoms i} {d = child} (child_at o.atoms i) z)
+        (root_reaches_sound given.world given.from (nodes_row z) (roots_row z) (lost.idle.idle z) (under.reaches z))
 
-    root_complete : (k : ℕ) → k < c.extent.roots → Derives (content_in g) (root_point c k) (atom_in o (left - 1)) → UnderSome g c (atom_at o.atoms (left - 1)) xn x k
+    root_complete : (k : ℕ) → k < c.extent.roots → Derives (content_in g) (root_point c k) (atom_in o (left - 1)) → UnderSome g c (atom_at o.atoms (left - 1)) lost.line x k
     root_complete k m d = record {
-      reaches = λ z. root_reaches_complete given.world given.from (nodes_row z) (roots_row z) k (value_at o.atoms i) (rw (some_atom {r = value_at o.atoms i} {d = child} (child_at o.atoms i) z) at d);
+      reaches = λ z. root_reaches_complete given.world given.from (nodes_row z) (roots_row z) (lost.idle.idle z) k (rw (some_atom {r = value_at o.atoms i} {d = child} (child_at o.atoms i) z) at d);
     }
 
     pub lose_turn : Losing g c o (left - 1) yn y
     lose_turn = record {
       nodes = sifted_more (omega arith) (omega (arith, given.world.few)) given.shape inside
-          (λ z k m b. node_below_sound given.world nodes_row (given.shape.named i inside) k (omega arith) b)
-          (λ k m b. node_below_complete given.world nodes_row (given.shape.named i inside) k (omega arith) b) node_step losing.nodes nodes_lost.adds;
-      roots = sifted_more given.from.few (omega arith) given.shape inside root_sound root_complete root_step losing.roots roots_lost.adds;
+          (λ z k m b. node_below_sound given.world nodes_row lost.idle (given.shape.named i inside) k (omega arith) b)
+          (λ k m b. node_below_complete given.world nodes_row lost.idle (given.shape.named i inside) k (omega arith) b) node_step losing.nodes lost.nodes.adds;
+      roots = sifted_more given.from.few (omega arith) given.shape inside root_sound root_complete root_step losing.roots lost.roots.adds;
     }
 
   pub lose_end : {left : ℕ} {xn : Grid} {x : Pairs} → left ≤ 0 → Losing g c o left xn x → Lost g c o x

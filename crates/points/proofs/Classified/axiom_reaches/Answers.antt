@@ -1,9 +1,7 @@
--- `axiom_reaches` meets its contract: by the successor of the name.
-use Rattle.points.proofs.LosingNodes.{no_successor, by_successor}
+-- `axiom_reaches` meets its contract: by the filler, where the axiom is an ∃ of a role that serves.
+use mathlib.Core.Path.{sym, ◌∙◌}
+use Rattle.points.proofs.LosingNodes.{by_filler}
 use Rattle.points.proofs.Classified.axiom_reaches.Goals as goal
 
-pub returns-in_default : goal.returns-in_default
-returns-in_default c = no_successor c.in_default.ensures
-
 pub returns : goal.returns
-returns c = by_successor c.in-Some.ensures c.has.ensures
+returns c = by_filler (sym c.is_restriction.ensures ∙ c.if-not-is_restriction.false) (rw c.role.ensures at (sym c.serves.ensures ∙ c.if-not-serves.false)) (rw c.filler-filler.ensures at c.has.ensures)

@@ -5,5 +5,5 @@ use Rattle.points.proofs.Classified.lose_nodes.Given as goal
 
 abbrev pub invariant-loop-node : goal.invariant-loop-node
 invariant-loop-node l =
-    let below = NodeBelow l.self l.fn.atom l.initial.lost in
-    Adds most_nodes l.fn.atom.owner l.node (λ x. below x → ⊥) below l.initial.lost.rows l.lost.rows
+    let below = NodeBelow l.self l.subsumer.atom l.subsumer.idle.now in
+    Adds most_nodes l.subsumer.atom.owner l.node (λ x. below x → ⊥) below l.initial.lost.rows l.lost.rows

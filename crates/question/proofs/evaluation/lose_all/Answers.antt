@@ -22,7 +22,7 @@ loop-atom-preserved c =
     let i = next_atom _ c.requires.shape.room _ _ _ _ c.loop-atom.yielded_by (cc) _ _ c.in-Some.is c.next.ensures.steps in
     let n = c.args.above.now.extent.atoms in
     let e : n - length (c.loop-atom.yielded ++ c.in-Some.atom ∷ []) ≡ n - length c.loop-atom.yielded - 1 = omega (arith, length_push c.loop-atom.yielded c.in-Some.atom) in
-    rw e (lose_turn c.requires (omega (arith, i.0)) (omega arith) c.loop-atom.invariant (rw i.1 at c.lose_points.ensures.roots) (rw i.1 at c.lose_points.ensures.nodes))
+    rw e (lose_turn c.requires (omega (arith, i.0)) (omega arith) c.loop-atom.invariant (rw i.1 at c.lose_points.ensures))
 
 pub returns : goal.returns
 returns c = lose_end c.requires (all_atoms _ c.requires.shape.room _ _ _ _ c.loop-atom.yielded_by (cc) _ c.in-None.is c.next.ensures.steps) c.loop-atom.invariant
