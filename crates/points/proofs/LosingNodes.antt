@@ -1,24 +1,28 @@
 -- The names that are idle for an ∃, and the nodes that a row loses: what the loops keep, and one law for each turn.
 --   by_filler            whether an axiom reaches, by its filler
 --   idle_.., active_..   the line, name by name: an axiom that does not reach, and one that does
-use mathlib.Core.Path.{◌≡◌, sym, ◌∙◌}
+--   first_reaches        whether a node lies below the ∃, by the first column above it that is not in the line
+use mathlib.Core.Path.{◌≡◌}
 use mathlib.Core.Bool.{Bool, true, false}
 use mathlib.Core.Logic.{◌⊎◌, inl, inr}
 use mathlib.Core.List.{List}
 use Prim.Native.Nat.{ℕ, ◌+◌, ◌<◌}
 use native.Mathlib.Omega.{arith}
-use native.Mathlib.Decide.{ℕ_discrete}
+use native.Mathlib.Decide.{ℕ_discrete, dec_lt}
+use borrow.Author.Tests.{ltb-true, lt-ltb}
+use lib.Dec.{ltb}
 use Rattle.std.specs.Prelude.{not}
 use Rattle.el.proofs.Tests.{Tells, tells_as, tells_not}
 use Rattle.release.specs.Files.{restricts}
 use Rattle.release.specs.Tables.{kind_at, role_at, filler_at, serves_at}
-use Rattle.marks.specs.Lines.{Has, Spans, Added}
+use Rattle.marks.specs.Lines.{Has, Spans, Added, MarkedOutside}
+use Rattle.marks.specs.Squares.{Marked, First}
 use Rattle.marks.proofs.Squares.{refuted}
 use Rattle.points.specs.declared.Grid.{Grid}
 use Rattle.points.specs.declared.Classified.{Classified}
 use Rattle.points.specs.Grids.{Set}
 use Rattle.points.specs.Above.{table_in}
-use Rattle.points.specs.Nodes.{AxiomReaches}
+use Rattle.points.specs.Nodes.{AxiomReaches, NodeReaches}
 
 -- a line of the names before e whose axioms do not reach
 pub record IdleBefore (g : Classified) (l : Grid) (r j e : ℕ) (k : List ℕ) : Type 0 where
@@ -49,3 +53,14 @@ module _ {g : Classified} {l : Grid} {r j e : ℕ} {k : List ℕ} (before : Idle
       by_place : (b : ℕ) → b < e + 1 → Dec (b ≡ e) → Has m b ⊎ AxiomReaches g l r j b
       by_place b h (yes y) = inl (rw y added.there)
       by_place b h (no y) = elim (before.all b (omega arith)) [ inl x ↦ inl (added.stays b x) | inr x ↦ inr x ]
+
+module _ {g : Classified} {k : List ℕ} {x y : ℕ} (first : First (MarkedOutside g.square g.work.now x k) (λ z. Marked g.square g.work.now x z → Has k z) g.square.names 0 y) where
+  pub first_reaches : Tells (ltb y g.square.names) (NodeReaches g k x)
+  first_reaches = record {
+    sound = λ h. record { by = y; is_name = ltb-true _ _ h; above = first.there.marked; not_idle = first.there.out };
+    complete = λ reaches. lt-ltb _ _ (by_order reaches (dec_lt reaches.by y));
+  }
+    where
+      by_order : (reaches : NodeReaches g k x) → Dec (reaches.by < y) → y < g.square.names
+      by_order reaches (yes l) = absurd (reaches.not_idle (first.before reaches.by (omega arith) l reaches.above))
+      by_order reaches (no l) = omega (arith, l, reaches.is_name)

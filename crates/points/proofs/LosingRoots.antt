@@ -22,7 +22,6 @@ use Rattle.outline.specs.declared.Atom.{Atom}
 use Rattle.outline.specs.declared.Conjunct.TheVariants as conjunct
 use Rattle.outline.specs.declared.Outline.{Outline}
 use Rattle.outline.specs.Atoms.{Rooted, blank, atom_at, owner_at}
-use Rattle.points.specs.declared.Grid.{Grid}
 use Rattle.points.specs.declared.Pairs.{Pairs}
 use Rattle.points.specs.declared.Classified.{Classified}
 use Rattle.points.specs.declared.Restriction.{Restriction}
