@@ -10,7 +10,7 @@ use Prim.Native.Nat.{ℕ, ◌≤◌, ◌<◌}
 use native.Mathlib.Omega.{arith}
 use Rattle.el.specs.Lists.{In}
 use Rattle.el.specs.Concepts.{Node, everything, named}
-use Rattle.el.specs.Axioms.{Axiom, is_conjunction, role_of, filler_of, Terminology}
+use Rattle.el.specs.Axioms.{Axiom, is_conjunction, filler_of, Terminology}
 use Rattle.el.specs.Answers.{Column, node, name_under, partner}
 use Rattle.el.specs.Terminologies.{IsNode, name_node}
 use Rattle.el.proofs.Tests.{not_both}

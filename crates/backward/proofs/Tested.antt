@@ -17,8 +17,8 @@ use mathlib.Core.Logic.{inl, inr}
 use Prim.Native.Nat.{ℕ, suc, ◌≤◌, ◌<◌}
 use native.Mathlib.Omega.{arith}
 use native.Mathlib.Decide.{dec_lt}
-use Rattle.el.proofs.Tests.{Tells, tells_as, not_both}
-use Rattle.release.specs.Roles.{HasRole, NoRole, Met, Without}
+use Rattle.el.proofs.Tests.{Tells, tells_as}
+use Rattle.release.specs.Roles.{NoRole, Met, Without}
 use Rattle.release.specs.Tables.{kind_at, role_at, filler_at, ServingAt}
 use Rattle.release.proofs.RoleSets.{empty, some_role}
 use Rattle.marks.specs.Squares.{Marked, Put, First, Nowhere}

@@ -5,9 +5,9 @@
 --   ColumnPart given w x y i       x is marked with the conjunct i of y;  RowPart given w x y i: the conjunct i of x is marked with y
 --   NameLost given w x y           x is a signature name that is not below y by the second release
 --   Restricted t n y               the name y below n is defined by a restriction;  Filled t n y r: and the role r serves for its role
---   Serving given x y set          the set has the roles that x has an edge with and for which y is so
 --   PartnerLost given w y r z      z is marked with the filler of such a y, which is not ⊤; for another y, with nothing
 --   RoleLost given w x y           so is the filler of x, for a role that x has an edge with
+--   Serving given x y set          the set has the roles that x has an edge with and that serve for that of y
 --   NothingLost given w x set      the filler of x is marked with nothing, and x has an edge with a role outside the set
 --   FillerLost given w x y set     the filler of x is marked with that of y, which is not ⊤, and the set has a role
 --   Filling given x z              x is defined by a restriction with the filler z
@@ -16,7 +16,7 @@
 --   RowLost given w x y            the definition of x allows the mark x, y;  PlainLost given w x y: and y is a plain column
 --   Defined given w x y            the definitions of x and y allow the mark x, y: one of the two
 --   Own given w x y                they do, or x is such a name
---   Over given x y w p z           p is x, and z is so for a role that x has an edge with, and has the filler y
+--   Over given x y w p z           p is x, and z is defined by a restriction with the filler y, for whose role one serves that x has an edge with
 --   FromBelow l w x y              something below x by the first release is marked with y
 --   Follows given w x y            the definitions of x and y allow the mark x, y, or something below x does;  Followed given w v: w became v
 --                                  by such marks
@@ -89,9 +89,6 @@ pub record Filled (t : Table) (n y r : ℕ) : Type 0 where
   pub kind : kind_at t y ≡ 4
   pub role : serves_at t r (role_at t y) ≡ true
 
-pub record Serving (given : Given) (x y set : ℕ) : Type 0 where
-  pub tells : (r : ℕ) → HasRole set r ↔ (HasEdge given.edges.now x r × Filled given.second.table.now given.layout.names y r)
-
 pub data PartnerLost (given : Given) (w : List ℕ) (y r z : ℕ) : Type 0 where
   of_filler : Filled given.second.table.now given.layout.names y r → filler_at given.second.table.now y < given.layout.names
       → Marked (mark_square given.layout) w z (filler_at given.second.table.now y) → PartnerLost given w y r z
@@ -101,6 +98,9 @@ pub record RoleLost (given : Given) (w : List ℕ) (x y : ℕ) : Type 0 where
   pub role : ℕ
   pub edge : HasEdge given.edges.now x role
   pub partner : PartnerLost given w y role (filler_at given.first.table.now x)
+
+pub record Serving (given : Given) (x y set : ℕ) : Type 0 where
+  pub tells : (r : ℕ) → HasRole set r ↔ (HasEdge given.edges.now x r × Filled given.second.table.now given.layout.names y r)
 
 pub record NothingLost (given : Given) (w : List ℕ) (x set : ℕ) : Type 0 where
   pub role : ℕ

@@ -5,6 +5,7 @@
 ghost use Rattle.layout.specs.Comparing.{Comparing};
 ghost use Rattle.backward.specs.Backward.{BackwardFrom};
 
+pub use crate::rules::serving;
 use layout::Given;
 use marks::order::Order;
 

@@ -1,13 +1,12 @@
 // What is looked for before anything is written.
 ghost use Rattle.std.specs.Prelude.{◌≡◌, ◌≤◌, ◌<◌, IfSome};
 ghost use Rattle.el.proofs.Tests.{Tells};
-ghost use Rattle.backward.specs.Rules.{Restricted, Serving};
 ghost use Rattle.witness_below.specs.Cells.{cell_at};
 ghost use Rattle.witness_below.specs.Finding.{ToColumn, ToParts, ToName, PartFound, LostName, NameFound, PartnerFound, JoinedColumn};
 
 use crate::cells::{OPEN, UNASKED, cell};
+use backward::serving;
 use layout::Given;
-use release::roles::RoleSet;
 use release::{ConceptName, Kind, RoleName};
 
 // The first conjunct of the column y that is marked with x; else the first that is not asked for with x.
@@ -78,25 +77,6 @@ pub fn find_name(given: &Given, work: &[u8], x: usize, y: usize) -> Option<Conce
         }
     }
     None
-}
-
-// Whether y is defined by a restriction. Crate backward tests this too, and finds the roles below, but has definitions of both alone for other
-// crates.
-fn is_restriction(given: &Given, y: usize) -> bool
-    ensures { Tells result (Restricted given.now.second.table.now given.now.layout.names y) }
-{
-    y < given.layout.names && given.second.has_kind(y, Kind::DefinedRestriction)
-}
-
-// The roles that x has an edge with and that serve for y: none where y is not defined by a restriction.
-fn serving(given: &Given, x: usize, y: usize) -> RoleSet
-    requires { x < given.now.layout.names }
-    ensures { Serving given.now x y result.0 }
-{
-    if is_restriction(given, y) {
-        return given.edges[x].meet(given.second.under(given.second.role(y)));
-    }
-    RoleSet::NONE
 }
 
 // A role of the edge of a name, and the column that the filler of the name has to be asked for with by it.

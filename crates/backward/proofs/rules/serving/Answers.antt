@@ -1,5 +1,4 @@
 -- The roles of the edge that serve, where y is defined by a restriction.
-use mathlib.Core.Path.{refl}
 use Rattle.marks.proofs.Squares.{refuted}
 use Rattle.backward.proofs.Tested.{all_serving, none_serving}
 use Rattle.backward.proofs.rules.serving.Goals as goal
