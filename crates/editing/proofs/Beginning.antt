@@ -26,8 +26,8 @@ use Rattle.release.proofs.Linked.{no_header_fault}
 use Rattle.release.proofs.Refusing.{is_refused, is_accepted}
 use Rattle.signature.specs.Bytes.{is_bit, signature_fault, signature_refusal}
 use Rattle.signature.specs.declared.SignatureRefusal.{SignatureRefusal}
-use Rattle.writing.specs.Places.{Put}
-use Rattle.writing.proofs.Puts.{put_at_start}
+use Rattle.output.specs.Places.{Put}
+use Rattle.output.proofs.Puts.{put_at_start}
 use Rattle.meanings.specs.Comparing.{work_length, refused, same_counts, agreed, and_then, Says}
 use Rattle.meanings.specs.Refusals.{compare_refusal}
 use Rattle.meanings.specs.declared.Compared.{Compared}

@@ -25,8 +25,8 @@ use Rattle.release.proofs.Checks.{header_sound}
 use Rattle.release.proofs.Linked.{no_header_fault}
 use Rattle.release.proofs.Refusing.{is_refused, is_accepted}
 use Rattle.rewriting.specs.Bytes.{Bytes}
-use Rattle.writing.specs.Places.{Put}
-use Rattle.writing.proofs.Puts.{put_next, put_at_start}
+use Rattle.output.specs.Places.{Put}
+use Rattle.output.proofs.Puts.{put_next, put_at_start}
 use Rattle.splicing.specs.Places.{most_bytes, file_with, file_without, Copied, PutsIn, TakesOut}
 use Rattle.splicing.proofs.Splices.{filed_with, filed_without}
 use Rattle.editing.specs.declared.held.HeldFile.{HeldFile}

@@ -4,10 +4,10 @@ ghost use Rattle.splicing.specs.Places.{most_bytes, file_with, file_without};
 ghost use Rattle.editing.specs.Sessions.{text_of, holding, blank};
 ghost use Rattle.editing.specs.Judging.{HasCounts, Adds, Withdraws};
 
+use output::put_text;
 use release::number::Version;
 use release::{Counts, Release, check_release};
 use splicing::{put_in, take_out};
-use writing::put_text;
 
 // A file at the start of bytes that have room for the longest one. The length may be any: past the bytes there is nothing more of the file.
 #[derive(Clone, Copy, Debug, PartialEq, Eq)]

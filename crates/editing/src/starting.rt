@@ -8,10 +8,10 @@ ghost use Rattle.editing.specs.Judging.{Opens};
 
 use crate::{EditRefusal, HeldFile, Session};
 use meanings::{Compared, agree};
+use output::put_text;
 use release::header::said_version;
 use release::{Counts, FileRefusal, Release, check_release};
 use signature::signature_fault;
-use writing::put_text;
 
 // Whether a file says another version than 1.
 fn has_other_version(file: &[u8]) -> bool

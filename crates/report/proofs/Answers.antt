@@ -9,7 +9,7 @@ use Rattle.std.proofs.Common.{Option, Some, None, Result, Ok, Err}
 use Rattle.std.specs.Option.{ok_or}
 use Rattle.el.specs.Comparison.{on_left, on_right}
 use Rattle.el.specs.Lists.{count}
-use Rattle.writing.specs.Places.{Whole}
+use Rattle.output.specs.Places.{Whole}
 use Rattle.report.specs.declared.refusals.ReportRefusal.{ReportRefusal}
 use Rattle.report.specs.declared.refusals.ReportRefusal.TheVariants.{ShortResult, ShortOutput}
 use Rattle.report.specs.Texts.{report_with, report}

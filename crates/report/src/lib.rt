@@ -11,7 +11,7 @@ use crate::numbers::put_two_numbers;
 pub use crate::refusals::ReportRefusal;
 use meanings::Compared;
 use release::Refusal;
-use writing::put_whole;
+use output::put_whole;
 
 mod lines;
 mod numbers;

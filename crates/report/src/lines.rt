@@ -3,11 +3,11 @@ ghost use Rattle.std.specs.Prelude.{◌≡◌, List, ℕ};
 ghost use Rattle.el.specs.Lists.{count};
 ghost use Rattle.report.specs.Texts.{entry, lines, report_with};
 ghost use Rattle.report.specs.Sides.{SideOf, side_letter, on_side, side_byte};
-ghost use Rattle.writing.specs.Places.{Put};
+ghost use Rattle.output.specs.Places.{Put};
 
 use crate::numbers::{put_three_digits, put_two_numbers};
+use output::put_or_count;
 use release::ConceptName;
-use writing::put_or_count;
 
 // Where a name is reported: on the left only, on the right only, or on both sides.
 #[derive(Clone, Copy, Debug, PartialEq, Eq)]

@@ -1,9 +1,9 @@
 // Numbers as text, and the lines of two words and two numbers.
 ghost use Rattle.report.specs.Numbers.{decimal, three_digits};
 ghost use Rattle.report.specs.Texts.{worded, two_numbers};
-ghost use Rattle.writing.specs.Places.{Put};
+ghost use Rattle.output.specs.Places.{Put};
 
-use writing::{put_or_count, put_text};
+use output::{put_or_count, put_text};
 
 // A number in decimal: the digits of its tenth, and its last. By hand: the library promises the bytes of `write!` for a `String` alone,
 // which needs a heap, and a further crate for it would be one more to trust. It calls itself once for each digit.

@@ -1,7 +1,7 @@
 // The text of a sheet: a line for each branch, with the numbers of its row.
 ghost use Rattle.release.specs.Refusals.{told};
 ghost use Rattle.report.specs.Sheets.{row_line, row_lines, SheetWritten};
-ghost use Rattle.writing.specs.Places.{Put};
+ghost use Rattle.output.specs.Places.{Put};
 
 use crate::numbers::put_worded;
 use crate::{ReportRefusal, write_refusal};
@@ -9,7 +9,7 @@ use branches::judging::Sheet;
 use branches::row::Row;
 use meanings::Compared;
 use release::Refusal;
-use writing::{put_or_count, put_whole};
+use output::{put_or_count, put_whole};
 
 // The line of a branch. A number of 32 bits is one of a machine's by `as`: there is no From for it.
 fn put_row(output: &mut [u8], at: usize, branch: usize, row: Row) -> usize

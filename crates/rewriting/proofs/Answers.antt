@@ -27,8 +27,8 @@ use Rattle.release.proofs.Linked.{no_header_fault}
 use Rattle.release.proofs.Refusing.{is_refused, is_accepted}
 use Rattle.rewriting.specs.Bytes.{number_bytes, axioms_bytes, release_bytes}
 use Rattle.rewriting.specs.Rewriting.{rewritten, refusal, fitted, source_fault, answer_to, Rewritable, Rewrites, RewritesAs}
-use Rattle.writing.specs.Places.{last_place, Room, Put}
-use Rattle.writing.proofs.Puts.{put_at_start}
+use Rattle.output.specs.Places.{last_place, Room, Put}
+use Rattle.output.proofs.Puts.{put_at_start}
 use Rattle.rewriting.proofs.Puts.{Begins, Rest, rest_whole, piece_put}
 use Rattle.rewriting.proofs.Lengths.{count_length}
 

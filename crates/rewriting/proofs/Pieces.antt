@@ -9,7 +9,7 @@ use lib.ListN.{length, get_or, length-append}
 use Rattle.el.specs.Axioms.{Right, conjunction, restriction}
 use Rattle.release.specs.Files.{number, numbers, width_of, joins, filler_node, right_at, axiom_at, axiom_length, axioms_from, kind_of}
 use Rattle.rewriting.specs.Bytes.{number_bytes, names_bytes, filler_number, tail_bytes, axiom_bytes, axioms_bytes}
-use Rattle.writing.specs.Places.{last_place, Room, Put}
+use Rattle.output.specs.Places.{last_place, Room, Put}
 use Rattle.rewriting.proofs.Puts.{Begins, Rest, rest_whole, piece_room, piece_put}
 
 -- a number has as many bytes as its width

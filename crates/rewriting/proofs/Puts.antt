@@ -7,8 +7,8 @@ use mathlib.Core.List.{List, [], ◌++◌}
 use Prim.Native.Nat.{ℕ, ◌≤◌}
 use native.Mathlib.Omega.{arith}
 use lib.ListN.{length}
-use Rattle.writing.specs.Places.{last_place, Room, Put}
-use Rattle.writing.proofs.Puts.{put_none, put_as, put_length, put_then, room_first, room_then}
+use Rattle.output.specs.Places.{last_place, Room, Put}
+use Rattle.output.proofs.Puts.{put_none, put_as, put_length, put_then, room_first, room_then}
 
 pub record Begins (rest s t : List ℕ) : Type 0 where
   pub is : rest ≡ s ++ t

@@ -4,12 +4,12 @@ ghost use Rattle.release.specs.Files.{numbers, filler_node, right_at, axiom_at};
 ghost use Rattle.release.specs.Versions.{width};
 ghost use Rattle.rewriting.specs.Bytes.{names_bytes, filler_number, tail_bytes, axiom_bytes};
 ghost use Rattle.rewriting.specs.Stands.{TailStands, AxiomStands};
-ghost use Rattle.writing.specs.Places.{Room, Put};
+ghost use Rattle.output.specs.Places.{Room, Put};
 
 use crate::Rewriting;
 use crate::numbers::put_number;
 use release::Kind;
-use writing::put_byte;
+use output::put_byte;
 
 impl<'a> Rewriting<'a> {
     // The number that a filler has in the wanted version: ⊤ has another one there.

@@ -4,13 +4,13 @@ ghost use Rattle.release.specs.Files.{axioms_of};
 ghost use Rattle.release.specs.Versions.{width};
 ghost use Rattle.rewriting.specs.Bytes.{axioms_bytes};
 ghost use Rattle.rewriting.specs.Rewriting.{rewritten};
-ghost use Rattle.writing.specs.Places.{Room, Put};
+ghost use Rattle.output.specs.Places.{Room, Put};
 
 use crate::Rewriting;
 use crate::numbers::put_number;
 use release::Release;
 use release::number::Version;
-use writing::{put_byte, put_text};
+use output::{put_byte, put_text};
 
 impl<'a> Rewriting<'a> {
     // All axioms. The place is kept by hand: an axiom says where the next one starts, so no iterator gives it.

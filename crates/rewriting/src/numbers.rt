@@ -1,10 +1,10 @@
 // Numbers put into the output, each in the bytes of a version's names.
 ghost use Rattle.release.specs.Versions.{width};
 ghost use Rattle.rewriting.specs.Bytes.{number_bytes};
-ghost use Rattle.writing.specs.Places.{Room, Put};
+ghost use Rattle.output.specs.Places.{Room, Put};
 
 use release::number::Version;
-use writing::put_byte;
+use output::put_byte;
 
 // The low byte first.
 pub fn put_number(output: &mut [u8], at: usize, version: Version, number: usize) -> usize

@@ -15,8 +15,8 @@ use Rattle.release.specs.Files.{number}
 use Rattle.rewriting.specs.Bytes.{number_bytes}
 use Rattle.rewriting.proofs.Pieces.{number_length}
 use Rattle.rewriting.proofs.Parts.{number_back, two_fit}
-use Rattle.writing.specs.Places.{Put}
-use Rattle.writing.proofs.Puts.{put_at_start, put_next, put_then}
+use Rattle.output.specs.Places.{Put}
+use Rattle.output.proofs.Puts.{put_at_start, put_next, put_then}
 use Rattle.meanings.specs.declared.Compared.{Compared}
 use Rattle.splicing.specs.Places.{most_bytes}
 use Rattle.editing.specs.declared.held.HeldFile.{HeldFile}

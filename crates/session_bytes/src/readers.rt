@@ -6,8 +6,8 @@ ghost use Rattle.session_bytes.specs.Layout.{session_in, Copies};
 use crate::Layout;
 use crate::reading::read_session;
 use editing::{HeldFile, Session};
+use output::put_text;
 use release::ConceptName;
-use writing::put_text;
 
 // n, the number of names.
 pub fn names(session: &[u8; Layout::LENGTH]) -> usize

@@ -5,7 +5,7 @@ ghost use Rattle.session_bytes.specs.Layout.{Writes};
 
 use crate::Layout;
 use editing::Session;
-use writing::put_text;
+use output::put_text;
 
 // A number in four bytes, low byte first: a length takes less in a session that can be edited.
 fn four_bytes(number: usize) -> [u8; 4]

@@ -22,12 +22,12 @@ use Rattle.release.proofs.Linked.{axiom_kind}
 use Rattle.rewriting.specs.Bytes.{Bytes, number_bytes, tail_bytes, axiom_bytes, axioms_bytes, release_bytes}
 use Rattle.rewriting.specs.Rewriting.{rewritten, Rewritable}
 use Rattle.rewriting.specs.Stands.{AxiomStands}
-use Rattle.writing.specs.Places.{last_place, Room, Put}
+use Rattle.output.specs.Places.{last_place, Room, Put}
 use Rattle.rewriting.proofs.Pieces.{number_length}
 use Rattle.rewriting.proofs.Lengths.{own_length, count_length, header_bytes, accepted_ends}
 use Rattle.rewriting.proofs.ReadBack.{axiom_back}
 use Rattle.rewriting.proofs.Parts.{At, at_start, at_first, at_later, at_place, at_as}
-use Rattle.writing.proofs.Puts.{put_as, put_then, put_length, put_next}
+use Rattle.output.proofs.Puts.{put_as, put_then, put_length, put_next}
 use Rattle.rewriting.proofs.Canonical.{axiom_at_lem, canonical}
 use Rattle.splicing.specs.Axioms.{lower, upper, has, inserted, withdrawn}
 use Rattle.splicing.specs.Places.{most_bytes, IsFile, IsText, text_fault, axiom_in, place_of, file_of, file_with, file_without, Copied, PutsIn, TakesOut}

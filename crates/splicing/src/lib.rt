@@ -5,13 +5,13 @@
 ghost use Rattle.std.specs.Prelude.{◌≡◌, ◌≤◌};
 ghost use Rattle.release.specs.Files.{axioms_of};
 ghost use Rattle.release.specs.Refusals.{file_refusal, told, answer};
-ghost use Rattle.writing.specs.Places.{Put};
+ghost use Rattle.output.specs.Places.{Put};
 ghost use Rattle.splicing.specs.Axioms.{has};
 ghost use Rattle.splicing.specs.Places.{IsFile, text_fault, name_in, place_of, file_with, file_without, PutsIn, TakesOut};
 
+use output::put_text;
 use release::number::Version;
 use release::{ConceptName, Counts, FileRefusal, Source};
-use writing::put_text;
 
 // Reads bytes that are to be one axiom over these names and roles: its left name, or the first refusal. They meet no other order than
 // their own.

@@ -1,6 +1,6 @@
 -- `write_report` meets its contract: the result is too short, or the report with these counts is put whole or not at all.
 use Rattle.std.proofs.Common.{rules, arith, refl}
-use Rattle.writing.proofs.Puts.{put_as}
+use Rattle.output.proofs.Puts.{put_as}
 use Rattle.report.proofs.Answers.{whole_written, result_too_short, result_long_enough, counted_text}
 use Rattle.report.proofs.write_report.Goals as goal
 

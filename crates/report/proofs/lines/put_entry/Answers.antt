@@ -1,6 +1,6 @@
 -- `put_entry` meets its contract: nothing for a name that is not reported, else its line, piece by piece.
 use Rattle.std.proofs.Common.{arith, sym}
-use Rattle.writing.proofs.Puts.{put_none, put_as, put_then}
+use Rattle.output.proofs.Puts.{put_none, put_as, put_then}
 use Rattle.report.proofs.Entries.{entry_nothing, side_line}
 use Rattle.report.proofs.lines.put_entry.Goals as goal
 

@@ -1,6 +1,6 @@
 -- `put_lines` meets its contract: the lines of the names so far are put.
 use Rattle.std.proofs.Common.{arith}
-use Rattle.writing.proofs.Puts.{put_none, put_as, put_then}
+use Rattle.output.proofs.Puts.{put_none, put_as, put_then}
 use Rattle.report.specs.Texts.{lines}
 use Rattle.report.proofs.Entries.{lines_more}
 use Rattle.report.proofs.lines.put_lines.Goals as goal

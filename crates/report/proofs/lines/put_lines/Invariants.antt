@@ -1,7 +1,7 @@
 -- `put_lines` meets its contract: the lines of the names so far are put.
 use Rattle.std.proofs.Common.{take}
 use Rattle.report.specs.Texts.{lines}
-use Rattle.writing.specs.Places.{Put}
+use Rattle.output.specs.Places.{Put}
 use Rattle.report.proofs.lines.put_lines.Given as goal
 
 abbrev pub invariant-loop-name : goal.invariant-loop-name

@@ -1,6 +1,6 @@
 -- The digits of a number are those of its tenth, and its last: put one after the other they are the number.
 use mathlib.Core.Path.{sym}
-use Rattle.writing.proofs.Puts.{put_as, put_then}
+use Rattle.output.proofs.Puts.{put_as, put_then}
 use Rattle.report.proofs.Decimals.{decimal_last, decimal_more}
 use Rattle.report.proofs.numbers.+put_decimal.Goals as goal
 

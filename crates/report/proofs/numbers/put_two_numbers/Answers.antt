@@ -4,7 +4,7 @@ use mathlib.Core.List.{List, ◌++◌}
 use Prim.Native.Nat.{ℕ}
 use Rattle.report.specs.Numbers.{decimal}
 use Rattle.std.proofs.lemmas.List.{append_assoc}
-use Rattle.writing.proofs.Puts.{put_as, put_then}
+use Rattle.output.proofs.Puts.{put_as, put_then}
 use Rattle.report.specs.Texts.{worded, two_numbers}
 use Rattle.report.proofs.numbers.put_two_numbers.Goals as goal
 

@@ -1,5 +1,5 @@
 -- `put_worded` meets its contract: the word is put, and then the number.
-use Rattle.writing.proofs.Puts.{put_then}
+use Rattle.output.proofs.Puts.{put_then}
 use Rattle.report.specs.Texts.{worded}
 use Rattle.report.proofs.numbers.put_worded.Goals as goal
 

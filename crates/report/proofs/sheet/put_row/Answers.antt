@@ -1,5 +1,5 @@
 -- `put_row` meets its contract: its pieces are put one after the other.
-use Rattle.writing.proofs.Puts.{put_then}
+use Rattle.output.proofs.Puts.{put_then}
 use Rattle.report.specs.Sheets.{row_line}
 use Rattle.report.proofs.sheet.put_row.Goals as goal
 

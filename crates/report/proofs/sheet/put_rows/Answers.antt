@@ -1,6 +1,6 @@
 -- `put_rows` meets its contract: the lines of the branches so far are put.
 use Rattle.std.proofs.Common.{arith}
-use Rattle.writing.proofs.Puts.{put_none, put_as, put_then}
+use Rattle.output.proofs.Puts.{put_none, put_as, put_then}
 use Rattle.report.specs.Sheets.{row_lines}
 use Rattle.report.proofs.Sheets.{rows_more}
 use Rattle.report.proofs.sheet.put_rows.Goals as goal

@@ -5,8 +5,8 @@ use Prim.Native.Nat.{ℕ}
 use native.Mathlib.Omega.{arith}
 use lib.ListN.{length, get_or}
 use Rattle.release.specs.Versions.{width}
-use Rattle.writing.specs.Places.{Room}
-use Rattle.writing.proofs.Puts.{put_as, put_then, put_next, put_length}
+use Rattle.output.specs.Places.{Room}
+use Rattle.output.proofs.Puts.{put_as, put_then, put_next, put_length}
 use Rattle.rewriting.specs.Bytes.{number_bytes}
 use Rattle.rewriting.proofs.Stands.{width_some, width_wide}
 use Rattle.rewriting.proofs.Pieces.{number_length, narrow_bytes, wide_bytes}

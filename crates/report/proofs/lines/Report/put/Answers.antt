@@ -1,5 +1,5 @@
 -- `Report::put` meets its contract: its first line, the lines of names and its last line are put one after the other.
-use Rattle.writing.proofs.Puts.{put_then}
+use Rattle.output.proofs.Puts.{put_then}
 use Rattle.report.specs.Texts.{report_with}
 use Rattle.report.proofs.lines.Report.put.Goals as goal
 

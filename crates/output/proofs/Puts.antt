@@ -8,7 +8,7 @@ use native.Mathlib.Omega.{arith}
 use lib.ListN.{length, drop, set, length-append}
 use lib.Seq.{sets, length-sets, sets-eq, set_out}
 use Rattle.std.proofs.lemmas.Bool.{cases_lt}
-use Rattle.writing.specs.Places.{last_place, Room, Put}
+use Rattle.output.specs.Places.{last_place, Room, Put}
 
 sets_append : (s t o : List ℕ) (p : ℕ) → sets o p (s ++ t) ≡ sets (sets o p s) (p + length s) t
 sets_append [] t o p = let e : p ≡ p + 0 = omega arith in ap (λ (k : ℕ). sets o k t) e

@@ -4,7 +4,7 @@
 #![tactic(auto)]
 
 ghost use Rattle.std.specs.Prelude.{◌∷◌, [], List, ℕ};
-ghost use Rattle.writing.specs.Places.{Room, Put, Whole};
+ghost use Rattle.output.specs.Places.{Room, Put, Whole};
 
 // Puts a byte where there is room for it. A caller that knows the length by a formula uses this, so that nothing is put twice.
 pub fn put_byte(output: &mut [u8], at: usize, byte: u8) -> usize

@@ -1,7 +1,7 @@
 -- `put_whole` meets its contract: what is measured within the output is the text's length, and there is room for it.
 use Rattle.std.proofs.Common.{◌≡◌, ℕ, ◌≤◌, length, arith, ap, ◌++◌, ◌∙◌, sym, drop}
-use Rattle.writing.proofs.Puts.{put_length, put_at_start}
-use Rattle.writing.proofs.put_whole.Goals as goal
+use Rattle.output.proofs.Puts.{put_length, put_at_start}
+use Rattle.output.proofs.put_whole.Goals as goal
 
 pub returns : goal.returns
 returns g c = λ text puts.
