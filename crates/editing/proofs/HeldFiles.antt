@@ -55,7 +55,7 @@ module _ (f : HeldFile) (long : length f.bytes ≡ most_bytes) where
   held_put : {text q : List ℕ} {end : ℕ} → Put f.bytes 0 text q end → length text ≤ most_bytes → record { bytes = q; length = end } ≡ holding text f
   unfolding holding
   held_put {text} {q} {end} put h =
-      let next : end ≡ 0 + length text = put_next (record { fits = omega arith }) put in
+      let next : end ≡ 0 + length text = put_next (omega arith) put in
       let e : end ≡ length text = omega arith in
       ap₂ (λ (b : List ℕ) (l : ℕ). record { bytes = b; length = l }) (put_at_start put (omega arith)) e
 

@@ -78,18 +78,18 @@ shown_fits s t byte byte2 side x p e = rw e (by_files (accepted s) (accepted t) 
     by_files true true f g = part_fits s t (accepted_few s (eqb-true _ _ f) (omega arith)) (accepted_few t (eqb-true _ _ g) (omega arith)) (shown_place s t side x) (shown_within s t side x)
 
 -- a rewritten file
-short_in : {w : ℕ} {s o p : List ℕ} (a : Result ℕ RewriteRefusal) → Rewrites w s o p (told rewrite_refusal a) → w ≤ 2 → IfOk a Fits32
-short_in {w} {s} {o} {p} (Ok k) does h =
+short_in : (w : ℕ) (s : List ℕ) {o p : List ℕ} (a : Result ℕ RewriteRefusal) → Rewrites w s o p (told rewrite_refusal a) → w ≤ 2 → IfOk a Fits32
+short_in w s {o} (Ok k) does h =
     let found = wrote w s o k does.answers in
     let ok = found.accepted in
     let long = length_found s ok (count_of s) (width_of s) refl refl w in
     let few = length_few s ok (count_of s) (width_of s) refl refl w h in
     omega (arith, found.long, long, few, count_few s ok)
-short_in (Err e) does h = tt
+short_in w s (Err e) does h = tt
 
 pub rewriting_short : (v : Version) (s o p : List ℕ) (a : Result ℕ RewriteRefusal) → RewritesAs v s o p (told rewrite_refusal a) → IfOk a Fits32
-rewriting_short One s o p a does = short_in a does (omega arith)
-rewriting_short Two s o p a does = short_in a does (omega arith)
+rewriting_short One s o p a does = short_in 1 s a does (omega arith)
+rewriting_short Two s o p a does = short_in 2 s a does (omega arith)
 rewriting_short Three s o p (Ok k) does = let e = does.0 in absurd (cc)
 rewriting_short Three s o p (Err e) does = tt
 

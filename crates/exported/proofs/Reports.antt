@@ -19,9 +19,12 @@ use Rattle.meanings.specs.Comparing.{refused as comparison_refused}
 use Rattle.meanings.specs.declared.Compared.{Compared}
 use Rattle.meanings.proofs.Promise.{known, few_counts}
 use Rattle.branches.proofs.Counts.{count_few}
-use Rattle.report.specs.Numbers.{digit, decimal, three_digits}
-use Rattle.report.specs.Texts.{newline, space, letter, entry, lines, two_numbers, names_word, roles_word, left_word, right_word, report, report_with}
-use Rattle.report.specs.Written.{fitted, report_text, report_answer, WrittenAs}
+use Rattle.output.specs.Numbers.{decimal, space}
+use Rattle.report.specs.Numbers.{three_digits}
+use Rattle.report.specs.Texts.{newline, letter, entry, lines, two_numbers, names_word, roles_word, left_word, right_word, report, report_with}
+use Rattle.output.specs.Written.{WrittenAs}
+use Rattle.output.proofs.Written.{fits}
+use Rattle.report.specs.Written.{report_text, report_answer}
 use Rattle.report.specs.Refusals.{report_refusal}
 use Rattle.report.specs.declared.refusals.ReportRefusal.{ReportRefusal}
 use Rattle.report.specs.declared.refusals.ReportRefusal.TheVariants.{ShortOutput}
@@ -30,42 +33,21 @@ use Rattle.meanings.specs.declared.refusals.CompareRefusal.{CompareRefusal}
 use Rattle.release.specs.Refusals.{told}
 use Rattle.std.specs.Prelude.{Result, Ok, Err, IfOk}
 use Rattle.exported.specs.Codes.{Fits32, Returns, refusal_code, longest_report, ReportReturns}
-use Rattle.report.proofs.Decimals.{decimal_one, decimal_more, three_of_one, three_of_two, three_of_more}
+use Rattle.output.proofs.Decimals.{length_below_10, length_below_100, length_below_1000, length_below_10000}
+use Rattle.report.proofs.ThreeDigits.{three_of_one, three_of_two, three_of_more}
 use Rattle.report.proofs.Entries.{entry_line, entry_nothing}
-
--- a number below a limit has few digits
-one_digit : (x : ℕ) → x < 10 → length (decimal x) ≤ 1
-one_digit x h = omega (arith, ap length (decimal_one x h))
-
-more_digits : (limit k : ℕ) → ((y : ℕ) → y < limit → length (decimal y) ≤ k) → 1 ≤ k → (x : ℕ) → x < limit * 10 → length (decimal x) ≤ suc k
-more_digits limit k few some x h = by_size (ltb x 10) refl
-  where
-    by_size : (b : Bool) → ltb x 10 ≡ b → length (decimal x) ≤ suc k
-    by_size true e = omega (arith, one_digit x (ltb-true x 10 e))
-    by_size false e =
-        let tenth : length (decimal (x / 10)) ≤ k = few (x / 10) ((div-lt_iff_lt-mul (omega arith)).1 h) in
-        omega (arith, ap length (decimal_more x (ltb-false x 10 e)), length-append (decimal (x / 10)) (digit (x % 10) ∷ []), tenth)
-
-two_digits : (x : ℕ) → x < 100 → length (decimal x) ≤ 2
-two_digits = more_digits 10 1 one_digit (omega arith)
-
-three_digits_lem : (x : ℕ) → x < 1000 → length (decimal x) ≤ 3
-three_digits_lem = more_digits 100 2 two_digits (omega arith)
-
-four_digits : (x : ℕ) → x < 10000 → length (decimal x) ≤ 4
-four_digits = more_digits 1000 3 three_digits_lem (omega arith)
 
 -- the line of a name: 6 bytes, and one more from 1,000 on
 name_short : (a : ℕ) → a < 1000 → length (three_digits a) ≤ 3
 name_short a h = by_size (ltb a 10) (ltb a 100) refl refl
   where
     by_size : (b d : Bool) → ltb a 10 ≡ b → ltb a 100 ≡ d → length (three_digits a) ≤ 3
-    by_size true d e f = omega (arith, ap length (three_of_one a (ltb-true a 10 e)), one_digit a (ltb-true a 10 e))
-    by_size false true e f = omega (arith, ap length (three_of_two a (ltb-false a 10 e) (ltb-true a 100 f)), two_digits a (ltb-true a 100 f))
-    by_size false false e f = omega (arith, ap length (three_of_more a (ltb-false a 10 e) (ltb-false a 100 f)), three_digits_lem a h)
+    by_size true d e f = omega (arith, ap length (three_of_one a (ltb-true a 10 e)), length_below_10 a (ltb-true a 10 e))
+    by_size false true e f = omega (arith, ap length (three_of_two a (ltb-false a 10 e) (ltb-true a 100 f)), length_below_100 a (ltb-true a 100 f))
+    by_size false false e f = omega (arith, ap length (three_of_more a (ltb-false a 10 e) (ltb-false a 100 f)), length_below_1000 a h)
 
 name_long : (a : ℕ) → 1000 ≤ a → a < 10000 → length (three_digits a) ≤ 4
-name_long a l h = omega (arith, ap length (three_of_more a (omega arith) (omega arith)), four_digits a h)
+name_long a l h = omega (arith, ap length (three_of_more a (omega arith) (omega arith)), length_below_10000 a h)
 
 entry_short : (a b k : ℕ) → length (three_digits a) ≤ k → length (entry a b) ≤ k + 3
 entry_short a b k h = by_byte (is_reported b) refl
@@ -106,17 +88,17 @@ report_short n m result names roles =
       length-append (lines 0 bs) last,
       two_numbers_length names_word n roles_word m,
       two_numbers_length left_word left right_word right,
-      four_digits n (omega arith),
-      two_digits m (omega arith),
-      four_digits left (omega (arith, count_few on_left bs)),
-      four_digits right (omega (arith, count_few on_right bs)),
+      length_below_10000 n (omega arith),
+      length_below_100 m (omega arith),
+      length_below_10000 left (omega (arith, count_few on_left bs)),
+      length_below_10000 right (omega (arith, count_few on_right bs)),
       lines_short 0 bs (omega arith),
     )
 
 -- writing the report of an accepted comparison
 written_whole : (n m : ℕ) (result o : List ℕ) → n ≤ length result → length (report_text n m result) ≤ length o → report_answer n m result o ≡ Ok (length (report_text n m result))
-unfolding report_answer fitted
-written_whole n m result o h l = rw (le-ltb _ _ h, le-ltb _ _ l)
+unfolding report_answer
+written_whole n m result o h l = rw (le-ltb _ _ h) (fits _ (report_text n m result) o l)
 
 -- a comparison that was made, with a result of as many bytes as there can be names
 module _ {s t g b bs m ms w v : List ℕ} (o : List ℕ) (long : longest_report ≤ length o) (all : length b ≡ most_names) (same : length bs ≡ length b)

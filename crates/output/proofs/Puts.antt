@@ -8,7 +8,7 @@ use native.Mathlib.Omega.{arith}
 use lib.ListN.{length, drop, set, length-append}
 use lib.Seq.{sets, length-sets, sets-eq, set_out}
 use Rattle.std.proofs.lemmas.Bool.{cases_lt}
-use Rattle.output.specs.Places.{last_place, Room, Put}
+use Rattle.output.specs.Places.{last_place, Put}
 
 sets_append : (s t o : List ℕ) (p : ℕ) → sets o p (s ++ t) ≡ sets (sets o p s) (p + length s) t
 sets_append [] t o p = let e : p ≡ p + 0 = omega arith in ap (λ (k : ℕ). sets o k t) e
@@ -51,14 +51,8 @@ module _ {o : List ℕ} {p : ℕ} where
   }
 
   -- the place after what there is room for
-  pub put_next : {text q : List ℕ} {next : ℕ} → Room o p text → Put o p text q next → next ≡ p + length text
-  put_next room put = omega (arith, room.fits, put.after, put.short, put_length put)
-
-  pub room_first : (s t : List ℕ) → Room o p (s ++ t) → Room o p s
-  room_first s t room = record { fits = omega (arith, length-append s t) }
-
-  pub room_then : {s t q : List ℕ} {next : ℕ} → Room o p (s ++ t) → Put o p s q next → Room q next t
-  room_then {s} {t} room put = record { fits = omega (arith, length-append s t, put_length put, put_next (room_first s t room) put) }
+  pub put_next : {text q : List ℕ} {next : ℕ} → p + length text ≤ length o → Put o p text q next → next ≡ p + length text
+  put_next room put = omega (arith, put.after, put.short, put_length put)
 
 -- what was put from the start with room: the bytes, and the rest as it was
 pub put_at_start : {text o q : List ℕ} {next : ℕ} → Put o 0 text q next → length text ≤ length o → q ≡ text ++ drop (length text) o

@@ -1,2 +1,4 @@
--- What putting bytes into lent memory asks and leaves behind.
+-- What putting bytes into lent memory leaves behind, numbers as text, and what writing a text answers. To be read in this order.
 pub mod Places
+pub mod Numbers
+pub mod Written

@@ -29,19 +29,21 @@ use Rattle.branches.specs.Refusals.{sheet_refusal}
 use Rattle.branches.specs.Sheets as branches
 use Rattle.branches.specs.Sheets.{most_branches}
 use Rattle.report.specs.declared.refusals.ReportRefusal.{ReportRefusal}
-use Rattle.report.specs.Written.{fitted, WrittenAs, report_answer}
+use Rattle.report.specs.declared.refusals.ReportRefusal.TheVariants.{ShortOutput}
+use Rattle.output.specs.Written.{fitted, WrittenAs}
+use Rattle.output.proofs.Written.{fits, lacks}
+use Rattle.report.specs.Written.{report_answer}
 use Rattle.report.specs.Answered.{answer_text, answer_to}
 use Rattle.report.specs.Sheets.{sheet_text, SheetWritten}
-use Rattle.report.proofs.Answers.{fits, lacks}
 use Rattle.programs.specs.Printed.{Prints, signature_count, StationPrints, SheetPrints}
 
 -- a text that is written
-pub prints : {text o p : List ℕ} {a : Result ℕ ReportRefusal} {r : Option ℕ} → WrittenAs (fitted text o) text o p a → r ≡ result_ok a → Prints text o p r
+pub prints : {text o p : List ℕ} {a : Result ℕ ReportRefusal} {r : Option ℕ} → WrittenAs (fitted ShortOutput text o) text o p a → r ≡ result_ok a → Prints text o p r
 prints {text} {o} {p} {a} {r} w e = record {
   written = a;
   writes = w;
-  whole = λ h. (e ∙ ap result_ok (w.answers ∙ fits text o h), rw (fits text o h) at w.leaves);
-  short = λ h. (e ∙ ap result_ok (w.answers ∙ lacks text o h), rw (lacks text o h) at w.leaves);
+  whole = λ h. (e ∙ ap result_ok (w.answers ∙ fits ShortOutput text o h), rw (fits ShortOutput text o h) at w.leaves);
+  short = λ h. (e ∙ ap result_ok (w.answers ∙ lacks ShortOutput text o h), rw (lacks ShortOutput text o h) at w.leaves);
 }
 
 pub prints_within : (text o p : List ℕ) (r : Option ℕ) → length p ≡ length o → Prints text o p r → IfSome r (λ k. k ≤ length p)
@@ -55,7 +57,7 @@ prints_within text o p (Some k) same w = ⊎_elim lacking whole (cases_lt (lengt
     whole h = let e = (w.whole h).0 in let equal : k ≡ length text = cc in omega arith
 
 -- a comparison is accepted only where the result has a byte for each name, so that its answer is written where its text fits
-answer_fitted : (a : Result Compared Numbers) (bs o : List ℕ) → ((c : Compared) → a ≡ Ok c → c.names ≤ length bs) → answer_to a bs o ≡ fitted (answer_text a bs) o
+answer_fitted : (a : Result Compared Numbers) (bs o : List ℕ) → ((c : Compared) → a ≡ Ok c → c.names ≤ length bs) → answer_to a bs o ≡ fitted ShortOutput (answer_text a bs) o
 unfolding answer_to answer_text report_answer
 answer_fitted (Err k) bs o f = refl
 answer_fitted (Ok c) bs o f = rw (le-ltb (length bs) c.names (f c refl))
@@ -65,7 +67,7 @@ module _ {s t g b bs m ms w v o p : List ℕ} {a : Result Compared CompareRefusa
   pub station_prints : length b ≡ most_names → length bs ≡ length b → length m ≡ most_roles * most_roles → Says s t g b bs m ms w v a
       → WrittenAs (answer_to (told compare_refusal a) bs o) (answer_text (told compare_refusal a) bs) o p d → r ≡ result_ok d → StationPrints s t g w v o p r
   station_prints h i l says writes e =
-      let fitting : answer_to (told compare_refusal a) bs o ≡ fitted (answer_text (told compare_refusal a) bs) o =
+      let fitting : answer_to (told compare_refusal a) bs o ≡ fitted ShortOutput (answer_text (told compare_refusal a) bs) o =
       answer_fitted (told compare_refusal a) bs o (λ c f. rw i (known s t g (length b) (length m) (length w) c (sym says.answer ∙ f)).1.result) in
       record { lent = b; result = bs; answer = a; long = h; roles_lent = m; role_result = ms; roles_long = l; says = says; prints = prints (rw fitting at writes) e }
 

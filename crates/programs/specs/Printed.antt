@@ -21,13 +21,14 @@ use Rattle.branches.specs.Refusals.{sheet_refusal}
 use Rattle.branches.specs.Sheets as branches
 use Rattle.branches.specs.Sheets.{most_branches}
 use Rattle.report.specs.declared.refusals.ReportRefusal.{ReportRefusal}
-use Rattle.report.specs.Written.{fitted, WrittenAs}
+use Rattle.report.specs.declared.refusals.ReportRefusal.TheVariants.{ShortOutput}
+use Rattle.output.specs.Written.{fitted, WrittenAs}
 use Rattle.report.specs.Answered.{answer_text}
 use Rattle.report.specs.Sheets.{sheet_text}
 
 pub record Prints (text o p : List ℕ) (r : Option ℕ) : Type 0 where
   pub written : Result ℕ ReportRefusal
-  pub writes : WrittenAs (fitted text o) text o p written
+  pub writes : WrittenAs (fitted ShortOutput text o) text o p written
   pub whole : length text ≤ length o → (r ≡ Some (length text)) × (p ≡ text ++ drop (length text) o)
   pub short : length o < length text → (r ≡ None) × (p ≡ o)
 

@@ -10,7 +10,8 @@ use Rattle.std.proofs.lemmas.List.{append-nil, take_more}
 use Rattle.el.specs.Comparison.{is_reported}
 use Rattle.report.specs.declared.lines.Side.{Side}
 use Rattle.report.specs.declared.lines.Side.TheVariants.{Left, Right, Both}
-use Rattle.report.specs.Texts.{newline, space, letter, line, entry, lines}
+use Rattle.report.specs.Texts.{newline, letter, line, entry, lines}
+use Rattle.output.specs.Numbers.{space}
 use Rattle.report.specs.Numbers.{three_digits}
 use Rattle.report.specs.Sides.{side_byte, side_letter}
 

@@ -2,7 +2,8 @@
 use mathlib.Core.Path.{◌≡◌, refl}
 use mathlib.Core.List.{List, [], ◌∷◌, ◌++◌}
 use Prim.Native.Nat.{ℕ}
-use Rattle.report.specs.Numbers.{digits_within, decimal, three_digits}
+use Rattle.output.specs.Numbers.{digits_within, decimal}
+use Rattle.report.specs.Numbers.{three_digits}
 use Rattle.el.specs.Lists.{count}
 use Rattle.branches.specs.Sheets.{no_row}
 use Rattle.branches.specs.declared.row.Row.{Row}

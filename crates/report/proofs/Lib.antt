@@ -1,5 +1,5 @@
 -- The text that the code puts is the text defined, and what writing it answers is what is promised.
-pub mod Decimals
+pub mod ThreeDigits
 pub mod Entries
 pub mod Sheets
 pub mod Answers

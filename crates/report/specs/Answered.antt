@@ -5,8 +5,10 @@ use Rattle.std.specs.Prelude.{List, ℕ, Result, Ok, Err}
 use Rattle.release.specs.Refusals.{Numbers}
 use Rattle.meanings.specs.declared.Compared.{Compared}
 use Rattle.report.specs.declared.refusals.ReportRefusal.{ReportRefusal}
+use Rattle.report.specs.declared.refusals.ReportRefusal.TheVariants.{ShortOutput}
 use Rattle.report.specs.Texts.{refusal_line}
-use Rattle.report.specs.Written.{fitted, report_text, report_answer}
+use Rattle.output.specs.Written.{fitted}
+use Rattle.report.specs.Written.{report_text, report_answer}
 
 unfoldable pub answer_text : Result Compared Numbers → List ℕ → List ℕ
 answer_text (Ok counts) bs = report_text counts.names counts.roles bs
@@ -14,4 +16,4 @@ answer_text (Err refusal) bs = refusal_line refusal.number refusal.side
 
 unfoldable pub answer_to : Result Compared Numbers → List ℕ → List ℕ → Result ℕ ReportRefusal
 answer_to (Ok counts) bs o = report_answer counts.names counts.roles bs o
-answer_to (Err refusal) bs o = fitted (refusal_line refusal.number refusal.side) o
+answer_to (Err refusal) bs o = fitted ShortOutput (refusal_line refusal.number refusal.side) o

@@ -12,8 +12,9 @@ use Rattle.branches.specs.declared.row.Row.{Row}
 use Rattle.meanings.specs.declared.Compared.{Compared}
 use Rattle.release.specs.Refusals.{Numbers}
 use Rattle.report.specs.declared.refusals.ReportRefusal.{ReportRefusal}
+use Rattle.report.specs.declared.refusals.ReportRefusal.TheVariants.{ShortOutput}
 use Rattle.report.specs.Texts.{newline, right_word, worded, refusal_line}
-use Rattle.report.specs.Written.{fitted, WrittenAs}
+use Rattle.output.specs.Written.{fitted, WrittenAs}
 
 -- "branch "
 abbrev pub branch_word : List ℕ
@@ -55,4 +56,4 @@ sheet_text (Ok counts) q rs = first_lines (branches_of q) rs
 sheet_text (Err refusal) q rs = refusal_line refusal.number refusal.side
 
 abbrev pub SheetWritten : Result Compared Numbers → ℕ → List Row → List ℕ → List ℕ → Result ℕ ReportRefusal → Type 0
-SheetWritten a q rs o output answer = WrittenAs (fitted (sheet_text a q rs) o) (sheet_text a q rs) o output answer
+SheetWritten a q rs o output answer = WrittenAs (fitted ShortOutput (sheet_text a q rs) o) (sheet_text a q rs) o output answer

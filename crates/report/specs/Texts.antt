@@ -8,13 +8,11 @@
 use Rattle.std.specs.Prelude.{List, [], ◌∷◌, ◌++◌, ℕ, suc}
 use Rattle.el.specs.Comparison.{on_left, on_right, is_reported}
 use Rattle.el.specs.Lists.{pick, count}
-use Rattle.report.specs.Numbers.{decimal, three_digits}
+use Rattle.output.specs.Numbers.{decimal, space}
+use Rattle.report.specs.Numbers.{three_digits}
 
 abbrev pub newline : ℕ
 newline = 10
-
-abbrev pub space : ℕ
-space = 32
 
 -- "names ", " roles "
 abbrev pub names_word : List ℕ

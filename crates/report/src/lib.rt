@@ -4,14 +4,16 @@
 ghost use Rattle.release.specs.Refusals.{told};
 ghost use Rattle.report.specs.Texts.{refusal_line};
 ghost use Rattle.report.specs.Answered.{answer_text, answer_to};
-ghost use Rattle.report.specs.Written.{WrittenAs, fitted, report_text, report_answer};
+ghost use Rattle.output.specs.Written.{WrittenAs, fitted};
+ghost use Rattle.report.specs.Written.{report_text, report_answer};
+ghost use Rattle.report.specs.declared.refusals.ReportRefusal.TheVariants.{ShortOutput};
 
 use crate::lines::{Report, Side};
 use crate::numbers::put_two_numbers;
 pub use crate::refusals::ReportRefusal;
 use meanings::Compared;
+use output::write_whole;
 use release::Refusal;
-use output::put_whole;
 
 mod lines;
 mod numbers;
@@ -40,21 +42,25 @@ pub fn write_report(
         right: Side::Right.count(bytes),
         bytes,
     };
-    put_whole(output, |output| report.put(output)).ok_or(ReportRefusal::ShortOutput)
+    write_whole(
+        output,
+        |output| report.put(output),
+        ReportRefusal::ShortOutput,
+    )
 }
 
 // Writes the line of a refused comparison.
 pub fn write_refusal<R: Refusal>(refusal: R, output: &mut [u8]) -> Result<usize, ReportRefusal>
-    ensures { WrittenAs (fitted (refusal_line (R.numbers refusal).number (R.numbers refusal).side) output.old)
+    ensures { WrittenAs (fitted ShortOutput (refusal_line (R.numbers refusal).number (R.numbers refusal).side) output.old)
         (refusal_line (R.numbers refusal).number (R.numbers refusal).side) output.old output.new result }
 {
     let number = usize::from(refusal.number());
     let side = usize::from(refusal.side());
-    put_whole(
+    write_whole(
         output,
         |output| put_two_numbers(output, 0, b"refused ", number, b" side ", side),
+        ReportRefusal::ShortOutput,
     )
-    .ok_or(ReportRefusal::ShortOutput)
 }
 
 // Writes the report of an accepted comparison with this result, or the line of a refused one.

@@ -6,7 +6,7 @@ ghost use Rattle.report.specs.Sides.{SideOf, side_letter, on_side, side_byte};
 ghost use Rattle.output.specs.Places.{Put};
 
 use crate::numbers::{put_three_digits, put_two_numbers};
-use output::put_or_count;
+use output::put_byte;
 use release::ConceptName;
 
 // Where a name is reported: on the left only, on the right only, or on both sides.
@@ -67,9 +67,9 @@ fn put_entry(output: &mut [u8], at: usize, name: ConceptName, byte: u8) -> usize
         return at;
     };
     let first = put_three_digits(output, at, name.0);
-    let second = put_or_count(output, first, b' ');
-    let third = put_or_count(output, second, side.letter());
-    put_or_count(output, third, b'\n')
+    let second = put_byte(output, first, b' ');
+    let third = put_byte(output, second, side.letter());
+    put_byte(output, third, b'\n')
 }
 
 fn put_lines(output: &mut [u8], at: usize, bytes: &[u8]) -> usize

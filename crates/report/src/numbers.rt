@@ -1,23 +1,9 @@
 // Numbers as text, and the lines of two words and two numbers.
-ghost use Rattle.report.specs.Numbers.{decimal, three_digits};
+ghost use Rattle.report.specs.Numbers.{three_digits};
 ghost use Rattle.report.specs.Texts.{worded, two_numbers};
 ghost use Rattle.output.specs.Places.{Put};
 
-use output::{put_or_count, put_text};
-
-// A number in decimal: the digits of its tenth, and its last. By hand: the library promises the bytes of `write!` for a `String` alone,
-// which needs a heap, and a further crate for it would be one more to trust. It calls itself once for each digit.
-pub fn put_decimal(output: &mut [u8], at: usize, number: usize) -> usize
-    ensures { Put output.old at (decimal number) output.new result }
-{
-    // By `as`: a digit fits, and `try_from` has an arm that is never taken.
-    let last = b'0' + (number % 10) as u8;
-    if number < 10 {
-        return put_or_count(output, at, last);
-    }
-    let next = put_decimal(output, at, number / 10);
-    put_or_count(output, next, last)
-}
+use output::{put_byte, put_decimal, put_text};
 
 // A number with leading zeros up to three digits.
 pub fn put_three_digits(output: &mut [u8], at: usize, number: usize) -> usize
@@ -54,5 +40,5 @@ pub fn put_two_numbers(
 {
     let first = put_worded(output, at, word, number);
     let second = put_worded(output, first, then, other);
-    put_or_count(output, second, b'\n')
+    put_byte(output, second, b'\n')
 }

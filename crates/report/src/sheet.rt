@@ -8,8 +8,8 @@ use crate::{ReportRefusal, write_refusal};
 use branches::judging::Sheet;
 use branches::row::Row;
 use meanings::Compared;
+use output::{put_byte, write_whole};
 use release::Refusal;
-use output::{put_or_count, put_whole};
 
 // The line of a branch. A number of 32 bits is one of a machine's by `as`: there is no From for it.
 fn put_row(output: &mut [u8], at: usize, branch: usize, row: Row) -> usize
@@ -20,7 +20,7 @@ fn put_row(output: &mut [u8], at: usize, branch: usize, row: Row) -> usize
     let third = put_worded(output, second, b" left ", row.left as usize);
     let fourth = put_worded(output, third, b" right ", row.right as usize);
     let fifth = put_worded(output, fourth, b" share ", row.share as usize);
-    put_or_count(output, fifth, b'\n')
+    put_byte(output, fifth, b'\n')
 }
 
 fn put_rows(output: &mut [u8], rows: &[Row]) -> usize
@@ -47,5 +47,9 @@ pub fn write_sheet<R: Refusal>(
         return write_refusal(refusal, output);
     }
     let told = &rows[..count.min(Sheet::BRANCHES)];
-    put_whole(output, |output| put_rows(output, told)).ok_or(ReportRefusal::ShortOutput)
+    write_whole(
+        output,
+        |output| put_rows(output, told),
+        ReportRefusal::ShortOutput,
+    )
 }

@@ -1,5 +1,4 @@
 -- Laws of files written. To be read in this order.
-pub mod Puts
 pub mod Pieces
 pub mod Lengths
 pub mod Stands

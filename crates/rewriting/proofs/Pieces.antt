@@ -5,12 +5,10 @@ use mathlib.Core.List.{List, [], ◌∷◌, ◌++◌}
 use Prim.Native.Nat.{ℕ, zero, suc, ◌+◌, ◌≤◌, ◌<◌, ◌/◌, ◌%◌}
 use native.Mathlib.Nat.{mod-eq_of_lt}
 use native.Mathlib.Omega.{arith}
-use lib.ListN.{length, get_or, length-append}
-use Rattle.el.specs.Axioms.{Right, conjunction, restriction}
+use lib.ListN.{length, get_or}
 use Rattle.release.specs.Files.{number, numbers, width_of, joins, filler_node, right_at, axiom_at, axiom_length, axioms_from, kind_of}
 use Rattle.rewriting.specs.Bytes.{number_bytes, names_bytes, filler_number, tail_bytes, axiom_bytes, axioms_bytes}
-use Rattle.output.specs.Places.{last_place, Room, Put}
-use Rattle.rewriting.proofs.Puts.{Begins, Rest, rest_whole, piece_room, piece_put}
+use Rattle.output.proofs.Rest.{Begins}
 
 -- a number has as many bytes as its width
 pub number_length : (w x : ℕ) → length (number_bytes w x) ≡ w
@@ -47,64 +45,23 @@ one_byte : (x : ℕ) → x < 256 → number_bytes 1 x ≡ x ∷ []
 unfolding number_bytes
 one_byte x small = ap (λ (y : ℕ). y ∷ []) (mod-eq_of_lt small)
 
-tail_some : (v : ℕ) (r : Right) → 1 ≤ length (tail_bytes v r)
-unfolding tail_bytes
-tail_some v (conjunction xs) = omega (arith, length-append (number_bytes 1 (length xs)) (names_bytes v xs), number_length 1 (length xs))
-tail_some v (restriction r b) = omega (arith, length-append (number_bytes 1 r) (number_bytes v (filler_number v b)), number_length 1 r)
-
-pub first_room : (v : ℕ) (r : Right) (x : ℕ) {o : List ℕ} {p : ℕ} → Room o p (tail_bytes v r) → Room o p (x ∷ [])
-first_room v r x room = record { fits = omega (arith, tail_some v r, room.fits) }
-
 module _ (v w kind : ℕ) (s : List ℕ) (p : ℕ) (small : get_or s p 0 < 256) where
-  pub joined_bytes : joins kind ≡ true → Begins (tail_bytes v (right_at w kind s p)) (get_or s p 0 ∷ []) (names_bytes v (numbers w (get_or s p 0) s (p + 1)))
+  pub joined_bytes : joins kind ≡ true → (get_or s p 0 ∷ []) ++ names_bytes v (numbers w (get_or s p 0) s (p + 1)) ≡ tail_bytes v (right_at w kind s p)
   unfolding tail_bytes
-  joined_bytes j = record { is = rw (j, tail_bytes) (rw (numbers_length w (get_or s p 0) s (p + 1), one_byte (get_or s p 0) small)) }
+  joined_bytes j = rw (j, tail_bytes) (rw (numbers_length w (get_or s p 0) s (p + 1), one_byte (get_or s p 0) small))
 
   pub restricted_bytes : joins kind ≡ false → (b f : ℕ) → b ≡ number w s (p + 1) → f ≡ filler_number v (filler_node w b)
-      → Begins (tail_bytes v (right_at w kind s p)) (get_or s p 0 ∷ []) (number_bytes v f)
+      → (get_or s p 0 ∷ []) ++ number_bytes v f ≡ tail_bytes v (right_at w kind s p)
   unfolding tail_bytes
-  restricted_bytes j b f g h = record { is = rw (j, ← g, h, tail_bytes) (rw (one_byte (get_or s p 0) small)) }
+  restricted_bytes j b f g h = rw (j, ← g, h, tail_bytes) (rw (one_byte (get_or s p 0) small))
 
--- what is left of a tail once its first byte stands
-module _ (v w kind : ℕ) (s : List ℕ) (p : ℕ) {o q : List ℕ} {start next : ℕ} (small : get_or s p 0 < 256) (short : length o ≤ last_place)
-    (room : Room o start (tail_bytes v (right_at w kind s p))) (put : Put o start (get_or s p 0 ∷ []) q next) where
-  pub names_left : joins kind ≡ true → Rest o start (tail_bytes v (right_at w kind s p)) q next (names_bytes v (numbers w (get_or s p 0) s (p + 1)))
-  names_left j = piece_put (joined_bytes v w kind s p small j) (rest_whole short room) put
-
-  pub filler_left : joins kind ≡ false → (b f : ℕ) → b ≡ number w s (p + 1) → f ≡ filler_number v (filler_node w b)
-      → Rest o start (tail_bytes v (right_at w kind s p)) q next (number_bytes v f)
-  filler_left j b f read is = piece_put (restricted_bytes v w kind s p small j b f read is) (rest_whole short room) put
-
--- an axiom
-module _ (v w : ℕ) (s : List ℕ) (p : ℕ) where
-  pub axiom_left : (l : ℕ) → l ≡ number w s p
-      → Begins (axiom_bytes v (axiom_at w s p)) (number_bytes v l) (number_bytes 1 (kind_of (axiom_at w s p)) ++ tail_bytes v (right_at w (get_or s (p + w) 0) s (p + w + 1)))
-  unfolding axiom_bytes axiom_at
-  axiom_left l e = record { is = rw e }
-
-  pub axiom_kind : get_or s (p + w) 0 ≡ kind_of (axiom_at w s p) → get_or s (p + w) 0 < 256
-      → Begins (number_bytes 1 (kind_of (axiom_at w s p)) ++ tail_bytes v (right_at w (get_or s (p + w) 0) s (p + w + 1))) (get_or s (p + w) 0 ∷ [])
-      (tail_bytes v (right_at w (get_or s (p + w) 0) s (p + w + 1)))
-  axiom_kind kind small = record {
-    is = ap (λ (x : List ℕ). x ++ tail_bytes v (right_at w (get_or s (p + w) 0) s (p + w + 1))) (ap (number_bytes 1) (sym kind) ∙ one_byte (get_or s (p + w) 0) small);
-  }
-
--- what is left of an axiom once its left name stands, and once its kind does; x is the width as the code reads it
-module _ (v w : ℕ) (s : List ℕ) (p : ℕ) {o q : List ℕ} {start first : ℕ} (short : length o ≤ last_place) (room : Room o start (axiom_bytes v (axiom_at w s p)))
-    (l : ℕ) (is : l ≡ number w s p) (put : Put o start (number_bytes v l) q first) (x : ℕ) (width_is : x ≡ w) (kind : get_or s (p + w) 0 ≡ kind_of (axiom_at w s p))
-    (small : get_or s (p + x) 0 < 256) where
-  small_kind : get_or s (p + w) 0 < 256
-  small_kind = rw (← width_is) small
-
-  kind_left : Rest o start (axiom_bytes v (axiom_at w s p)) q first (number_bytes 1 (kind_of (axiom_at w s p)) ++ tail_bytes v (right_at w (get_or s (p + w) 0) s (p + w + 1)))
-  kind_left = piece_put (axiom_left v w s p l is) (rest_whole short room) put
-
-  pub kind_room : Room q first (get_or s (p + x) 0 ∷ [])
-  kind_room = rw width_is (piece_room (axiom_kind v w s p kind small_kind) kind_left)
-
-  pub tail_left : {r : List ℕ} {second : ℕ} → Put q first (get_or s (p + x) 0 ∷ []) r second
-      → Rest o start (axiom_bytes v (axiom_at w s p)) r second (tail_bytes v (right_at w (get_or s (p + x) 0) s (p + x + 1)))
-  tail_left written = rw width_is (piece_put (axiom_kind v w s p kind small_kind) kind_left (rw width_is at written))
+-- an axiom, once its kind is known; x is the width as the code reads it
+pub axiom_pieces : (v w : ℕ) (s : List ℕ) (p l x : ℕ) → l ≡ number w s p → x ≡ w → get_or s (p + w) 0 ≡ kind_of (axiom_at w s p) → get_or s (p + x) 0 < 256
+    → number_bytes v l ++ ((get_or s (p + x) 0 ∷ []) ++ tail_bytes v (right_at w (get_or s (p + x) 0) s (p + x + 1))) ≡ axiom_bytes v (axiom_at w s p)
+unfolding axiom_bytes axiom_at
+axiom_pieces v w s p l x e width_is kind small =
+    let byte : number_bytes 1 (kind_of (axiom_at w s p)) ≡ get_or s (p + w) 0 ∷ [] = ap (number_bytes 1) (sym kind) ∙ one_byte (get_or s (p + w) 0) (rw (← width_is) small) in
+    rw (width_is, e, byte) refl
 
 -- axioms one after the other
 module _ (v : ℕ) (s : List ℕ) (p left : ℕ) where

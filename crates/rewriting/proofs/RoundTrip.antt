@@ -17,7 +17,9 @@ use Rattle.release.proofs.Linked.{no_header_fault}
 use Rattle.std.specs.Prelude.{Result, Ok}
 use Rattle.release.specs.Refusals.{Numbers}
 use Rattle.rewriting.specs.Bytes.{Bytes}
-use Rattle.rewriting.specs.Rewriting.{rewritten, refusal, fitted, source_fault, answer_to, output_after, Rewritable, Rewrites, Same, Returned}
+use Rattle.rewriting.specs.Rewriting.{rewritten, refusal, answer_accepted, source_fault, answer_to, Rewritable, Rewrites, Same, Returned}
+use Rattle.output.specs.Written.{WrittenAs}
+use Rattle.output.proofs.Written.{fits, fitted_length, written_text}
 use Rattle.rewriting.proofs.Accepted.{read_back}
 use Rattle.rewriting.proofs.Answers.{source_none, source_rewritable}
 use Rattle.rewriting.proofs.Canonical.{canonical, version_width}
@@ -30,46 +32,40 @@ pub record Wrote (w : ℕ) (s o : List ℕ) (k : ℕ) : Type 0 where
   pub room : k ≤ length o
 
 pub not_refused : (w : ℕ) (s o : List ℕ) → Rewritable s → names_of s ≤ most_names_of w → length (rewritten w s) ≤ length o → answer_to w s o ≡ Ok (length (rewritten w s))
-unfolding answer_to fitted
+unfolding answer_to answer_accepted
 not_refused w s o ok names room =
     let few : ltb (most_names_of w) (names_of s) ≡ false = le-ltb _ _ names in
-    let fits : ltb (length o) (length (rewritten w s)) ≡ false = le-ltb _ _ room in
-    simp (answer_to, source_none s ok, fitted, few, fits)
+    simp (answer_to, source_none s ok, answer_accepted, few) (fits _ (rewritten w s) o room)
 
 module _ (w : ℕ) (s o : List ℕ) (k : ℕ) where
-  fitted_wrote : Rewritable s → Ok k ≡ fitted w s o → Wrote w s o k
-  unfolding fitted
-  fitted_wrote ok h = by_tests (ltb (most_names_of w) (names_of s)) (ltb (length o) (length (rewritten w s))) refl refl
+  accepted_wrote : Rewritable s → Ok k ≡ answer_accepted w s o → Wrote w s o k
+  unfolding answer_accepted
+  accepted_wrote ok h = by_test (ltb (most_names_of w) (names_of s)) refl
     where
-      by_tests : (a b : Bool) → ltb (most_names_of w) (names_of s) ≡ a → ltb (length o) (length (rewritten w s)) ≡ b → Wrote w s o k
-      by_tests true b e f =
-          let i : Ok k ≡ refusal 40 1 = h ∙ rw (e, fitted) in
+      by_test : (a : Bool) → ltb (most_names_of w) (names_of s) ≡ a → Wrote w s o k
+      by_test true e =
+          let i : Ok k ≡ refusal 40 1 = h ∙ rw (e, answer_accepted) in
           let z : ◌≡◌ {A = ℕ} 0 1 = cc in
           absurd (omega arith)
-      by_tests false true e f =
-          let i : Ok k ≡ refusal 41 0 = h ∙ rw (e, f, fitted) in
-          let z : ◌≡◌ {A = ℕ} 0 1 = cc in
-          absurd (omega arith)
-      by_tests false false e f =
-          let i : Ok k ≡ Ok (length (rewritten w s)) = h ∙ rw (e, f, fitted) in
-          let l : k ≡ length (rewritten w s) = cc in
-          record { accepted = ok; names = ltb-false _ _ e; long = l; room = omega (arith, ltb-false (length o) (length (rewritten w s)) f) }
+      by_test false e =
+          let whole = fitted_length (record { number = 41; side = 0 }) (rewritten w s) o k (h ∙ rw (e, answer_accepted)) in
+          record { accepted = ok; names = ltb-false _ _ e; long = whole.0; room = whole.1 }
 
   pub wrote : Ok k ≡ answer_to w s o → Wrote w s o k
   unfolding answer_to
   wrote h = by_fault (source_fault s) refl
     where
       by_fault : (f : ℕ) → source_fault s ≡ f → Wrote w s o k
-      by_fault zero e = fitted_wrote (source_rewritable s e) (h ∙ rw e)
+      by_fault zero e = accepted_wrote (source_rewritable s e) (h ∙ rw e)
       by_fault (suc f) e =
           let i : Ok k ≡ refusal (suc f) 1 = h ∙ rw e in
           let z : ◌≡◌ {A = ℕ} 0 1 = cc in
           absurd (omega arith)
 
 -- the bytes that a call wrote
-module _ {w : ℕ} {s o q : List ℕ} {k : ℕ} (call : Rewrites w s o q (Ok k)) where
+module _ (w : ℕ) (s : List ℕ) {o q : List ℕ} {k : ℕ} (call : Rewrites w s o q (Ok k)) where
   pub written_bytes : take k q ≡ rewritten w s
-  written_bytes = ap (take k) call.leaves ∙ take_at (rewritten w s) (drop k o) k (sym (wrote w s o k call.answers).long)
+  written_bytes = ap (take k) (written_text call) ∙ take_at (rewritten w s) (drop k o) k (sym (wrote w s o k call.answers).long)
 
   pub written_same : IsWidth w → Same w s (take k q)
   written_same width =
@@ -90,7 +86,7 @@ round_trip s bytes {w} width {o} {q} {o'} {q'} {k} {answer} forth back room =
     let ok : Rewritable s = (wrote w s o k forth.answers).accepted in
     let t = take k q in
     let v = version_of s in
-    let same : Same w s t = written_same forth width in
+    let same : Same w s t = written_same w s forth width in
     let again : rewritten v t ≡ s = same_file v same ∙ copied s bytes ok in
     let few : names_of s ≤ most_names_of (width_of s) = (header_sound s (no_header_fault s ok.accepted)).names_by_width in
     let names : names_of t ≤ most_names_of v = rw (same.names, version_width s bytes ok) few in
@@ -98,11 +94,11 @@ round_trip s bytes {w} width {o} {q} {o'} {q'} {k} {answer} forth back room =
     let answers : answer ≡ Ok (length s) = back.answers ∙ full ∙ ap (λ (x : List ℕ). Ok (length x)) again in
     record {
       answers = answers;
-      leaves = back.leaves ∙ (ap (λ (a : Result ℕ Numbers). output_after a (rewritten v t) o') answers ∙ ap (λ (x : List ℕ). x ++ drop (length s) o') again);
+      leaves = written_text (subst (λ (a : Result ℕ Numbers). WrittenAs (answer_to v t o') (rewritten v t) o' q' a) answers back) ∙ ap (λ (x : List ℕ). x ++ drop (length s) o') again;
     }
 
 -- a release of version 2 rewritten as version 1 and then as version 2
-pub round_trip_2 : (s : List ℕ) → Bytes s → version_of s ≡ 2 → {o q o' q' : List ℕ} {k : ℕ} {answer : Result ℕ Numbers} → Rewrites 1 s o q (Ok k) → Rewrites 2 (take k q) o' q' answer
-    → length s ≤ length o' → Returned s o' q' answer
+pub round_trip_2 : (s : List ℕ) → Bytes s → version_of s ≡ 2 → {o q o' q' : List ℕ} {k : ℕ} {answer : Result ℕ Numbers} → Rewrites 1 s o q (Ok k)
+    → Rewrites 2 (take k q) o' q' answer → length s ≤ length o' → Returned s o' q' answer
 round_trip_2 s bytes e {o} {q} {o'} {q'} {k} {answer} forth back room =
     round_trip s bytes (record { some = omega arith; few = omega arith }) forth (subst (λ (v : ℕ). Rewrites v (take k q) o' q' answer) (sym e) back) room

@@ -61,11 +61,6 @@ width_few One = omega arith
 width_few Two = omega arith
 width_few Three = omega arith
 
-pub width_some : (v : Version) → 1 ≤ width v
-width_some One = omega arith
-width_some Two = omega arith
-width_some Three = omega arith
-
 pub width_wide : (v : Version) → (width v ≡ 1 → ⊥) → width v ≡ 2
 width_wide One n = absurd (n refl)
 width_wide Two n = refl

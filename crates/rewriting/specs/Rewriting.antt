@@ -14,6 +14,7 @@ use Rattle.release.specs.Refusals.{Numbers}
 use Rattle.release.specs.Versions.{said_version}
 use Rattle.release.specs.declared.number.Version.{Version}
 use Rattle.release.specs.declared.number.Version.TheVariants.{One, Two, Three}
+use Rattle.output.specs.Written.{fitted, WrittenAs}
 use Rattle.rewriting.specs.Bytes.{release_bytes}
 
 unfoldable pub rewritten : ℕ → List ℕ → List ℕ
@@ -23,12 +24,12 @@ abbrev pub refusal : ℕ → ℕ → Result ℕ Numbers
 refusal number side = Err (record { number = number; side = side })
 
 -- 40: more names than the wanted version can have, 127 in version 1; 41: the output is shorter than the rewritten file
-unfoldable pub fitted : ℕ → List ℕ → List ℕ → Result ℕ Numbers
-fitted w s o = pick (ltb (most_names_of w) (names_of s)) (refusal 40 1) (pick (ltb (length o) (length (rewritten w s))) (refusal 41 0) (Ok (length (rewritten w s))))
+unfoldable pub answer_accepted : ℕ → List ℕ → List ℕ → Result ℕ Numbers
+answer_accepted w s o = pick (ltb (most_names_of w) (names_of s)) (refusal 40 1) (fitted (record { number = 41; side = 0 }) (rewritten w s) o)
 
 -- the release's own refusals come first
 abbrev pub answer_by : ℕ → ℕ → List ℕ → List ℕ → Result ℕ Numbers
-answer_by zero w s o = fitted w s o
+answer_by zero w s o = answer_accepted w s o
 answer_by (suc k) w s o = refusal (suc k) 1
 
 -- a release with role pairs is not rewritten: where the file says version 3, that is refused before any later check
@@ -43,14 +44,8 @@ pub record Rewritable (s : List ℕ) : Type 0 where
   pub accepted : fault s ≡ 0
   pub plain : lists_pairs s ≡ false
 
--- the output afterwards: the file at its start and the rest as it was, or unchanged
-abbrev pub output_after : Result ℕ Numbers → List ℕ → List ℕ → List ℕ
-output_after (Ok k) file o = file ++ drop k o
-output_after (Err f) file o = o
-
-pub record Rewrites (w : ℕ) (s o output : List ℕ) (answer : Result ℕ Numbers) : Type 0 where
-  pub answers : answer ≡ answer_to w s o
-  pub leaves : output ≡ output_after answer (rewritten w s) o
+abbrev pub Rewrites : ℕ → List ℕ → List ℕ → List ℕ → Result ℕ Numbers → Type 0
+Rewrites w s o output answer = WrittenAs (answer_to w s o) (rewritten w s) o output answer
 
 -- the same of each version that there is: nothing is written as version 3
 abbrev pub RewritesAs : Version → List ℕ → List ℕ → List ℕ → Result ℕ Numbers → Type 0

@@ -4,12 +4,12 @@ ghost use Rattle.release.specs.Files.{numbers, filler_node, right_at, axiom_at};
 ghost use Rattle.release.specs.Versions.{width};
 ghost use Rattle.rewriting.specs.Bytes.{names_bytes, filler_number, tail_bytes, axiom_bytes};
 ghost use Rattle.rewriting.specs.Stands.{TailStands, AxiomStands};
-ghost use Rattle.output.specs.Places.{Room, Put};
+ghost use Rattle.output.specs.Places.{Put};
 
 use crate::Rewriting;
 use crate::numbers::put_number;
-use release::Kind;
 use output::put_byte;
+use release::Kind;
 
 impl<'a> Rewriting<'a> {
     // The number that a filler has in the wanted version: ⊤ has another one there.
@@ -24,8 +24,7 @@ impl<'a> Rewriting<'a> {
 
     // Names one after the other. Both places are kept by hand: `chunks_exact` would give the names' bytes, and a number is read at a place of the file.
     fn put_names(&self, from: usize, count: usize, output: &mut [u8], at: usize) -> usize
-        requires inside { from + width self.now.source.version * count ≤ length self.now.source.file.now }
-        requires room { Room output.old at (names_bytes (width self.now.wanted) (numbers (width self.now.source.version) count self.now.source.file.now from)) }
+        requires { from + width self.now.source.version * count ≤ length self.now.source.file.now }
         ensures { Put output.old at
             (names_bytes (width self.now.wanted) (numbers (width self.now.source.version) count self.now.source.file.now from)) output.new result }
     {
@@ -41,8 +40,7 @@ impl<'a> Rewriting<'a> {
 
     // What stands after the kind byte: a byte, and then the conjuncts or the filler. The kind is a byte, which `put_axiom` puts down as it read it.
     fn put_tail(&self, tail: usize, kind: u8, output: &mut [u8], at: usize) -> usize
-        requires stands { TailStands (width self.now.source.version) kind self.now.source.file.now tail }
-        requires room { Room output.old at (tail_bytes (width self.now.wanted) (right_at (width self.now.source.version) kind self.now.source.file.now tail)) }
+        requires { TailStands (width self.now.source.version) kind self.now.source.file.now tail }
         ensures { Put output.old at
             (tail_bytes (width self.now.wanted) (right_at (width self.now.source.version) kind self.now.source.file.now tail)) output.new result }
     {
@@ -57,8 +55,7 @@ impl<'a> Rewriting<'a> {
     }
 
     pub(crate) fn put_axiom(&self, from: usize, output: &mut [u8], at: usize) -> usize
-        requires stands { AxiomStands (width self.now.source.version) self.now.source.file.now from }
-        requires room { Room output.old at (axiom_bytes (width self.now.wanted) (axiom_at (width self.now.source.version) self.now.source.file.now from)) }
+        requires { AxiomStands (width self.now.source.version) self.now.source.file.now from }
         ensures { Put output.old at
             (axiom_bytes (width self.now.wanted) (axiom_at (width self.now.source.version) self.now.source.file.now from)) output.new result }
     {

@@ -4,18 +4,17 @@ ghost use Rattle.release.specs.Files.{axioms_of};
 ghost use Rattle.release.specs.Versions.{width};
 ghost use Rattle.rewriting.specs.Bytes.{axioms_bytes};
 ghost use Rattle.rewriting.specs.Rewriting.{rewritten};
-ghost use Rattle.output.specs.Places.{Room, Put};
+ghost use Rattle.output.specs.Places.{Put};
 
 use crate::Rewriting;
 use crate::numbers::put_number;
+use output::{put_byte, put_text};
 use release::Release;
 use release::number::Version;
-use output::{put_byte, put_text};
 
 impl<'a> Rewriting<'a> {
     // All axioms. The place is kept by hand: an axiom says where the next one starts, so no iterator gives it.
     fn put_axioms(&self, output: &mut [u8], at: usize) -> usize
-        requires { Room output.old at (axioms_bytes (width self.now.wanted) (axioms_of self.now.source.file.now)) }
         ensures { Put output.old at (axioms_bytes (width self.now.wanted) (axioms_of self.now.source.file.now)) output.new result }
     {
         let mut from = self.source.version.header_length();
@@ -37,7 +36,6 @@ impl<'a> Rewriting<'a> {
     }
 
     pub(crate) fn put_release(&self, output: &mut [u8]) -> usize
-        requires { Room output.old 0 (rewritten (width self.now.wanted) self.now.source.file.now) }
         ensures { Put output.old 0 (rewritten (width self.now.wanted) self.now.source.file.now) output.new result }
     {
         let counts = self.source.counts;

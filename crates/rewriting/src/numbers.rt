@@ -1,14 +1,13 @@
 // Numbers put into the output, each in the bytes of a version's names.
 ghost use Rattle.release.specs.Versions.{width};
 ghost use Rattle.rewriting.specs.Bytes.{number_bytes};
-ghost use Rattle.output.specs.Places.{Room, Put};
+ghost use Rattle.output.specs.Places.{Put};
 
-use release::number::Version;
 use output::put_byte;
+use release::number::Version;
 
 // The low byte first.
 pub fn put_number(output: &mut [u8], at: usize, version: Version, number: usize) -> usize
-    requires { Room output.old at (number_bytes (width version) number) }
     ensures { Put output.old at (number_bytes (width version) number) output.new result }
 {
     let [low, high, ..] = number.to_le_bytes();

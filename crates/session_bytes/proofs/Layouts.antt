@@ -152,7 +152,7 @@ store_accepted step b {d = d} storable h writes =
 -- what is copied fits
 pub copied : {text o q : List ℕ} {k : ℕ} → Put o 0 text q k → length text ≤ length o → Copies text o q k
 copied put h =
-    let next = put_next (record { fits = omega arith }) put in
+    let next = put_next (omega arith) put in
     record { length_is = omega (arith, next); stands = put_at_start put h }
 
 pub file_fits : (side : ℕ) (s : Session) → length (file_read side s) ≤ most_bytes

@@ -22,7 +22,7 @@ use Rattle.release.proofs.Linked.{axiom_kind}
 use Rattle.rewriting.specs.Bytes.{Bytes, number_bytes, tail_bytes, axiom_bytes, axioms_bytes, release_bytes}
 use Rattle.rewriting.specs.Rewriting.{rewritten, Rewritable}
 use Rattle.rewriting.specs.Stands.{AxiomStands}
-use Rattle.output.specs.Places.{last_place, Room, Put}
+use Rattle.output.specs.Places.{last_place, Put}
 use Rattle.rewriting.proofs.Pieces.{number_length}
 use Rattle.rewriting.proofs.Lengths.{own_length, count_length, header_bytes, accepted_ends}
 use Rattle.rewriting.proofs.ReadBack.{axiom_back}
@@ -214,33 +214,11 @@ module _ (s o text : List ℕ) (h : PutsIn s o text) (bytes : Bytes s) (at : ℕ
       ∙ (ap₂ (λ (j : ℕ) (b : List ℕ). opening s j lowers ++ b) f (ap₂ (λ (b d : List ℕ). b ++ d) (text_is_axiom h.text_is) rest)
       ∙ sym (file_parts s lowers (a ∷ uppers)))
 
-  with_fits : at + length text + length (drop at s) ≤ length o
-  with_fits =
-      let k = get_or s 7 0 + 1 in
-      let e = ap length (with_parts k refl) in
-      omega (
-        arith,
-        e,
-        place,
-        length-append (opening s k lowers ++ text) (drop at s),
-        length-append (opening s k lowers) text,
-        opening_length s k a.left,
-        (filed_with text
-            h.copied.file h.text_is.accepted h.free).short,
-        h.copied.room,
-      )
-
   pub start_within : at ≤ length s
   start_within = omega (arith, place, place_within s h.copied.file bytes a.left)
 
   module _ (short : length o ≤ last_place) (k : ℕ) where
-    pub text_room : Room (set o 7 k) at text
-    text_room = record { fits = omega (arith, with_fits, length-set o 7 k) }
-
     module _ {q : List ℕ} {next : ℕ} (first : Put (set o 7 k) at text q next) where
-      pub rest_room : Room q next (part_from at s)
-      rest_room = rw part_is (record { fits = omega (arith, with_fits, length-set o 7 k, put_length first, put_next text_room first) })
-
       pub with_put : k ≡ get_or s 7 0 + 1 → {r : List ℕ} {end : ℕ} → Put q next (part_from at s) r end → Put o 0 (file_with s text) r end
       with_put e second =
           let start : Put o 0 (opening s k lowers) (set o 7 k) at = rw place (opening_put s o h.copied short bytes a.left k) in
@@ -270,12 +248,6 @@ module _ (s o : List ℕ) (x : ℕ) (h : TakesOut s o x) (bytes : Bytes s) (at n
       let rest : drop next s ≡ axioms_bytes 1 above = ap (λ (p : ℕ). drop p s) after ∙ rest_of s h.copied.file bytes (suc x) in
       ap₂ (λ (j : ℕ) (b : List ℕ). opening s j under ++ b) f rest ∙ sym (file_parts s under above)
 
-  without_fits : at + length (drop next s) ≤ length o
-  without_fits =
-      let k = get_or s 7 0 - 1 in
-      let e = ap length (without_parts k refl) in
-      omega (arith, e, place, length-append (opening s k under) (drop next s), opening_length s k x, (filed_without x h.copied.file).short, h.copied.room)
-
   pub next_within : next ≤ length s
   next_within = omega (arith, after, place_within s h.copied.file bytes (suc x))
 
@@ -283,9 +255,6 @@ module _ (s o : List ℕ) (x : ℕ) (h : TakesOut s o x) (bytes : Bytes s) (at n
   some_axiom = omega (arith, count_is s h.copied.file, one_less)
 
   module _ (short : length o ≤ last_place) (k : ℕ) where
-    pub above_room : Room (set o 7 k) at (part_from next s)
-    above_room = rw part_is (record { fits = omega (arith, without_fits, length-set o 7 k) })
-
     pub without_put : k ≡ get_or s 7 0 - 1 → {r : List ℕ} {end : ℕ} → Put (set o 7 k) at (part_from next s) r end → Put o 0 (file_without s x) r end
     without_put e second =
         let start : Put o 0 (opening s k under) (set o 7 k) at = rw place (opening_put s o h.copied short bytes x k) in

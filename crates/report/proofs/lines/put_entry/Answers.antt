@@ -10,4 +10,4 @@ returns-in_default c = put_as (sym (entry_nothing c.args.name.0 c.args.byte c.in
 pub returns : goal.returns
 returns c =
     put_as (side_line c.args.name.0 c.args.byte c.in-Some.side c.letter.result c.letter.ensures c.in-Some.ensures)
-    (put_then c.put_three_digits-first.ensures (put_then c.put_or_count-second.ensures (put_then c.put_or_count-third.ensures c.put_or_count.ensures)))
+    (put_then c.put_three_digits-first.ensures (put_then c.put_byte-second.ensures (put_then c.put_byte-third.ensures c.put_byte.ensures)))

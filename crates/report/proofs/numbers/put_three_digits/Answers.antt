@@ -1,8 +1,9 @@
 -- `put_three_digits` meets its contract: two zeros, one or none are put, and then the number.
 use Rattle.std.proofs.Common.{◌≡◌, ℕ, List, [], ◌∷◌, ◌++◌, arith, sym, ap, ◌∙◌}
 use Rattle.output.proofs.Puts.{put_as, put_then}
-use Rattle.report.specs.Numbers.{decimal, three_digits}
-use Rattle.report.proofs.Decimals.{three_of_one, three_of_two, three_of_more}
+use Rattle.output.specs.Numbers.{decimal}
+use Rattle.report.specs.Numbers.{three_digits}
+use Rattle.report.proofs.ThreeDigits.{three_of_one, three_of_two, three_of_more}
 use Rattle.report.proofs.numbers.put_three_digits.Goals.{in-0-to-9, in-10-to-99, in_default}
 use Rattle.report.proofs.numbers.put_three_digits.Goals as goal
 

@@ -7,4 +7,4 @@ pub returns : goal.returns
 unfolding row_line
 returns c =
     put_then c.put_worded-first.ensures (put_then c.put_worded-second.ensures (put_then c.put_worded-third.ensures
-    (put_then c.put_worded-fourth.ensures (put_then c.put_worded-fifth.ensures c.put_or_count.ensures))))
+    (put_then c.put_worded-fourth.ensures (put_then c.put_worded-fifth.ensures c.put_byte.ensures))))

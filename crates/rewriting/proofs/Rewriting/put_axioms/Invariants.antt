@@ -3,7 +3,7 @@ use Prim.Native.Nat.{◌-◌}
 use Rattle.release.specs.Files.{axioms_from, axioms_of, count_of}
 use Rattle.release.specs.Versions.{width}
 use Rattle.rewriting.specs.Bytes.{axioms_bytes}
-use Rattle.rewriting.proofs.Puts.{Rest}
+use Rattle.output.proofs.Rest.{Rest}
 use Rattle.rewriting.proofs.Stands.{AllStand}
 use Rattle.rewriting.proofs.Rewriting.put_axioms.Given as goal
 

@@ -1,14 +1,10 @@
 -- `put_names` meets its contract. The invariant: the names from the place reached on are still to be written.
 use mathlib.Core.Path.{refl}
 use native.Mathlib.Omega.{arith}
-use Rattle.rewriting.proofs.Puts.{piece_room, piece_put, nothing_left}
+use Rattle.output.proofs.Rest.{piece_put, nothing_left}
 use Rattle.rewriting.proofs.Pieces.{first_name, no_name}
 use Rattle.rewriting.proofs.Stands.{others_inside, one_left}
 use Rattle.rewriting.proofs.Rewriting.put_names.Goals as goal
-
-pub put_number-next-requires : goal.put_number-next-requires
-put_number-next-requires c =
-    piece_room (first_name _ _ _ _ _ _ (one_left refl c.loop-name-test.true) _ c.number-name.ensures) c.loop-name.invariant.left
 
 pub loop-name-preserved : goal.loop-name-preserved
 loop-name-preserved c =

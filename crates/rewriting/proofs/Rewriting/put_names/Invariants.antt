@@ -4,7 +4,7 @@ use lib.ListN.{length}
 use Rattle.release.specs.Files.{numbers}
 use Rattle.release.specs.Versions.{width}
 use Rattle.rewriting.specs.Bytes.{names_bytes}
-use Rattle.rewriting.proofs.Puts.{Rest}
+use Rattle.output.proofs.Rest.{Rest}
 use Rattle.rewriting.proofs.Rewriting.put_names.Given as goal
 
 abbrev pub invariant-loop-name : goal.invariant-loop-name

@@ -1,31 +1,18 @@
 -- `put_number` meets its contract: the low byte, and in two bytes the high one.
 use mathlib.Core.Path.{◌≡◌, sym, ap, ◌∙◌}
-use mathlib.Core.List.{List, [], ◌∷◌}
+use mathlib.Core.List.{List}
 use Prim.Native.Nat.{ℕ}
-use native.Mathlib.Omega.{arith}
-use lib.ListN.{length, get_or}
+use lib.ListN.{get_or}
 use Rattle.release.specs.Versions.{width}
-use Rattle.output.specs.Places.{Room}
-use Rattle.output.proofs.Puts.{put_as, put_then, put_next, put_length}
-use Rattle.rewriting.specs.Bytes.{number_bytes}
-use Rattle.rewriting.proofs.Stands.{width_some, width_wide}
-use Rattle.rewriting.proofs.Pieces.{number_length, narrow_bytes, wide_bytes}
+use Rattle.output.proofs.Puts.{put_as, put_then}
+use Rattle.rewriting.proofs.Stands.{width_wide}
+use Rattle.rewriting.proofs.Pieces.{narrow_bytes, wide_bytes}
 use Rattle.rewriting.proofs.numbers.put_number.Goals as goal
-
-pub put_byte-next-requires : goal.put_byte-next-requires
-put_byte-next-requires c = record { fits = omega (arith, c.requires.fits, width_some c.args.version, number_length (width c.args.version) c.args.number) }
 
 pub returns-then-width-eq1 : goal.returns-then-width-eq1
 returns-then-width-eq1 c =
     let byte : ℕ → List ℕ → ℕ = λ i s. get_or s i 0 in
     put_as (narrow_bytes _ _ (sym c.width.ensures ∙ c.if-width-eq1.true) _ (ap (byte 0) c.to_le_bytes.ensures)) c.put_byte-next.ensures
-
-pub put_byte-requires : goal.put_byte-requires
-put_byte-requires c =
-    let wide : width c.args.version ≡ 2 = width_wide c.args.version (λ e. c.if-width-eq1.false (c.width.ensures ∙ e)) in
-    let l : length (number_bytes (width c.args.version) c.args.number) ≡ 2 = number_length (width c.args.version) c.args.number ∙ wide in
-    let first : Room c.args.output.now c.args.at (get_or c.to_le_bytes.result 0 0 ∷ []) = record { fits = omega (arith, c.requires.fits) } in
-    record { fits = omega (arith, c.requires.fits, put_next first c.put_byte-next.ensures, put_length c.put_byte-next.ensures) }
 
 pub returns : goal.returns
 returns c =

@@ -1,13 +1,14 @@
--- Numbers in decimal: the digits of a number are those of its tenth and its last digit.
+-- Numbers in decimal: the digits of a number are those of its tenth and its last digit; a number below a limit has few digits.
 use mathlib.Core.Path.{◌≡◌, refl, sym, ap, ◌∙◌}
 use mathlib.Core.Bool.{Bool, true, false}
 use mathlib.Core.List.{[], ◌∷◌, ◌++◌}
-use Prim.Native.Nat.{ℕ, zero, suc, ◌/◌, ◌%◌, ◌≤◌, ◌<◌}
-use native.Mathlib.Nat.{div-lt_self}
+use Prim.Native.Nat.{ℕ, zero, suc, ◌*◌, ◌/◌, ◌%◌, ◌≤◌, ◌<◌}
+use native.Mathlib.Nat.{div-lt_self, div-lt_iff_lt-mul}
 use native.Mathlib.Omega.{arith}
-use borrow.Author.Tests.{lt-ltb, le-ltb, ltb-false}
+use borrow.Author.Tests.{lt-ltb, le-ltb, ltb-true, ltb-false}
 use lib.Dec.{ltb}
-use Rattle.report.specs.Numbers.{digit, digits_within, decimal, three_digits}
+use lib.ListN.{length, length-append}
+use Rattle.output.specs.Numbers.{digit, digits_within, decimal}
 
 pub tenth_less : (x : ℕ) → 10 ≤ x → x / 10 < x
 tenth_less x h = div-lt_self (omega arith) (omega arith)
@@ -43,15 +44,24 @@ decimal_more x h =
     let f : ltb x 10 ≡ false = le-ltb x 10 h in
     simp (f, alike)
 
--- with leading zeros
-pub three_of_one : (x : ℕ) → x < 10 → three_digits x ≡ (48 ∷ 48 ∷ []) ++ decimal x
-unfolding three_digits
-three_of_one x h = simp (lt-ltb x 10 h)
+-- a number below a limit has few digits
+pub length_below_10 : (x : ℕ) → x < 10 → length (decimal x) ≤ 1
+length_below_10 x h = omega (arith, ap length (decimal_one x h))
 
-pub three_of_two : (x : ℕ) → 10 ≤ x → x < 100 → three_digits x ≡ (48 ∷ []) ++ decimal x
-unfolding three_digits
-three_of_two x h k = simp (le-ltb x 10 h, lt-ltb x 100 k)
+more_digits : (limit k : ℕ) → ((y : ℕ) → y < limit → length (decimal y) ≤ k) → 1 ≤ k → (x : ℕ) → x < limit * 10 → length (decimal x) ≤ suc k
+more_digits limit k few some x h = by_size (ltb x 10) refl
+  where
+    by_size : (b : Bool) → ltb x 10 ≡ b → length (decimal x) ≤ suc k
+    by_size true e = omega (arith, length_below_10 x (ltb-true x 10 e))
+    by_size false e =
+        let tenth : length (decimal (x / 10)) ≤ k = few (x / 10) ((div-lt_iff_lt-mul (omega arith)).1 h) in
+        omega (arith, ap length (decimal_more x (ltb-false x 10 e)), length-append (decimal (x / 10)) (digit (x % 10) ∷ []), tenth)
 
-pub three_of_more : (x : ℕ) → 10 ≤ x → 100 ≤ x → three_digits x ≡ decimal x
-unfolding three_digits
-three_of_more x h k = simp (le-ltb x 10 h, le-ltb x 100 k)
+pub length_below_100 : (x : ℕ) → x < 100 → length (decimal x) ≤ 2
+length_below_100 = more_digits 10 1 length_below_10 (omega arith)
+
+pub length_below_1000 : (x : ℕ) → x < 1000 → length (decimal x) ≤ 3
+length_below_1000 = more_digits 100 2 length_below_100 (omega arith)
+
+pub length_below_10000 : (x : ℕ) → x < 10000 → length (decimal x) ≤ 4
+length_below_10000 = more_digits 1000 3 length_below_1000 (omega arith)

@@ -1,5 +1,5 @@
 -- Each call is made for a tenth of the number.
-use Rattle.report.proofs.numbers.+put_decimal.Given as goal
+use Rattle.output.proofs.+put_decimal.Given as goal
 
 abbrev pub decreases-put_decimal : goal.decreases-put_decimal
 decreases-put_decimal l = l.number
