@@ -1,15 +1,16 @@
--- Worked examples of the texts: the worked example P1 and its refusal, names of one to five digits, and a sheet of two rows.
+-- Worked examples of the texts: the worked example P1, its page and its refusal, names of one to five digits, a sheet of two rows, and how long pages are.
 use mathlib.Core.Path.{◌≡◌, refl}
 use mathlib.Core.List.{List, [], ◌∷◌, ◌++◌}
 use Prim.Native.Nat.{ℕ}
-use Rattle.output.specs.Numbers.{digits_within, decimal}
+use Rattle.output.specs.Numbers.{digits_within, decimal, spaces, aligned}
 use Rattle.report.specs.Numbers.{three_digits}
 use Rattle.el.specs.Lists.{count}
 use Rattle.branches.specs.Sheets.{no_row}
 use Rattle.branches.specs.declared.row.Row.{Row}
 use Rattle.std.proofs.Common.{Ok}
 use Rattle.report.specs.Sheets.{row_line, row_lines, branches_of, sheet_text}
-use Rattle.report.specs.Texts.{worded, two_numbers, letter, line, entry, lines, report_with, report, refusal_line}
+use Rattle.report.specs.Texts.{newline, worded, two_numbers, letter, line, entry, lines, report_with, report, refusal_line}
+use Rattle.report.specs.Pages.{cells, cell_text, cell_texts, page_line, page_lines, page_of, page, page_length}
 
 -- "names 4 roles 0", "000 B", "002 R", "left 1 right 2"
 p1_lines : List ℕ
@@ -53,3 +54,18 @@ three_rows =
 sheet : sheet_text (Ok (record { names = 12; roles = 0 })) 2 three_rows ≡ sheet_lines
 unfolding sheet_lines three_rows sheet_text branches_of row_lines row_line worded decimal digits_within
 sheet = refl
+
+-- the page of P1: "   0 B          ", "   2 R          ", and spaces up to the end of the line
+p1_page : page (3 ∷ 0 ∷ 2 ∷ 0 ∷ []) ≡ spaces 3 ++ (48 ∷ 32 ∷ 66 ∷ spaces 10 ++ (spaces 3 ++ (50 ∷ 32 ∷ 82 ∷ spaces 10 ++ (spaces 32 ++ (newline ∷ [])))))
+unfolding page page_of page_lines page_line cells cell_texts cell_text aligned letter decimal digits_within
+p1_page = refl
+
+-- "No name reported gives no byte at all"
+no_page : page (0 ∷ 0 ∷ 0 ∷ []) ≡ []
+unfolding page page_of page_lines cells
+no_page = refl
+
+-- byte 12 also stands where the 50th line is the last
+page_lengths : (page_length 1 ≡ 65) × (page_length 196 ≡ 3185) × (page_length 200 ≡ 3251) × (page_length 201 ≡ 3316) × (page_length 1023 ≡ 16645)
+unfolding page_length
+page_lengths = (refl, refl, refl, refl, refl)

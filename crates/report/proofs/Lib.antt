@@ -3,4 +3,9 @@ pub mod ThreeDigits
 pub mod Entries
 pub mod Sheets
 pub mod Answers
+pub mod PageLengths
+pub mod PageReadings
+pub mod PageLines
+pub mod PageWriting
+pub mod PageAnswers
 mod Examples

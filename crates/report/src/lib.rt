@@ -1,4 +1,4 @@
-// The report of a comparison, as text in a caller's bytes.
+// The report of a comparison, the text of a sheet and the page for the desk wall, in a caller's bytes.
 #![tactic(auto)]
 
 ghost use Rattle.release.specs.Refusals.{told};
@@ -10,13 +10,14 @@ ghost use Rattle.report.specs.declared.refusals.ReportRefusal.TheVariants.{Short
 
 use crate::lines::{Report, Side};
 use crate::numbers::put_two_numbers;
-pub use crate::refusals::ReportRefusal;
+pub use crate::refusals::{PageRefusal, ReportRefusal};
 use meanings::Compared;
 use output::write_whole;
 use release::Refusal;
 
 mod lines;
 mod numbers;
+pub mod page;
 mod refusals;
 pub mod sheet;
 

@@ -19,7 +19,7 @@ pub enum Side {
 
 impl Side {
     // By the name's result byte, which C reads, too. A name with another byte is not reported.
-    fn of(byte: u8) -> Option<Side>
+    pub fn of(byte: u8) -> Option<Side>
         ensures { SideOf byte result }
     {
         match byte {
@@ -30,7 +30,7 @@ impl Side {
         }
     }
 
-    fn letter(self) -> u8
+    pub fn letter(self) -> u8
         ensures { result ≡ side_letter self }
     {
         match self {
