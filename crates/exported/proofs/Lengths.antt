@@ -2,6 +2,7 @@
 --   counts_fit          the counts of an accepted release
 --   shown_fits          the place of an axiom shown: an accepted file is short
 --   rewriting_short     the length of a rewritten file
+--   page_length_fits, page_fits     the length of a page
 --   rows_fit            how many rows of a concept are written
 --   session_fits        the counts of a session
 --   file_length_fits, signature_length_fits     how many bytes of it are copied
@@ -33,6 +34,11 @@ use Rattle.rewriting.specs.Refusals.{rewrite_refusal}
 use Rattle.rewriting.specs.declared.refusals.RewriteRefusal.{RewriteRefusal}
 use Rattle.rewriting.proofs.Lengths.{accepted_few, length_found, length_few, count_few}
 use Rattle.rewriting.proofs.RoundTrip.{wrote}
+use Rattle.output.specs.Written.{WrittenAs}
+use Rattle.report.specs.Pages.{page}
+use Rattle.report.specs.PagesWritten.{length_answer, page_answer}
+use Rattle.report.specs.declared.refusals.PageRefusal.{PageRefusal}
+use Rattle.report.proofs.PageAnswers.{length_short, written_short}
 use Rattle.witness.specs.Showing.{ShownAs}
 use Rattle.witness.specs.declared.refusals.ShowRefusal.{ShowRefusal}
 use Rattle.witness.proofs.Passing.{few_rows}
@@ -92,6 +98,15 @@ rewriting_short One s o p a does = short_in 1 s a does (omega arith)
 rewriting_short Two s o p a does = short_in 2 s a does (omega arith)
 rewriting_short Three s o p (Ok k) does = let e = does.0 in absurd (cc)
 rewriting_short Three s o p (Err e) does = tt
+
+-- a page
+pub page_length_fits : (bs : List ℕ) (a : Result ℕ PageRefusal) → a ≡ length_answer bs → IfOk a Fits32
+page_length_fits bs (Ok k) is = omega (arith, length_short bs k is)
+page_length_fits bs (Err e) is = tt
+
+pub page_fits : (bs o q : List ℕ) (a : Result ℕ PageRefusal) → WrittenAs (page_answer bs o) (page bs) o q a → IfOk a Fits32
+page_fits bs o q (Ok k) written = omega (arith, written_short bs o k written.answers)
+page_fits bs o q (Err e) written = tt
 
 -- a concept shown
 pub rows_fit : {s t g ys zs w v : List ℕ} {side x : ℕ} (a : Result ℕ ShowRefusal) → ShownAs s t g side x ys zs w v a → IfOk a Fits32

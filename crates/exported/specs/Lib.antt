@@ -2,3 +2,4 @@
 pub mod Codes
 pub mod Concepts
 pub mod Sessions
+pub mod Pages

@@ -20,6 +20,7 @@ use report::{ReportRefusal, write_report};
 use rewriting::rewrite;
 
 pub mod concepts;
+pub mod pages;
 mod refusals;
 pub mod sessions;
 

@@ -6,11 +6,12 @@
 ghost use Rattle.exported.specs.Codes.{CheckReturns, AskReturns, ShowReturns, CompareReturns, SheetReturns};
 ghost use Rattle.exported.specs.Codes.{RewriteReturns, ReportReturns, WorkLengthReturns};
 ghost use Rattle.exported.specs.Concepts.{ShowConceptReturns, CheckConceptReturns};
+ghost use Rattle.exported.specs.Pages.{PageReturns, PageLengthReturns};
 ghost use Rattle.exported.specs.Sessions.{StartReturns, AddReturns, WithdrawReturns, CountsReturn, ByteReturns, FileReturns, SignatureReturns};
 
 use branches::row::Row;
 use editing::{HeldFile, Session};
-use exported::{concepts, sessions};
+use exported::{concepts, pages, sessions};
 use session_bytes::Layout;
 
 // Checks a release: its counts of names, roles and axioms.
@@ -150,6 +151,22 @@ pub extern "C" fn berrytick_report(
         output.old output.new length.old length.new work.old work.new result }
 {
     exported::berrytick_report(first, second, signature, output, length, work)
+}
+
+// Tells how long the page of a result is.
+#[unsafe(no_mangle)]
+pub extern "C" fn berrytick_page_length(result_bytes: &[u8], length: &mut u32) -> u32
+    ensures { PageLengthReturns result_bytes.now length.old length.new result }
+{
+    pages::berrytick_page_length(result_bytes, length)
+}
+
+// Writes the page of a result to the start of the output: its length.
+#[unsafe(no_mangle)]
+pub extern "C" fn berrytick_page(result_bytes: &[u8], output: &mut [u8], length: &mut u32) -> u32
+    ensures { PageReturns result_bytes.now output.old output.new length.old length.new result }
+{
+    pages::berrytick_page(result_bytes, output, length)
 }
 
 // The bytes of work memory that releases of this many names need. More names than there can be are refused 4, side 0.
