@@ -1,6 +1,6 @@
-/* Tries the calls of include/berrytick.h: P1 to P10, role inclusions, concepts of P1, P1 edited, the convention, and empty slices that are
- * NULL. Prints a line for each check that fails and the number of checks; the status is 0 where none fails. tools/test-bindings builds and
- * runs it. */
+/* Tries the calls of include/berrytick.h: P1 to P10, role inclusions, concepts and the page of P1, P1 edited, the convention, and empty slices
+ * that are NULL. Prints a line for each check that fails and the number of checks; the status is 0 where none fails. tools/test-bindings
+ * builds and runs it. */
 #include "berrytick.h"
 
 #include <stdio.h>
@@ -280,6 +280,26 @@ static void try_concepts(void)
           "and not 2 alone");
 }
 
+static void try_page(void)
+{
+    const struct bytes result = BYTES(3, 0, 2, 0), no_result = BYTES(3, 0, 4, 0);
+    uint8_t page[65];
+    uint32_t length = UNTOUCHED;
+    memset(page, ' ', 64);
+    memcpy(page, "   0 B             2 R", 22);
+    page[64] = '\n';
+    refill();
+    check(berrytick_page(PASS(no_result), output, sizeof output, &length) == 51 * 256, "a page of no result");
+    check(berrytick_page(PASS(result), output, 64, &length) == 51 * 256, "an output that is too short for a page");
+    check(berrytick_page_length(PASS(no_result), &length) == 51 * 256, "the length of no page");
+    check(length == UNTOUCHED && all_are(output, sizeof output, FILLED), "a refused page changes nothing");
+    check(berrytick_page_length(PASS(result), &length) == 0 && length == 65, "the length of P1's page");
+    length = UNTOUCHED;
+    check(berrytick_page(PASS(result), output, sizeof output, &length) == 0 && length == 65 && memcmp(output, page, 65) == 0 &&
+              all_are(output + 65, sizeof output - 65, FILLED),
+          "P1's page");
+}
+
 static void try_rewrite(void)
 {
     const struct bytes expected = BYTES(0x45, 0x4C, 0x54, 2, 0, 4, 0, 0, 1, 0, 0, 0, 2, 2, 1, 0, 2, 0);
@@ -411,6 +431,9 @@ static void try_empty(void)
     check(berrytick_session_start(PASS(no_names), PASS(no_names), NULL, 0, session, NULL, 0) == 32 * 256, "in NULL");
     check(berrytick_session_start(PASS(no_names), PASS(no_names), NULL, 0, session, work, sizeof work) == 0, "of no names, no roles");
     check(berrytick_session_add(session, 1, NULL, 0, work, sizeof work) == 7 * 256 + 1, "NULL is added");
+    check(berrytick_page_length(NULL, 0, &length) == 0 && length == 0, "the length of the page of NULL");
+    check(berrytick_page(NULL, 0, NULL, 0, &length) == 0 && length == 0, "a page of NULL to NULL");
+    check(berrytick_page(PASS(p1_signature), NULL, 0, &length) == 51 * 256, "a page to NULL");
     check(berrytick_rewrite(NULL, 0, 1, NULL, 0, &length) == 1 * 256 + 1, "NULL is rewritten");
     check(berrytick_rewrite(PASS(p1_first), 1, NULL, 0, &length) == 41 * 256, "to NULL");
 }
@@ -425,6 +448,7 @@ int main(void)
     try_sheet();
     try_report();
     try_concepts();
+    try_page();
     try_rewrite();
     try_session_start();
     try_session_steps();

@@ -32,13 +32,14 @@ extern "C" {
 #define BERRYTICK_NUMBER(code) ((code) / 256)
 #define BERRYTICK_SIDE(code) ((code) % 256)
 
-/* The most names and roles of a release, the bytes of the longest release, those of the longest file that a release is rewritten as, and
- * those of the longest report. */
+/* The most names and roles of a release, the bytes of the longest release, those of the longest file that a release is rewritten as, those of
+ * the longest report and of the longest page. */
 #define BERRYTICK_NAMES 1023
 #define BERRYTICK_ROLES 32
 #define BERRYTICK_RELEASE_BYTES 37349
 #define BERRYTICK_REWRITTEN_BYTES 36838
 #define BERRYTICK_REPORT_BYTES 6202
+#define BERRYTICK_PAGE_BYTES 16645
 
 /* The bytes of a session, and those of the longest file and of the longest signature that one can hold. */
 #define BERRYTICK_SESSION_BYTES 5136
@@ -110,6 +111,18 @@ uint32_t berrytick_report(const uint8_t *first, size_t first_length,
                           uint8_t *output, size_t output_length,
                           uint32_t *length,
                           uint8_t *work, size_t work_length);
+
+/* Tells how long the page of a result is, at most BERRYTICK_PAGE_BYTES; 0 where no name is reported.
+ * Refused: 51, where the result has more than 1,023 bytes or one above 3. */
+uint32_t berrytick_page_length(const uint8_t *result, size_t result_length, uint32_t *length);
+
+/* Writes the page of a result, for the desk wall: its length. The names that the result reports stand four to a line of 64 characters and a
+ * newline, and byte 12 after each 50th line (docs/FORMAT.md, "A page"). The result is all that is lent: where it has more bytes than there are
+ * names, as one lent to berrytick_compare may have, its length is passed as n.
+ * Refused: 51, where the result has more than 1,023 bytes or one above 3, or the output is shorter than the page. */
+uint32_t berrytick_page(const uint8_t *result, size_t result_length,
+                        uint8_t *output, size_t output_length,
+                        uint32_t *length);
 
 /* A concept as rows. A row is three numbers, row i those from 3 * i on, rows counted from 0:
  *   0 0 0    everything

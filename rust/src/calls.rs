@@ -73,6 +73,16 @@ extern "C" {
         work_length: usize,
     ) -> u32;
 
+    pub fn berrytick_page_length(result: *const u8, result_length: usize, length: &mut u32) -> u32;
+
+    pub fn berrytick_page(
+        result: *const u8,
+        result_length: usize,
+        output: *mut u8,
+        output_length: usize,
+        length: &mut u32,
+    ) -> u32;
+
     pub fn berrytick_show_concept(
         first: *const u8,
         first_length: usize,

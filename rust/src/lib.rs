@@ -48,6 +48,9 @@ pub const REWRITTEN_BYTES: usize = 36838;
 /// The bytes of the longest report. An output that is shorter is refused.
 pub const REPORT_BYTES: usize = 6202;
 
+/// The bytes of the longest page.
+pub const PAGE_BYTES: usize = 16645;
+
 /// The bytes of a session, and those of the longest file and of the longest signature that one can hold.
 pub const SESSION_BYTES: usize = 5136;
 
@@ -209,6 +212,23 @@ pub fn report(
             work.as_mut_ptr(),
             work.len(),
         )
+    })?;
+    Ok(length as usize)
+}
+
+/// How long the page of a result is, at most [`PAGE_BYTES`].
+pub fn page_length(result: &[u8]) -> Result<usize, Refusal> {
+    let mut length = 0;
+    Refusal::of(unsafe { calls::berrytick_page_length(result.as_ptr(), result.len(), &mut length) })?;
+    Ok(length as usize)
+}
+
+/// Writes the page of a result, for the desk wall, to the start of the output: its length. The names that the result reports stand four to a line,
+/// in ASCII; byte 12 follows each 50th line. The result is the whole slice: of a longer one that was lent to [`compare`], its first n bytes.
+pub fn page(result: &[u8], output: &mut [u8]) -> Result<usize, Refusal> {
+    let mut length = 0;
+    Refusal::of(unsafe {
+        calls::berrytick_page(result.as_ptr(), result.len(), output.as_mut_ptr(), output.len(), &mut length)
     })?;
     Ok(length as usize)
 }

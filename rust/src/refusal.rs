@@ -56,6 +56,7 @@ impl Refusal {
             (48, _) => "the name has no axiom",
             (49, _) => "the pairs of roles do not rise",
             (50, _) => "the role result is shorter than m × m bytes for m roles",
+            (51, _) => "the result has more than 1,023 bytes or one above 3, or the output is shorter than the page",
             _ => "a number that this version does not know",
         }
     }

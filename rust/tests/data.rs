@@ -112,6 +112,14 @@ fn try_rewrite(case: &[&[u8]]) {
     assert!(begins_with(&output, rewritten));
 }
 
+fn try_page(case: &[&[u8]]) {
+    let &[result, length, refused, side, page, asked, needed] = case else { panic!("fields of a page") };
+    assert_eq!(berrytick::page_length(result), expected(asked, side, number(needed)));
+    let mut output = lent(length);
+    assert_eq!(berrytick::page(result, &mut output), expected(refused, side, page.len()));
+    assert!(begins_with(&output, page));
+}
+
 fn row(bytes: &[u8]) -> Row {
     let part = |at: usize| u32::from(u16::from_le_bytes([bytes[at], bytes[at + 1]]));
     Row { chosen: part(0), left: part(2), right: part(4), share: part(6) }
@@ -286,6 +294,12 @@ fn reports() {
 fn rewritten_releases() {
     each_case("rewrite", try_rewrite);
     each_case("rewrites", try_rewrite);
+}
+
+#[test]
+fn pages() {
+    each_case("page", try_page);
+    each_case("pages", try_page);
 }
 
 #[test]

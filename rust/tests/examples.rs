@@ -58,6 +58,17 @@ fn p1_as_a_report() {
     assert_eq!(work, [0; 100]);
 }
 
+#[test]
+fn p1_as_a_page() {
+    let [first, second] = p1();
+    let result = compared(&first, &second, &[1, 1, 1, 0]);
+    let mut output = [FILLED; 100];
+    assert_eq!(berrytick::page(&result, &mut output), Ok(65));
+    let (page, rest) = output.split_at(65);
+    assert_eq!(page, format!("{:64}\n", "   0 B             2 R").as_bytes());
+    assert!(rest.iter().all(|&byte| byte == FILLED));
+}
+
 /// What a number of a lent row is before a call.
 const NO_ROW: [u32; 3] = [u32::MAX; 3];
 

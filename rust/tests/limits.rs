@@ -1,6 +1,6 @@
 //! The limits that the constants name, and calls from several threads at the same time.
 
-use berrytick::{NAMES, RELEASE_BYTES, REPORT_BYTES, REWRITTEN_BYTES, ROLES};
+use berrytick::{NAMES, PAGE_BYTES, RELEASE_BYTES, REPORT_BYTES, REWRITTEN_BYTES, ROLES};
 
 /// A release of version 2 with 1,023 names and 32 roles, and this axiom for each name, by the name's number.
 fn release(axiom: impl Fn(u16) -> Vec<u8>) -> Vec<u8> {
@@ -32,6 +32,17 @@ fn the_longest_report() {
     assert_eq!(report.len(), REPORT_BYTES);
     assert!(report.starts_with("names 1023 roles 32\n000 B\n001 B\n"));
     assert!(report.ends_with("1021 B\n1022 B\nleft 1023 right 1023\n"));
+}
+
+#[test]
+fn the_longest_page() {
+    let mut output = vec![0xA5; PAGE_BYTES + 1];
+    assert_eq!(berrytick::page_length(&[3; NAMES]), Ok(PAGE_BYTES));
+    assert_eq!(berrytick::page(&[3; NAMES], &mut output), Ok(PAGE_BYTES));
+    let page = std::str::from_utf8(&output[..PAGE_BYTES]).unwrap();
+    assert_eq!(page.split('\x0C').map(|sheet| sheet.lines().count()).collect::<Vec<_>>(), [50, 50, 50, 50, 50, 6]);
+    assert!(page.ends_with("1020 B          1021 B          1022 B                          \n"));
+    assert_eq!(output[PAGE_BYTES], 0xA5);
 }
 
 #[test]

@@ -158,6 +158,18 @@ fn rewriting() {
 }
 
 #[test]
+fn pages() {
+    let mut lent = Lent::new();
+    let output = &mut lent.output;
+    assert_eq!(berrytick::page(&[1, 4], output), Err(refusal(51, 0)));
+    assert_eq!(berrytick::page(&[0; berrytick::NAMES + 1], output), Err(refusal(51, 0)));
+    assert_eq!(berrytick::page(&[1, 3], &mut output[..64]), Err(refusal(51, 0)));
+    assert_eq!(berrytick::page_length(&[1, 4]), Err(refusal(51, 0)));
+    assert_eq!(berrytick::page_length(&[0; berrytick::NAMES + 1]), Err(refusal(51, 0)));
+    assert!(lent.is_unchanged());
+}
+
+#[test]
 fn sessions() {
     let mut lent = Lent::new();
     let work = &mut lent.work;
@@ -190,7 +202,7 @@ fn work_lengths() {
 /// Every number has a meaning of its own, and numbers that no call has are told from them.
 #[test]
 fn meanings() {
-    let numbers = (1..=19).chain([31, 32, 33, 40, 41, 42, 43, 44]).chain(46..=50);
+    let numbers = (1..=19).chain([31, 32, 33, 40, 41, 42, 43, 44]).chain(46..=51);
     let unknown = refusal(255, 0).meaning();
     let meanings: BTreeSet<&str> = numbers.clone().map(|number| refusal(number, 1).meaning()).collect();
     assert_eq!(meanings.len(), numbers.count());
