@@ -1,7 +1,7 @@
-"""What checking a release file, showing an axiom, rewriting a release and building a signature answer by docs/FORMAT.md,
-which refusal a question, a comparison, a sheet, a concept shown and rows checked meet, and the role result of a comparison:
-written apart from the library, to confirm the tables refusals.txt, shows.txt, rewrites.txt, signatures.txt, questions.txt, comparisons.txt, sheets.txt,
-concepts.txt and rowchecks.txt."""
+"""What checking a release file, showing an axiom, rewriting a release, writing a page and building a signature answer by
+docs/FORMAT.md, which refusal a question, a comparison, a sheet, a concept shown and rows checked meet, and the role result
+of a comparison: written apart from the library, to confirm the tables refusals.txt, shows.txt, rewrites.txt, pages.txt,
+signatures.txt, questions.txt, comparisons.txt, sheets.txt, concepts.txt and rowchecks.txt."""
 from typing import NamedTuple
 
 KINDS_WITH_NAMES, KINDS_WITH_ROLE = (1, 2), (3, 4)
@@ -177,6 +177,15 @@ def rewrite(file, wanted, length):
             filler = int.from_bytes(file[end - old.width:end], "little")
             out += file[end - old.width - 1:end - old.width] + written(filler)
     return (41, 0, b"") if length < len(out) else (0, 0, out)
+
+
+def page(result):
+    """The page of a result, or none where the bytes are no result."""
+    if len(result) > 1023 or any(byte > 3 for byte in result):
+        return None
+    cells = [f"{name:4} {' LRB'[byte]}{'':10}" for name, byte in enumerate(result) if byte]
+    lines = ["".join(cells[at:at + 4]).ljust(64) + "\n" for at in range(0, len(cells), 4)]
+    return "".join(line + "\f" * (at % 50 == 49) for at, line in enumerate(lines)).encode("ascii")
 
 
 def signature(n, m, steps):

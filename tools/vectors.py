@@ -5,8 +5,8 @@ usage: tools/vectors.py FOLDER..
 
 The folders hold vectors, NAME.jsonl, one JSON object a line with bytes in hex, the newest folder first. Those of a family come from
 all folders that have it; of an older folder those lines are left out that have a file of version 3, which was refused then. The cases
-of the families `refusals`, `shows`, `rewrites`, `signatures`, `questions`, `comparisons`, `sheets`, `concepts` and `rowchecks` come
-from the tables of that name beside this script; release.py confirms these, of the last five which are refused, how many names are
+of the families `refusals`, `shows`, `rewrites`, `pages`, `signatures`, `questions`, `comparisons`, `sheets`, `concepts` and `rowchecks`
+come from the tables of that name beside this script; release.py confirms these, of the last five which are refused, how many names are
 chosen and what the role result is. Those of the family `deep` are made here, those of the family `lines` of the vectors `sheet`,
 those of the families `starts` and `steps` of the vectors `session`, and those of the families `held` and `edits` of the table
 sessions.txt, which release.py confirms too, but for the result bytes.
@@ -20,6 +20,7 @@ The fields of a case: first what the call is given, then what it answers.
     check, refusals     file; number, side, n, m, a
     show, shows         first, second, side, name; file that holds the part, its start, the part
     rewrite, rewrites   file, wanted version, length of the output; number, side, the rewritten file
+    page, pages         a result, length of the output; number, side, the page; number and length where the length is asked
     question, question-roles, questions, deep
                         file, c, d, length of the work memory; number, side, value, zeros
     compare, compare-roles, comparisons
@@ -43,8 +44,8 @@ The fields of a case: first what the call is given, then what it answers.
 
 The bytes of a session past those given are marked; so the file of a length above its bytes goes on in marks.
 
-Where a call is refused, n, m, a, value and zeros are 0, and the results and the rewritten file have no byte: what is lent stays
-as it was.
+Where a call is refused, n, m, a, value and zeros are 0, and the results, the rewritten file and the page have no byte: what is lent
+stays as it was.
 
 A family more from the folders is a line more in VECTORS: for each field its key and how it is written.
 """
@@ -62,7 +63,7 @@ DATA = TOOLS.parent / "crates" / "examples" / "data"
 # How many places of a signature are read one by one: all of the longest, and some beyond.
 PLACES = 1072
 
-# A rewritten file is shorter. An output of more bytes is lent with this many, so that the program needs no more room;
+# A rewritten file and a page are shorter. An output of more bytes is lent with this many, so that the program needs no more room;
 # what is answered is the same.
 MOST_OUTPUT = 40000
 
@@ -117,6 +118,8 @@ VECTORS = {
     "compare-roles": COMPARE,
     "rewrite": dict(file=bytes.fromhex, wanted=number, out_len=output, number=number, side=number,
                     out_file=bytes.fromhex),
+    "page": dict(result=bytes.fromhex, out_len=output, number=number, side=number, page=bytes.fromhex, asked=number,
+                 length=number),
     "sheet": dict(first=bytes.fromhex, second=bytes.fromhex, q=number, sigs=bytes.fromhex, rows_len=number, work_len=number,
                   number=number, side=number, rows=rows, zeros=number),
     "shown": dict(first=bytes.fromhex, second=bytes.fromhex, sig=bytes.fromhex, name=number, side=number, rows_len=room_for,
@@ -129,7 +132,9 @@ VECTORS = {
 
 def completed(row):
     """The row with `zeros`, how many bytes of its work memory are zero after the call: none where it is refused. The rows of
-    a concept shown are not in the vectors: any may be written."""
+    a concept shown are not in the vectors: any may be written. Of a page the row gets what asking for its length answers."""
+    if "page" in row:
+        row["asked"], row["length"] = page_length(bytes.fromhex(row["result"]))
     if "work_len" in row:
         checked = len(row["rows"]) if "yes" in row else 0
         row["zeros"] = needed(bytes.fromhex(row.get("file") or row["first"]), checked) if row["number"] == 0 else 0
@@ -140,6 +145,12 @@ def needed(file, checked=0):
     """How many bytes of work memory a call about an accepted release needs; where it checks rows, more for each."""
     names = release.header(file)[1]
     return 4 * (names + 1) ** 2 + 2 * (names + 1) * checked
+
+
+def page_length(result):
+    """What is answered how long a page is: a number, and the length."""
+    page = release.page(result)
+    return (51, 0) if page is None else (0, len(page))
 
 
 def sized(content):
@@ -331,6 +342,35 @@ def rewrites():
         if release.rewrite(file, wanted, length) != answer:
             sys.exit(f"rewrites.txt: {line}: {release.rewrite(file, wanted, length)}")
         cases.append([file, number(wanted), number(length), number(answer[0]), number(answer[1]), answer[2]])
+    return cases
+
+
+def result_bytes(words):
+    """The bytes of `3 0 2` or `199 of 1`."""
+    found = []
+    for part in filter(None, map(str.strip, words.split(","))):
+        times, several, byte = part.partition(" of ")
+        found += int(times) * [int(byte)] if several else map(int, part.split())
+    return bytes(found)
+
+
+def pages():
+    cases = []
+    for line in table("pages"):
+        asked, answer = line.split("=")
+        result, length = asked.split("|")
+        result, length, words = result_bytes(result), int(length), answer.split()
+        page = release.page(result)
+        if words[0] == "refused":
+            confirmed("pages", line, page is not None and len(page) <= length, False)
+            number_, side, page = int(words[1]), int(words[2]), b""
+        elif words[-1] == "bytes":
+            confirmed("pages", line, int(words[0]), len(page))
+            number_, side = 0, 0
+        else:
+            confirmed("pages", line, "".join(words).translate(str.maketrans("_/^", " \n\f")).encode("ascii"), page)
+            number_, side = 0, 0
+        cases.append([result, number(length), number(number_), number(side), page, *map(number, page_length(result))])
     return cases
 
 
@@ -571,6 +611,7 @@ def main():
     write("refusals", refusals())
     write("shows", shows())
     write("rewrites", rewrites())
+    write("pages", pages())
     write("signatures", signatures())
     write("questions", questions())
     write("comparisons", comparisons())

@@ -11,6 +11,7 @@ mod compare;
 mod concepts;
 mod held;
 mod memory;
+mod pages;
 mod printed;
 mod questions;
 mod rewrite;
@@ -46,6 +47,8 @@ fn main(rt: HostRuntime) -> io::Result<()> {
     })?;
     family(&rt, "rewrite", rewrite::judge)?;
     family(&rt, "rewrites", rewrite::judge)?;
+    family(&rt, "page", pages::judge)?;
+    family(&rt, "pages", pages::judge)?;
     family(&rt, "sheet", sheets::judge)?;
     family(&rt, "sheets", sheets::judge)?;
     family(&rt, "lines", |case| {
