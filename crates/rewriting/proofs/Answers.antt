@@ -1,9 +1,8 @@
 -- What rewriting answers and leaves, and the pieces of a whole file.
-use mathlib.Core.Path.{◌≡◌, refl, sym, ap, ◌∙◌}
+use mathlib.Core.Path.{◌≡◌, refl, sym, ◌∙◌}
 use mathlib.Core.Bool.{Bool, true, false, false≢true}
-use mathlib.Core.List.{List, [], ◌∷◌, ◌++◌}
-use Prim.Native.Nat.{ℕ, zero, suc, ◌≤◌, ◌<◌, ◌%◌}
-use native.Mathlib.Nat.{mod-eq_of_lt}
+use mathlib.Core.List.{List, ◌++◌}
+use Prim.Native.Nat.{ℕ, zero, suc, ◌≤◌, ◌<◌}
 use native.Mathlib.Omega.{arith}
 use native.Mathlib.Decide.{dec_lt}
 use borrow.Author.Tests.{lt-ltb, le-ltb, ne_eqb}
@@ -13,7 +12,7 @@ use Rattle.std.specs.Prelude.{Result, Ok, Err}
 use Rattle.el.specs.Lists.{pick}
 use Rattle.el.proofs.Tests.{not_both}
 use Rattle.release.specs.declared.Counts.{Counts}
-use Rattle.release.specs.Files.{mark, version_of, is_version, most_names_of, names_of, roles_of, count_of, first_place, axioms_of, fault}
+use Rattle.release.specs.Files.{version_of, is_version, most_names_of, names_of, roles_of, count_of, first_place, axioms_of, fault}
 use Rattle.release.specs.Readings.{counts_in, checked}
 use Rattle.release.specs.Refusals.{Numbers, answer}
 use Rattle.release.specs.Versions.{width, has_pairs, said_version}
@@ -25,21 +24,18 @@ use Rattle.release.proofs.Versions.{plain_version, version_listing}
 use Rattle.release.proofs.Checks.{header_sound}
 use Rattle.release.proofs.Linked.{no_header_fault}
 use Rattle.release.proofs.Refusing.{is_refused, is_accepted}
-use Rattle.rewriting.specs.Bytes.{number_bytes, axioms_bytes, release_bytes}
+use Rattle.rewriting.specs.Bytes.{axioms_bytes, header_of}
 use Rattle.rewriting.specs.Rewriting.{rewritten, refusal, answer_accepted, source_fault, answer_to, Rewritable, Rewrites, RewritesAs}
 use Rattle.output.specs.Places.{Put}
 use Rattle.output.specs.Written.{fitted}
 use Rattle.output.proofs.Written.{fits, lacks, unchanged, put_written}
+use Rattle.rewriting.proofs.Pieces.{header_pieces}
 use Rattle.rewriting.proofs.Lengths.{count_length}
 
--- the pieces of a file: the mark, the version, the counts, the axioms
-pub release_pieces : (w : ℕ) (s : List ℕ) {counts : Counts} → counts ≡ counts_in s → fault s ≡ 0
-    → mark ++ (number_bytes 2 w ++ (number_bytes w counts.names ++ ((counts.roles ∷ []) ++ (number_bytes w counts.axioms ++ axioms_bytes w (axioms_of s))))) ≡ rewritten w s
-unfolding rewritten release_bytes number_bytes
-release_pieces w s is ok =
-    let few : roles_of s ≤ 32 = (header_sound s (no_header_fault s ok)).roles in
-    let byte : roles_of s % 256 ≡ roles_of s = mod-eq_of_lt (omega (arith, few)) in
-    rw (is, count_length (count_of s) s (first_place s), byte) refl
+-- the pieces of a file: its header and its axioms
+pub release_pieces : (w : ℕ) (s : List ℕ) {counts : Counts} → counts ≡ counts_in s → header_of w counts.names counts.roles counts.axioms ++ axioms_bytes w (axioms_of s) ≡ rewritten w s
+unfolding rewritten
+release_pieces w s is = rw is (rw (count_length (count_of s) s (first_place s)) at (header_pieces w (names_of s) (roles_of s) (axioms_of s)))
 
 -- a file that says another version than 3
 pub source_as : (s : List ℕ) → eqb (said_version s) 3 ≡ false → source_fault s ≡ fault s

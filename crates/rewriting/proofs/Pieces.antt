@@ -1,13 +1,14 @@
 -- The pieces of which numbers, names, axioms and the file consist, as the code reads and writes them.
 use mathlib.Core.Path.{◌≡◌, refl, sym, ap, ◌∙◌}
 use mathlib.Core.Bool.{true, false}
-use mathlib.Core.List.{List, [], ◌∷◌, ◌++◌}
+use mathlib.Core.List.{List, [], ◌∷◌, ◌++◌, append_assoc}
 use Prim.Native.Nat.{ℕ, zero, suc, ◌+◌, ◌≤◌, ◌<◌, ◌/◌, ◌%◌}
 use native.Mathlib.Nat.{mod-eq_of_lt}
 use native.Mathlib.Omega.{arith}
 use lib.ListN.{length, get_or}
-use Rattle.release.specs.Files.{number, numbers, width_of, joins, filler_node, right_at, axiom_at, axiom_length, axioms_from, kind_of}
-use Rattle.rewriting.specs.Bytes.{number_bytes, names_bytes, filler_number, tail_bytes, axiom_bytes, axioms_bytes}
+use Rattle.el.specs.Axioms.{Axiom}
+use Rattle.release.specs.Files.{mark, number, numbers, width_of, joins, filler_node, right_at, axiom_at, axiom_length, axioms_from, kind_of}
+use Rattle.rewriting.specs.Bytes.{number_bytes, names_bytes, filler_number, tail_bytes, axiom_bytes, axioms_bytes, header_of, release_bytes}
 use Rattle.output.proofs.Rest.{Begins}
 
 -- a number has as many bytes as its width
@@ -73,3 +74,13 @@ module _ (v : ℕ) (s : List ℕ) (p left : ℕ) where
   pub no_axiom : left ≤ 0 → axioms_bytes v (axioms_from left s p) ≡ []
   unfolding axioms_bytes axioms_from
   no_axiom h = let none : left ≡ 0 = omega arith in rw none
+
+-- the file: its header and its axioms
+five_pieces : (a b c d e : List ℕ) → (a ++ (b ++ (c ++ d))) ++ e ≡ a ++ (b ++ (c ++ (d ++ e)))
+five_pieces a b c d e =
+    append_assoc a (b ++ (c ++ d)) e ∙ ap (λ (x : List ℕ). a ++ x) (append_assoc b (c ++ d) e ∙ ap (λ (x : List ℕ). b ++ x) (append_assoc c d e))
+
+pub header_pieces : (w n m : ℕ) (al : List Axiom) → header_of w n m (length al) ++ axioms_bytes w al ≡ release_bytes w n m al
+unfolding header_of release_bytes
+header_pieces w n m al =
+    ap (λ (x : List ℕ). mark ++ x) (five_pieces (number_bytes 2 w) (number_bytes w n) (number_bytes 1 m) (number_bytes w (length al)) (axioms_bytes w al))

@@ -2,6 +2,7 @@
 --   Bytes s                  each element of s is a byte
 --   number_bytes w x          the number x in w bytes, low byte first
 --   axiom_bytes w a           an axiom whose names take w bytes each
+--   header_of w n m k         the header of a file of version w with n names, m roles and k axioms
 --   release_bytes w n m al    the file of a release with n names, m roles and the axioms al, in version w: a name takes one byte in
 --                            version 1 and two in version 2
 use Rattle.std.specs.Prelude.{List, [], ◌∷◌, ◌++◌, ℕ, zero, suc, ◌<◌, ◌/◌, ◌%◌, length, get_or}
@@ -39,6 +40,10 @@ unfoldable pub axioms_bytes : ℕ → List Axiom → List ℕ
 axioms_bytes w [] = []
 axioms_bytes w (a ∷ al) = axiom_bytes w a ++ axioms_bytes w al
 
--- the mark, the version (two bytes), the numbers of names, of roles (one byte) and of axioms, and the axioms
+-- the header: the mark, the version (two bytes), the numbers of names, of roles (one byte) and of axioms
+unfoldable pub header_of : ℕ → ℕ → ℕ → ℕ → List ℕ
+header_of w n m k = mark ++ (number_bytes 2 w ++ (number_bytes w n ++ (number_bytes 1 m ++ number_bytes w k)))
+
+-- the same, and the axioms
 unfoldable pub release_bytes : ℕ → ℕ → ℕ → List Axiom → List ℕ
 release_bytes w n m al = mark ++ (number_bytes 2 w ++ (number_bytes w n ++ (number_bytes 1 m ++ (number_bytes w (length al) ++ axioms_bytes w al))))

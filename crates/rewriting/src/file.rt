@@ -2,15 +2,26 @@
 ghost use Rattle.std.specs.Prelude.{◌≡◌, length};
 ghost use Rattle.release.specs.Files.{axioms_of};
 ghost use Rattle.release.specs.Versions.{width};
-ghost use Rattle.rewriting.specs.Bytes.{axioms_bytes};
+ghost use Rattle.rewriting.specs.Bytes.{axioms_bytes, header_of};
 ghost use Rattle.rewriting.specs.Rewriting.{rewritten};
 ghost use Rattle.output.specs.Places.{Put};
 
 use crate::Rewriting;
 use crate::numbers::put_number;
-use output::{put_byte, put_text};
-use release::Release;
+use output::put_text;
 use release::number::Version;
+use release::{Counts, Release};
+
+// The header of a file of version 1 or 2, at the start of the output.
+pub fn put_header(output: &mut [u8], version: Version, counts: Counts) -> usize
+    ensures { Put output.old 0 (header_of (width version) counts.names counts.roles counts.axioms) output.new result }
+{
+    let after_mark = put_text(output, 0, &Release::MARK);
+    let after_version = put_number(output, after_mark, Version::Two, version.width());
+    let after_names = put_number(output, after_version, version, counts.names);
+    let after_roles = put_number(output, after_names, Version::One, counts.roles);
+    put_number(output, after_roles, version, counts.axioms)
+}
 
 impl<'a> Rewriting<'a> {
     // All axioms. The place is kept by hand: an axiom says where the next one starts, so no iterator gives it.
@@ -38,14 +49,7 @@ impl<'a> Rewriting<'a> {
     pub(crate) fn put_release(&self, output: &mut [u8]) -> usize
         ensures { Put output.old 0 (rewritten (width self.now.wanted) self.now.source.file.now) output.new result }
     {
-        let counts = self.source.counts;
-        let wanted = self.wanted;
-        let after_mark = put_text(output, 0, &Release::MARK);
-        let after_version = put_number(output, after_mark, Version::Two, wanted.width());
-        let after_names = put_number(output, after_version, wanted, counts.names);
-        // `as` is proved to keep the number; `try_from` would test it once more.
-        let after_roles = put_byte(output, after_names, counts.roles as u8);
-        let after_counts = put_number(output, after_roles, wanted, counts.axioms);
-        self.put_axioms(output, after_counts)
+        let after_header = put_header(output, self.wanted, self.source.counts);
+        self.put_axioms(output, after_header)
     }
 }

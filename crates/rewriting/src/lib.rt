@@ -9,6 +9,8 @@ ghost use Rattle.release.specs.Versions.{width, has_pairs, said_version};
 ghost use Rattle.rewriting.specs.Refusals.{rewrite_refusal};
 ghost use Rattle.rewriting.specs.Rewriting.{Rewritable, RewritesAs};
 
+pub use crate::file::put_header;
+pub use crate::numbers::put_number;
 pub use crate::refusals::RewriteRefusal;
 use release::header::said_version;
 use release::number::Version;
