@@ -3,6 +3,7 @@
 --   shown_fits          the place of an axiom shown: an accepted file is short
 --   rewriting_short     the length of a rewritten file
 --   page_length_fits, page_fits     the length of a page
+--   practice_fits       the length of a practice release
 --   rows_fit            how many rows of a concept are written
 --   session_fits        the counts of a session
 --   file_length_fits, signature_length_fits     how many bytes of it are copied
@@ -35,6 +36,9 @@ use Rattle.rewriting.specs.declared.refusals.RewriteRefusal.{RewriteRefusal}
 use Rattle.rewriting.proofs.Lengths.{accepted_few, length_found, length_few, count_few}
 use Rattle.rewriting.proofs.RoundTrip.{wrote}
 use Rattle.output.specs.Written.{WrittenAs}
+use Rattle.practice.specs.Making.{Makes}
+use Rattle.practice.specs.declared.refusals.PracticeRefusal.{PracticeRefusal}
+use Rattle.practice.proofs.Accepted.{made_short}
 use Rattle.report.specs.Pages.{page}
 use Rattle.report.specs.PagesWritten.{length_answer, page_answer}
 use Rattle.report.specs.declared.refusals.PageRefusal.{PageRefusal}
@@ -107,6 +111,11 @@ page_length_fits bs (Err e) is = tt
 pub page_fits : (bs o q : List ℕ) (a : Result ℕ PageRefusal) → WrittenAs (page_answer bs o) (page bs) o q a → IfOk a Fits32
 page_fits bs o q (Ok k) written = omega (arith, written_short bs o k written.answers)
 page_fits bs o q (Err e) written = tt
+
+-- a practice release
+pub practice_fits : (seed n m : ℕ) {o q : List ℕ} (a : Result ℕ PracticeRefusal) → Makes seed n m o q a → IfOk a Fits32
+practice_fits seed n m (Ok k) makes = omega (arith, made_short seed n m makes)
+practice_fits seed n m (Err e) makes = tt
 
 -- a concept shown
 pub rows_fit : {s t g ys zs w v : List ℕ} {side x : ℕ} (a : Result ℕ ShowRefusal) → ShownAs s t g side x ys zs w v a → IfOk a Fits32

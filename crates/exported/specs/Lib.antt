@@ -3,3 +3,4 @@ pub mod Codes
 pub mod Concepts
 pub mod Sessions
 pub mod Pages
+pub mod Practice

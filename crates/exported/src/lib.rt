@@ -21,6 +21,7 @@ use rewriting::rewrite;
 
 pub mod concepts;
 pub mod pages;
+pub mod practice_releases;
 mod refusals;
 pub mod sessions;
 

@@ -7,11 +7,12 @@ ghost use Rattle.exported.specs.Codes.{CheckReturns, AskReturns, ShowReturns, Co
 ghost use Rattle.exported.specs.Codes.{RewriteReturns, ReportReturns, WorkLengthReturns};
 ghost use Rattle.exported.specs.Concepts.{ShowConceptReturns, CheckConceptReturns};
 ghost use Rattle.exported.specs.Pages.{PageReturns, PageLengthReturns};
+ghost use Rattle.exported.specs.Practice.{PracticeReturns};
 ghost use Rattle.exported.specs.Sessions.{StartReturns, AddReturns, WithdrawReturns, CountsReturn, ByteReturns, FileReturns, SignatureReturns};
 
 use branches::row::Row;
 use editing::{HeldFile, Session};
-use exported::{concepts, pages, sessions};
+use exported::{concepts, pages, practice_releases, sessions};
 use session_bytes::Layout;
 
 // Checks a release: its counts of names, roles and axioms.
@@ -167,6 +168,21 @@ pub extern "C" fn berrytick_page(result_bytes: &[u8], output: &mut [u8], length:
     ensures { PageReturns result_bytes.now output.old output.new length.old length.new result }
 {
     pages::berrytick_page(result_bytes, output, length)
+}
+
+// Writes the practice release of a seed as a file of version 1 to the start of the output: its length.
+#[unsafe(no_mangle)]
+pub extern "C" fn berrytick_practice(
+    seed: u32,
+    names: usize,
+    roles: usize,
+    output: &mut [u8],
+    length: &mut u32,
+) -> u32
+    ensures { PracticeReturns seed names roles
+        output.old output.new length.old length.new result }
+{
+    practice_releases::berrytick_practice(seed, names, roles, output, length)
 }
 
 // The bytes of work memory that releases of this many names need. More names than there can be are refused 4, side 0.
