@@ -300,6 +300,22 @@ static void try_page(void)
           "P1's page");
 }
 
+static void try_practice(void)
+{
+    uint8_t again[BERRYTICK_PRACTICE_BYTES];
+    uint32_t length = UNTOUCHED, counts[3];
+    refill();
+    check(berrytick_practice(1, 128, 33, output, sizeof output, &length) == 4 * 256, "a practice release of 128 names");
+    check(berrytick_practice(1, 127, 33, output, sizeof output, &length) == 5 * 256, "of 33 roles");
+    check(berrytick_practice(1, 127, 32, output, 7, &length) == 52 * 256, "an output that is too short for a practice release");
+    check(length == UNTOUCHED && all_are(output, sizeof output, FILLED), "a refused practice release changes nothing");
+    check(berrytick_practice(1, 127, 32, output, sizeof output, &length) == 0 && length <= sizeof again &&
+              all_are(output + length, sizeof output - length, FILLED),
+          "a practice release");
+    check(berrytick_check(output, length, counts) == 0 && counts[0] == 127 && counts[1] == 32, "it is accepted");
+    check(berrytick_practice(1, 127, 32, again, sizeof again, &length) == 0 && memcmp(output, again, length) == 0, "and the same once more");
+}
+
 static void try_rewrite(void)
 {
     const struct bytes expected = BYTES(0x45, 0x4C, 0x54, 2, 0, 4, 0, 0, 1, 0, 0, 0, 2, 2, 1, 0, 2, 0);
@@ -434,6 +450,7 @@ static void try_empty(void)
     check(berrytick_page_length(NULL, 0, &length) == 0 && length == 0, "the length of the page of NULL");
     check(berrytick_page(NULL, 0, NULL, 0, &length) == 0 && length == 0, "a page of NULL to NULL");
     check(berrytick_page(PASS(p1_signature), NULL, 0, &length) == 51 * 256, "a page to NULL");
+    check(berrytick_practice(0, 0, 0, NULL, 0, &length) == 52 * 256, "a practice release to NULL");
     check(berrytick_rewrite(NULL, 0, 1, NULL, 0, &length) == 1 * 256 + 1, "NULL is rewritten");
     check(berrytick_rewrite(PASS(p1_first), 1, NULL, 0, &length) == 41 * 256, "to NULL");
 }
@@ -449,6 +466,7 @@ int main(void)
     try_report();
     try_concepts();
     try_page();
+    try_practice();
     try_rewrite();
     try_session_start();
     try_session_steps();

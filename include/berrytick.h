@@ -41,6 +41,9 @@ extern "C" {
 #define BERRYTICK_REPORT_BYTES 6202
 #define BERRYTICK_PAGE_BYTES 16645
 
+/* The bytes of the longest practice release. */
+#define BERRYTICK_PRACTICE_BYTES 897
+
 /* The bytes of a session, and those of the longest file and of the longest signature that one can hold. */
 #define BERRYTICK_SESSION_BYTES 5136
 #define BERRYTICK_SESSION_FILE_BYTES 2421
@@ -165,6 +168,14 @@ uint32_t berrytick_rewrite(const uint8_t *file, size_t file_length,
                            size_t wanted,
                            uint8_t *output, size_t output_length,
                            uint32_t *length);
+
+/* Writes a practice release as a file of version 1: its length, at most BERRYTICK_PRACTICE_BYTES. The same seed and the same numbers of names and
+ * roles give the same file on each machine and at each call; it is accepted, with these numbers.
+ * Refused: 4, where there are more names than 127; 5, where there are more roles than 32; 52, where the output is shorter than the file; all with
+ * side 0. */
+uint32_t berrytick_practice(uint32_t seed, size_t names, size_t roles,
+                            uint8_t *output, size_t output_length,
+                            uint32_t *length);
 
 /* A session: two releases of version 1, a signature and the result of their comparison, in bytes of a fixed layout (docs/FORMAT.md, "A session").
  * It may be copied, kept and filled by hand, since no call supposes anything of it. A step adds an axiom to a release or withdraws one, and

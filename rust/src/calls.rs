@@ -169,4 +169,13 @@ extern "C" {
         output_length: usize,
         length: &mut u32,
     ) -> u32;
+
+    pub fn berrytick_practice(
+        seed: u32,
+        names: usize,
+        roles: usize,
+        output: *mut u8,
+        output_length: usize,
+        length: &mut u32,
+    ) -> u32;
 }

@@ -51,6 +51,9 @@ pub const REPORT_BYTES: usize = 6202;
 /// The bytes of the longest page.
 pub const PAGE_BYTES: usize = 16645;
 
+/// The bytes of the longest practice release.
+pub const PRACTICE_BYTES: usize = 897;
+
 /// The bytes of a session, and those of the longest file and of the longest signature that one can hold.
 pub const SESSION_BYTES: usize = 5136;
 
@@ -307,6 +310,16 @@ pub fn rewrite(file: &[u8], wanted: usize, output: &mut [u8]) -> Result<usize, R
     let mut length = 0;
     Refusal::of(unsafe {
         calls::berrytick_rewrite(file.as_ptr(), file.len(), wanted, output.as_mut_ptr(), output.len(), &mut length)
+    })?;
+    Ok(length as usize)
+}
+
+/// Writes the practice release of a seed as a file of version 1 to the start of the output: its length, at most [`PRACTICE_BYTES`]. The same seed and the
+/// same numbers of names and roles give the same file on each machine and at each call; it is accepted, with these numbers.
+pub fn practice(seed: u32, names: usize, roles: usize, output: &mut [u8]) -> Result<usize, Refusal> {
+    let mut length = 0;
+    Refusal::of(unsafe {
+        calls::berrytick_practice(seed, names, roles, output.as_mut_ptr(), output.len(), &mut length)
     })?;
     Ok(length as usize)
 }

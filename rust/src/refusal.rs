@@ -28,6 +28,7 @@ impl Refusal {
             (3, _) => "the release file has no version that this call reads",
             (4, 0) => "more names than a release can have",
             (4, _) => "the release has more names than its version of the file can have",
+            (5, 0) => "more roles than a release can have",
             (5, _) => "the release has more than 32 roles",
             (6, _) => "the release has more axioms than names",
             (7, _) => "the release file ends inside an axiom or a pair of roles",
@@ -57,6 +58,7 @@ impl Refusal {
             (49, _) => "the pairs of roles do not rise",
             (50, _) => "the role result is shorter than m × m bytes for m roles",
             (51, _) => "the result has more than 1,023 bytes or one above 3, or the output is shorter than the page",
+            (52, _) => "the output is shorter than the practice release",
             _ => "a number that this version does not know",
         }
     }

@@ -120,6 +120,18 @@ fn try_page(case: &[&[u8]]) {
     assert!(begins_with(&output, page));
 }
 
+fn try_practice(case: &[&[u8]]) {
+    let &[seed, names, roles, length, refused, side, file] = case else { panic!("fields of a practice release") };
+    let mut output = lent(length);
+    let made = berrytick::practice(number(seed) as u32, number(names), number(roles), &mut output);
+    assert_eq!(made, expected(refused, side, file.len()));
+    assert!(begins_with(&output, file));
+    if made.is_ok() {
+        let counts = berrytick::check(file).unwrap();
+        assert_eq!((counts.names, counts.roles), (number(names), number(roles)));
+    }
+}
+
 fn row(bytes: &[u8]) -> Row {
     let part = |at: usize| u32::from(u16::from_le_bytes([bytes[at], bytes[at + 1]]));
     Row { chosen: part(0), left: part(2), right: part(4), share: part(6) }
@@ -300,6 +312,12 @@ fn rewritten_releases() {
 fn pages() {
     each_case("page", try_page);
     each_case("pages", try_page);
+}
+
+#[test]
+fn practice_releases() {
+    each_case("practice", try_practice);
+    each_case("practices", try_practice);
 }
 
 #[test]

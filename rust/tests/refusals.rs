@@ -170,6 +170,18 @@ fn pages() {
 }
 
 #[test]
+fn practice_releases() {
+    let mut lent = Lent::new();
+    let output = &mut lent.output;
+    assert_eq!(berrytick::practice(7, 128, 33, output), Err(refusal(4, 0)));
+    assert_eq!(berrytick::practice(7, usize::MAX, 0, &mut []), Err(refusal(4, 0)));
+    assert_eq!(berrytick::practice(7, 127, 33, &mut []), Err(refusal(5, 0)));
+    assert_eq!(berrytick::practice(7, 0, usize::MAX, output), Err(refusal(5, 0)));
+    assert_eq!(berrytick::practice(7, 0, 0, &mut output[..7]), Err(refusal(52, 0)));
+    assert!(lent.is_unchanged());
+}
+
+#[test]
 fn sessions() {
     let mut lent = Lent::new();
     let work = &mut lent.work;
@@ -202,13 +214,14 @@ fn work_lengths() {
 /// Every number has a meaning of its own, and numbers that no call has are told from them.
 #[test]
 fn meanings() {
-    let numbers = (1..=19).chain([31, 32, 33, 40, 41, 42, 43, 44]).chain(46..=51);
+    let numbers = (1..=19).chain([31, 32, 33, 40, 41, 42, 43, 44]).chain(46..=52);
     let unknown = refusal(255, 0).meaning();
     let meanings: BTreeSet<&str> = numbers.clone().map(|number| refusal(number, 1).meaning()).collect();
     assert_eq!(meanings.len(), numbers.count());
     assert!(!meanings.contains(unknown));
     assert_ne!(refusal(3, 0).meaning(), refusal(3, 1).meaning());
     assert_ne!(refusal(4, 0).meaning(), refusal(4, 1).meaning());
+    assert_ne!(refusal(5, 0).meaning(), refusal(5, 1).meaning());
     let error: Box<dyn std::error::Error> = Box::new(refusal(15, 2));
     assert_eq!(error.to_string(), "refused 15 side 2: a conjunct is itself the left name of an axiom of kind 2");
 }
