@@ -1,7 +1,8 @@
-"""What checking a release file, showing an axiom, rewriting a release, writing a page and building a signature answer by
-docs/FORMAT.md, which refusal a question, a comparison, a sheet, a concept shown and rows checked meet, and the role result
-of a comparison: written apart from the library, to confirm the tables refusals.txt, shows.txt, rewrites.txt, pages.txt,
-signatures.txt, questions.txt, comparisons.txt, sheets.txt, concepts.txt and rowchecks.txt."""
+"""What checking a release file, showing an axiom, rewriting a release, writing a page, making a practice release and building a
+signature answer by docs/FORMAT.md, which refusal a question, a comparison, a sheet, a concept shown and rows checked meet,
+and the role result of a comparison: written apart from the library, to confirm the tables refusals.txt, shows.txt,
+rewrites.txt, pages.txt, practices.txt, signatures.txt, questions.txt, comparisons.txt, sheets.txt, concepts.txt and
+rowchecks.txt."""
 from typing import NamedTuple
 
 KINDS_WITH_NAMES, KINDS_WITH_ROLE = (1, 2), (3, 4)
@@ -186,6 +187,33 @@ def page(result):
     cells = [f"{name:4} {' LRB'[byte]}{'':10}" for name, byte in enumerate(result) if byte]
     lines = ["".join(cells[at:at + 4]).ljust(64) + "\n" for at in range(0, len(cells), 4)]
     return "".join(line + "\f" * (at % 50 == 49) for at, line in enumerate(lines)).encode("ascii")
+
+
+def practice(seed, n, m, length):
+    """Number, side and, of what is not refused, the file."""
+    if n > 127 or m > 32:
+        return (4 if n > 127 else 5), 0, b""
+    state = seed
+
+    def draw(choices):
+        nonlocal state
+        state = (state * 1664525 + 1013904223) % 2 ** 32
+        return (state >> 16) % choices
+
+    kinds = [draw(5) for _ in range(n)]
+    if m == 0:
+        kinds = [0 if kind in KINDS_WITH_ROLE else kind for kind in kinds]
+    pool = [name for name, kind in enumerate(kinds) if kind != 2]
+    axioms = []
+    for name, kind in enumerate(kinds):
+        if kind in KINDS_WITH_ROLE:
+            role, filler = draw(m), draw(n + 1)
+            axioms.append([name, kind, role, 255 if filler == n else filler])
+        elif kind and pool:
+            count, start = 1 + draw(min(4, len(pool))), draw(len(pool))
+            axioms.append([name, kind, count, *sorted(pool[(start + at) % len(pool)] for at in range(count))])
+    file = b"ELT" + bytes([1, 0, n, m, len(axioms)]) + b"".join(map(bytes, axioms))
+    return (52, 0, b"") if length < len(file) else (0, 0, file)
 
 
 def signature(n, m, steps):

@@ -5,10 +5,10 @@ usage: tools/vectors.py FOLDER..
 
 The folders hold vectors, NAME.jsonl, one JSON object a line with bytes in hex, the newest folder first. Those of a family come from
 all folders that have it; of an older folder those lines are left out that have a file of version 3, which was refused then. The cases
-of the families `refusals`, `shows`, `rewrites`, `pages`, `signatures`, `questions`, `comparisons`, `sheets`, `concepts` and `rowchecks`
-come from the tables of that name beside this script; release.py confirms these, of the last five which are refused, how many names are
-chosen and what the role result is. Those of the family `deep` are made here, those of the family `lines` of the vectors `sheet`,
-those of the families `starts` and `steps` of the vectors `session`, and those of the families `held` and `edits` of the table
+of the families `refusals`, `shows`, `rewrites`, `pages`, `practices`, `signatures`, `questions`, `comparisons`, `sheets`, `concepts`
+and `rowchecks` come from the tables of that name beside this script; release.py confirms these, of the last five which are refused, how
+many names are chosen and what the role result is. Those of the family `deep` are made here, those of the family `lines` of the vectors
+`sheet`, those of the families `starts` and `steps` of the vectors `session`, and those of the families `held` and `edits` of the table
 sessions.txt, which release.py confirms too, but for the result bytes.
 
 A data file is a case after the other. A case is a length of four bytes and that many bytes: its fields, one after the
@@ -21,6 +21,7 @@ The fields of a case: first what the call is given, then what it answers.
     show, shows         first, second, side, name; file that holds the part, its start, the part
     rewrite, rewrites   file, wanted version, length of the output; number, side, the rewritten file
     page, pages         a result, length of the output; number, side, the page; number and length where the length is asked
+    practice, practices     seed, n, m, length of the output; number, side, the file
     question, question-roles, questions, deep
                         file, c, d, length of the work memory; number, side, value, zeros
     compare, compare-roles, comparisons
@@ -44,8 +45,8 @@ The fields of a case: first what the call is given, then what it answers.
 
 The bytes of a session past those given are marked; so the file of a length above its bytes goes on in marks.
 
-Where a call is refused, n, m, a, value and zeros are 0, and the results, the rewritten file and the page have no byte: what is lent
-stays as it was.
+Where a call is refused, n, m, a, value and zeros are 0, and the results, the file and the page have no byte: what is lent stays as it
+was.
 
 A family more from the folders is a line more in VECTORS: for each field its key and how it is written.
 """
@@ -63,7 +64,7 @@ DATA = TOOLS.parent / "crates" / "examples" / "data"
 # How many places of a signature are read one by one: all of the longest, and some beyond.
 PLACES = 1072
 
-# A rewritten file and a page are shorter. An output of more bytes is lent with this many, so that the program needs no more room;
+# A file and a page are shorter. An output of more bytes is lent with this many, so that the program needs no more room;
 # what is answered is the same.
 MOST_OUTPUT = 40000
 
@@ -120,6 +121,7 @@ VECTORS = {
                     out_file=bytes.fromhex),
     "page": dict(result=bytes.fromhex, out_len=output, number=number, side=number, page=bytes.fromhex, asked=number,
                  length=number),
+    "practice": dict(seed=number, n=number, m=number, out_len=output, number=number, side=number, file=bytes.fromhex),
     "sheet": dict(first=bytes.fromhex, second=bytes.fromhex, q=number, sigs=bytes.fromhex, rows_len=number, work_len=number,
                   number=number, side=number, rows=rows, zeros=number),
     "shown": dict(first=bytes.fromhex, second=bytes.fromhex, sig=bytes.fromhex, name=number, side=number, rows_len=room_for,
@@ -374,6 +376,24 @@ def pages():
     return cases
 
 
+def practices():
+    """A line of the table, and what outputs up to two bytes shorter or longer than its file give."""
+    cases = []
+    for line in table("practices"):
+        asked, answer = line.split("=")
+        asked = tuple(map(int, asked.split()))
+        number_, side, words = expected(answer.split())
+        file = b"" if words is None else file_bytes(" ".join(words))
+        confirmed("practices", line, (number_, side, file), release.practice(*asked, MOST_OUTPUT))
+        for length in range(max(0, len(file) - 2), len(file) + 3):
+            cases.append([*map(number, (*asked, length)), *answered_practice(release.practice(*asked, length))])
+    return cases
+
+
+def answered_practice(answer):
+    return [number(answer[0]), number(answer[1]), answer[2]]
+
+
 def signatures():
     cases = []
     for line in table("signatures"):
@@ -612,6 +632,7 @@ def main():
     write("shows", shows())
     write("rewrites", rewrites())
     write("pages", pages())
+    write("practices", practices())
     write("signatures", signatures())
     write("questions", questions())
     write("comparisons", comparisons())

@@ -12,6 +12,7 @@ mod concepts;
 mod held;
 mod memory;
 mod pages;
+mod practices;
 mod printed;
 mod questions;
 mod rewrite;
@@ -49,6 +50,8 @@ fn main(rt: HostRuntime) -> io::Result<()> {
     family(&rt, "rewrites", rewrite::judge)?;
     family(&rt, "page", pages::judge)?;
     family(&rt, "pages", pages::judge)?;
+    family(&rt, "practice", practices::judge)?;
+    family(&rt, "practices", practices::judge)?;
     family(&rt, "sheet", sheets::judge)?;
     family(&rt, "sheets", sheets::judge)?;
     family(&rt, "lines", |case| {
