@@ -81,6 +81,23 @@ pub fn file_of(version: Version, names: usize, roles: usize, pairs: &[Pair], axi
     file
 }
 
+/// The axioms of an accepted file of version 1, one for each name.
+pub fn axioms_in(file: &[u8]) -> Vec<Axiom> {
+    let mut axioms = vec![Axiom::None; file[5] as usize];
+    let mut rest = &file[8..];
+    while let [name, kind, first, after @ ..] = rest {
+        let (equal, taken) = (kind % 2 == 0, if *kind < 3 { *first as usize } else { 1 });
+        let (names, more) = after.split_at(taken);
+        axioms[*name as usize] = if *kind < 3 {
+            Axiom::Conjunction { equal, parts: names.iter().map(|&part| part.into()).collect() }
+        } else {
+            Axiom::Some { equal, role: *first, filler: (names[0] != u8::MAX).then_some(names[0].into()) }
+        };
+        rest = more;
+    }
+    axioms
+}
+
 /// The folder of the inputs with 1,023 names, in that of the others.
 pub fn wide_folder(folder: &Path) -> PathBuf {
     folder.join("1023")
@@ -136,6 +153,12 @@ fn from_files(first: &Path) -> Input {
 #[cfg(test)]
 mod tests {
     use super::*;
+
+    #[test]
+    fn a_file_is_that_of_its_axioms() {
+        let file = b"ELT\x01\x00\x05\x02\x04\x00\x01\x02\x01\x02\x01\x02\x00\x02\x03\x01\xff\x04\x04\x00\x03";
+        assert_eq!(file_of(Version::One, 5, 2, &[], &axioms_in(file)), file);
+    }
 
     #[test]
     fn the_longest_file_is_accepted() {

@@ -42,6 +42,20 @@ pub fn session_withdraw(session: &mut Session, side: usize, name: usize, work: &
     session.withdraw(side, name, work).map_err(told)
 }
 
+/// A practice release, or none where it is refused, and from the stand-in.
+#[cfg(feature = "ours")]
+pub fn practice(seed: u32, names: usize, roles: usize) -> Option<Vec<u8>> {
+    let mut file = vec![0; berrytick::PRACTICE_BYTES];
+    let length = berrytick::practice(seed, names, roles, &mut file).ok()?;
+    file.truncate(length);
+    Some(file)
+}
+
+#[cfg(not(feature = "ours"))]
+pub fn practice(_seed: u32, _names: usize, _roles: usize) -> Option<Vec<u8>> {
+    None
+}
+
 fn told(refusal: linked::Refusal) -> Refusal {
     Refusal { number: refusal.number, side: refusal.side }
 }

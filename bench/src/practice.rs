@@ -1,8 +1,9 @@
 //! Practice inputs: random releases of several densities, the second a changed first, and random concepts. They are
-//! made the same at each run.
+//! made the same at each run. A first release that is drawn as the library's practice releases are comes from the library.
 
 use crate::calls::Call;
-use crate::inputs::{file_of, Axiom, Input, Pair, Version};
+use crate::inputs::{axioms_in, file_of, Axiom, Input, Pair, Version};
+use crate::ours;
 
 /// Random numbers that are the same at each run (xorshift).
 pub struct Draws(u64);
@@ -105,9 +106,13 @@ pub fn inputs() -> Vec<Input> {
 }
 
 pub fn practice(form: &Form, draws: &mut Draws) -> Practice {
-    let kinds: Vec<usize> = (0..form.names).map(|_| kind(form, draws)).collect();
+    let made = made(form, draws);
+    let kinds: Vec<usize> = match &made {
+        Some(axioms) => axioms.iter().map(kind_of).collect(),
+        None => (0..form.names).map(|_| kind(form, draws)).collect(),
+    };
     let pool: Vec<u16> = (0..form.names).filter(|&name| kinds[name] != 2).map(|name| name as u16).collect();
-    let first: Vec<Axiom> = kinds.iter().map(|&kind| axiom(form, kind, &pool, draws)).collect();
+    let first = made.unwrap_or_else(|| kinds.iter().map(|&kind| axiom(form, kind, &pool, draws)).collect());
     let mut second = first.clone();
     for _ in 0..if form.names == 0 { 0 } else { form.changes } {
         let name = draws.below(form.names);
@@ -137,6 +142,23 @@ fn pairs(form: &Form, draws: &mut Draws) -> (Vec<Pair>, Vec<Pair>) {
         pairs
     });
     (first, second)
+}
+
+/// A practice release, where the form is theirs and the library is linked: each kind as often as another, one to four conjuncts.
+fn made(form: &Form, draws: &mut Draws) -> Option<Vec<Axiom>> {
+    if form.weights != [1; 5] || (form.fewest_parts, form.most_parts) != (1, 4) {
+        return None;
+    }
+    let file = ours::practice(draws.below(1 << 31) as u32, form.names, form.roles)?;
+    Some(axioms_in(&file))
+}
+
+fn kind_of(axiom: &Axiom) -> usize {
+    match axiom {
+        Axiom::None => 0,
+        Axiom::Conjunction { equal, .. } => 1 + *equal as usize,
+        Axiom::Some { equal, .. } => 3 + *equal as usize,
+    }
 }
 
 fn kind(form: &Form, draws: &mut Draws) -> usize {
