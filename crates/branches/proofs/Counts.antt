@@ -1,26 +1,24 @@
 -- Laws of counting.
 --   count_filter, count_few      how many pass a filter, and that they are no more than there are
 --   count_left, count_right, count_reported     the tests of a row by the values of bytes
---   share_divided                the share, by whether a name is chosen
 --   told                         a row by its counts
-use mathlib.Core.Path.{◌≡◌, refl, sym, ap, ap₂, ◌∙◌}
+use mathlib.Core.Path.{◌≡◌, refl, sym, ap, ◌∙◌}
 use mathlib.Core.Bool.{Bool, true, false, ◌||◌, cond}
 use mathlib.Core.List.{List, [], ◌∷◌}
 use mathlib.Core.Logic.{inl, inr}
-use Prim.Native.Nat.{ℕ, ◌+◌, ◌*◌, ◌/◌, ◌≤◌, ◌<◌}
+use Prim.Native.Nat.{ℕ, ◌+◌, ◌≤◌}
 use native.Mathlib.Omega.{arith}
-use borrow.Author.Tests.{eqb-true, eq-eqb, ne_eqb}
+use borrow.Author.Tests.{eqb-true, ne_eqb}
 use lib.Dec.{eqb}
 use lib.ListN.{length}
 use Rattle.std.specs.List.{filter}
-use Rattle.std.specs.Option.{SomeIff, unwrap_or}
-use Rattle.std.specs.Prelude.{Option, Some, None}
 use Rattle.std.proofs.lemmas.List.Recursion.{is_count_by}
 use Rattle.std.proofs.lemmas.List.Sums.{length-filter, count_by-le-length}
 use Rattle.el.specs.Lists.{pick, count}
 use Rattle.el.specs.Comparison.{on_left, on_right, is_reported}
 use Rattle.el.proofs.Tests.{which}
-use Rattle.branches.specs.Rows.{is_chosen, share, row_of}
+use Rattle.branches.specs.Shares.{IsShare}
+use Rattle.branches.specs.Rows.{RowOf}
 
 -- how many pass a filter
 pub count_filter : (p : ℕ → Bool) (bs : List ℕ) → length (filter p bs) ≡ count p bs
@@ -80,20 +78,15 @@ count_reported bs =
     let all : count on_left bs + count (is 2) bs ≡ count is_reported bs = count_either on_left (is 2) is_reported reported_once bs in
     omega arith
 
--- the share, by whether a name is chosen
-pub share_divided : (r c : ℕ) (d : Option ℕ) → SomeIff d (0 < c) (r * 1000 / c) → unwrap_or d 0 ≡ share r c
-unfolding share
-share_divided r c None h = let none : c ≡ 0 = omega arith in simp (share, eq-eqb c 0 none)
-share_divided r c (Some q) (some, e) = simp (share, ne_eqb c 0 (λ z. omega arith)) e
-
 -- a row by its counts
-pub told : (g bs : List ℕ) {c l r b h : ℕ} → c ≡ count (is 1) g → l ≡ count (is 1) bs → r ≡ count (is 2) bs → b ≡ count (is 3) bs → h ≡ share (l + r + b) c
-    → record { chosen = c; left = l + b; right = r + b; share = h } ≡ row_of g bs
-unfolding row_of
-told g bs {c} {l} {r} {b} {h} chosen left right both of =
-    let is_left : l + b ≡ count on_left bs = rw (left, both) (count_left bs) in
-    let is_right : r + b ≡ count on_right bs = rw (right, both) (count_right bs) in
+pub told : (rule : ℕ) (g bs : List ℕ) {c l r b h : ℕ} → c ≡ count (is 1) g → l ≡ count (is 1) bs → r ≡ count (is 2) bs → b ≡ count (is 3) bs → IsShare rule (l + r + b) c h
+    → RowOf rule g bs (record { chosen = c; left = l + b; right = r + b; share = h })
+told rule g bs {c} {l} {r} {b} {h} chosen left right both share =
     let once : count (is 1) bs + count (is 3) bs + count (is 2) bs ≡ count is_reported bs = count_reported bs in
     let reported : l + r + b ≡ count is_reported bs = omega arith in
-    let shared : h ≡ share (count is_reported bs) (count is_chosen g) = of ∙ ap₂ share reported chosen in
-    rw (chosen, is_left, is_right, shared) refl
+    record {
+      chosen = chosen;
+      left = rw (left, both) (count_left bs);
+      right = rw (right, both) (count_right bs);
+      share = rw (reported, chosen) at share;
+    }

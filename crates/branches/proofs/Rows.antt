@@ -21,7 +21,7 @@ use Rattle.el.proofs.Lists.{all_drop, all_take}
 use Rattle.el.proofs.Tests.{and_left}
 use Rattle.el.proofs.Answers.{comparison_bytes_lem}
 use Rattle.el.proofs.Demand3.{one_byte}
-use Rattle.release.specs.Files.{names_of, most_names, most_roles, content_of}
+use Rattle.release.specs.Files.{content_of, most_names, most_roles}
 use Rattle.release.proofs.Linked.{formed, normalised}
 use Rattle.release.proofs.Limits.{few_counts}
 use Rattle.signature.specs.Bytes.{is_bit, wrong_byte, wrong_length, signature_fault, signature_of}
@@ -30,8 +30,8 @@ use Rattle.comparison.specs.declared.Releases.{Releases}
 use Rattle.comparison.specs.Compared.{Given, Reported, Prepared}
 use Rattle.comparison.proofs.Pipeline.{signature_long, both_in}
 use Rattle.branches.specs.declared.row.Row.{Row}
-use Rattle.branches.specs.Filling.{row_at, Fits, RowsFilled}
-use Rattle.branches.specs.Rows.{row_of}
+use Rattle.branches.specs.Filling.{RowAt, Fits, RowsFilled}
+use Rattle.branches.specs.Rows.{RowOf}
 use Rattle.branches.specs.Sheets.{most_branches, signature_at, no_row}
 
 -- the result that a row is told of is as long as there can be names
@@ -102,28 +102,25 @@ module _ {r : Releases} {gs : List ℕ} {ys : List Row} {w : List ℕ} (fits : F
     pub given_part : {v : List ℕ} → length v ≡ length w → Given part r v
     given_part same = record { both = both_in same fits.both; signature = rw part_is (one_signature r.names r.roles (length ys) gs i l fits.signatures) }
 
-    abbrev row : ℕ → ℕ → List ℕ → Row
-    row n m g = row_of (take n g) (comparison_bytes n (signature_of n m g) (content_of r.first.file.now) (content_of r.second.file.now))
-
-    pub row_is : {v : Row} → v ≡ row r.names r.roles part → v ≡ row_at r.first.file.now r.second.file.now gs i
-    unfolding row_at
-    row_is h = h ∙ (ap (row r.names r.roles) part_is ∙
-        (ap (λ (n : ℕ). row n r.roles (signature_at n r.roles gs i)) fits.both.first_names
-        ∙ ap (λ (m : ℕ). row (names_of r.first.file.now) m (signature_at (names_of r.first.file.now) m gs i)) fits.roles))
+    pub row_is : {rule : ℕ} {v : Row}
+        → RowOf rule (take r.names part) (comparison_bytes r.names (signature_of r.names r.roles part) (content_of r.first.file.now) (content_of r.second.file.now)) v
+        → RowAt rule r.first.file.now r.second.file.now gs i v
+    row_is h = record { is = rw (part_is, fits.both.first_names, fits.roles) at h }
 
 -- one row more
-pub rows_more : (at : ℕ → Row) (ys : List Row) (i : ℕ) (v : Row) → i < length ys → ((k : ℕ) → k < i → get_or ys k no_row ≡ at k) → v ≡ at i
-    → (k : ℕ) → k < i + 1 → get_or (set ys i v) k no_row ≡ at k
-rows_more at ys i v inside before is k h = by_place (ℕ_discrete k i)
+pub rows_more : (IsAt : ℕ → Row → Type 0) (ys : List Row) (i : ℕ) (v : Row) → i < length ys → ((k : ℕ) → k < i → IsAt k (get_or ys k no_row)) → IsAt i v
+    → (k : ℕ) → k < i + 1 → IsAt k (get_or (set ys i v) k no_row)
+rows_more IsAt ys i v inside before is k h = by_place (ℕ_discrete k i)
   where
-    by_place : Dec (k ≡ i) → get_or (set ys i v) k no_row ≡ at k
-    by_place (yes e) = rw e (get_or-set_same ys i v no_row inside ∙ is)
-    by_place (no e) = get_or-set_other ys i k v no_row e ∙ before k (omega arith)
+    by_place : Dec (k ≡ i) → IsAt k (get_or (set ys i v) k no_row)
+    by_place (yes e) = rw (e, get_or-set_same ys i v no_row inside) is
+    by_place (no e) = rw (get_or-set_other ys i k v no_row e) (before k (omega arith))
 
 -- all rows: the memory was left as it was prepared, and then set to 0
-pub rows_filled : {r : Releases} {gs : List ℕ} {ys zs : List Row} {w w1 u v : List ℕ} {k : ℕ} → Prepared r w w1 → length zs ≡ length ys
-    → ((i : ℕ) → i < length ys → get_or zs i no_row ≡ row_at r.first.file.now r.second.file.now gs i) → u ≡ w1 → k ≡ 4 * size r.names → Zeroed k u v → RowsFilled r gs ys zs w v
-rows_filled {r} {k = k} ready long each same all cleared =
+pub rows_filled : {rule : ℕ} {r : Releases} {gs : List ℕ} {ys zs : List Row} {w w1 u v : List ℕ} {k : ℕ} → Prepared r w w1 → length zs ≡ length ys
+    → ((i : ℕ) → i < length ys → RowAt rule r.first.file.now r.second.file.now gs i (get_or zs i no_row))
+    → u ≡ w1 → k ≡ 4 * size r.names → Zeroed k u v → RowsFilled rule r gs ys zs w v
+rows_filled {r = r} {k = k} ready long each same all cleared =
     let zeroed : Zeroed (4 * size r.names) _ _ = rw (all, same) at cleared in
     record {
       long = long;

@@ -1,10 +1,10 @@
 -- Each row of an accepted sheet tells what a single comparison would: both have the bytes of the definition, and there is only one row of
--- such bytes.
+-- such bytes by a rule.
 use mathlib.Core.Path.{◌≡◌, sym, ap, ◌∙◌}
 use mathlib.Core.List.{List}
 use Prim.Native.Nat.{ℕ, ◌<◌}
 use native.Mathlib.Omega.{arith}
-use lib.ListN.{get_or, take, drop, get_or-append}
+use lib.ListN.{get_or, drop, get_or-append}
 use Rattle.std.specs.Prelude.{Result, Ok}
 use Rattle.release.specs.Refusals.{told}
 use Rattle.el.proofs.Answers.{only_bytes}
@@ -16,21 +16,21 @@ use Rattle.branches.specs.Refusals.{sheet_refusal}
 use Rattle.meanings.specs.Demand3.{Compares}
 use Rattle.meanings.proofs.Demand3.{accepted_answer}
 use Rattle.branches.specs.declared.row.Row.{Row}
-use Rattle.branches.specs.Rows.{row_of}
 use Rattle.branches.specs.Sheets.{signature_at, no_row, Says}
 use Rattle.branches.specs.Single.{RowTells}
 use Rattle.branches.proofs.Judged.{known}
 use Rattle.branches.proofs.Sheets.{accepted_one}
 
-module _ {s t gs : List ℕ} {q : ℕ} {ys zs : List Row} {w v : List ℕ} {answer : Result Compared SheetRefusal} {c : Compared}
-    (says : Says s t gs q ys zs w v answer) (e : answer ≡ Ok c) (i : ℕ) (l : i < q) where
+module _ {s t gs : List ℕ} {q rule : ℕ} {ys zs : List Row} {w v : List ℕ} {answer : Result Compared SheetRefusal} {c : Compared}
+    (says : Says s t gs q rule ys zs w v answer) (e : answer ≡ Ok c) (i : ℕ) (l : i < q) where
   abbrev signature : List ℕ
   signature = signature_at (names_of s) (roles_of s) gs i
 
   given : Inputs.Accepted s t signature
   given = let found = known (sym says.answer ∙ ap (told sheet_refusal) e) in accepted_one found.0 found.1 i l
 
-  pub row_tells : {o p u : List ℕ} (single : Compares s t (signature_at (names_of s) (roles_of s) gs i) o p u) → RowTells s t (signature_at (names_of s) (roles_of s) gs i) (get_or zs i no_row) single
+  pub row_tells : {o p u : List ℕ} (single : Compares s t (signature_at (names_of s) (roles_of s) gs i) o p u)
+      → RowTells rule s t (signature_at (names_of s) (roles_of s) gs i) (get_or zs i no_row) single
   row_tells single =
       let filled = says.accepted_rows e in
       let row = filled.each i l in
@@ -38,5 +38,5 @@ module _ {s t gs : List ℕ} {q : ℕ} {ys zs : List Row} {w v : List ℕ} {answ
       no_row i (omega (arith, filled.long)) in
       record {
         accepted = λ enough. accepted_answer given enough single;
-        row = λ a. there ∙ (row.is ∙ ap (row_of (take (names_of s) signature)) (only_bytes row.are_bytes (single.says.accepted a).bytes));
+        row = λ a. rw (there, ← only_bytes row.are_bytes (single.says.accepted a).bytes) row.is;
       }

@@ -5,32 +5,40 @@ ghost use Rattle.signature.specs.Bytes.{signature_of};
 ghost use Rattle.el.specs.Answers.{comparison_bytes};
 ghost use Rattle.comparison.specs.Compared.{Given, Ready};
 ghost use Rattle.branches.specs.Filling.{Fits, RowsFilled};
-ghost use Rattle.branches.specs.Rows.{row_of};
+ghost use Rattle.branches.specs.Rows.{RowOf};
+ghost use Rattle.branches.specs.Shares.{rule_number};
 
+use crate::rounding::Rounding;
 use crate::row::{Row, tell};
 use comparison::Releases;
 use release::Release;
 
 // The row of one signature. The memory is left as it was.
-pub fn row_of(releases: &Releases, signature: &[u8], work: &mut [u8]) -> Row
+pub fn row_of(releases: &Releases, signature: &[u8], rounding: Rounding, work: &mut [u8]) -> Row
     requires given { Given signature.now releases.now work.old }
     requires ready { Ready releases.now work.old }
-    ensures row { result ≡ row_of (take releases.now.names signature.now)
+    ensures row { RowOf (rule_number rounding) (take releases.now.names signature.now)
         (comparison_bytes releases.now.names (signature_of releases.now.names releases.now.roles signature.now)
-        (content_of releases.now.first.file.now) (content_of releases.now.second.file.now)) }
+        (content_of releases.now.first.file.now) (content_of releases.now.second.file.now)) result }
     ensures same { work.new ≡ work.old }
 {
     let names = releases.names;
     // A local array, since there is no heap.
     let mut result = [0u8; Release::NAMES];
     releases.compare_prepared(signature, &mut result, work);
-    tell(&signature[..names], &result[..names])
+    tell(&signature[..names], &result[..names], rounding)
 }
 
 // Fills a row for each signature: the releases are classified once, and the memory is 0 again as far as it is used.
-pub fn fill(releases: &Releases, signatures: &[u8], work: &mut [u8], rows: &mut [Row])
+pub fn fill(
+    releases: &Releases,
+    signatures: &[u8],
+    rounding: Rounding,
+    work: &mut [u8],
+    rows: &mut [Row],
+)
     requires { Fits releases.now signatures.now rows.old work.old }
-    ensures { RowsFilled releases.now signatures.now rows.old rows.new work.old work.new }
+    ensures { RowsFilled (rule_number rounding) releases.now signatures.now rows.old rows.new work.old work.new }
 {
     releases.prepare(work);
     // Cut by place: a release may have neither names nor roles, and `chunks_exact` asks a length above 0.
@@ -38,7 +46,7 @@ pub fn fill(releases: &Releases, signatures: &[u8], work: &mut [u8], rows: &mut 
     for (branch, row) in rows.iter_mut().enumerate() {
         let start = branch * length;
         let signature = &signatures[start..start + length];
-        *row = row_of(releases, signature, work);
+        *row = row_of(releases, signature, rounding, work);
     }
     marks::clear(work, marks::work_length(releases.names));
 }

@@ -9,10 +9,11 @@ use meanings::CompareRefusal;
 use release::Refusal;
 use signature::SignatureRefusal;
 
-// Why a sheet is refused: for what a comparison is refused too, or for the number of branches or of rows.
+// Why a sheet is refused: for what a comparison is refused too, for its rule, or for the number of branches or of rows.
 #[derive(Clone, Copy, Debug, PartialEq, Eq)]
 pub enum SheetRefusal {
     Comparison(CompareRefusal),
+    NoRule,
     ManyBranches,
     FewRows,
 }
@@ -23,6 +24,7 @@ impl Refusal for SheetRefusal {
     fn number(self) -> u8 {
         match self {
             SheetRefusal::Comparison(refusal) => refusal.number(),
+            SheetRefusal::NoRule => 53,
             SheetRefusal::ManyBranches => 42,
             SheetRefusal::FewRows => 43,
         }

@@ -1,8 +1,11 @@
 // A row of a sheet, by a branch's signature and the result bytes of its comparison.
-ghost use Rattle.std.specs.Prelude.{◌≡◌, ◌*◌, ◌≤◌, eqb, length};
+ghost use Rattle.std.specs.Prelude.{◌≡◌, ◌≤◌, eqb, length};
 ghost use Rattle.el.specs.Lists.{count};
 ghost use Rattle.release.specs.Files.{most_names};
-ghost use Rattle.branches.specs.Rows.{share, row_of};
+ghost use Rattle.branches.specs.Shares.{rule_number};
+ghost use Rattle.branches.specs.Rows.{RowOf};
+
+use crate::rounding::Rounding;
 
 // How many names are chosen, how many have left and right witnesses, and how many in a thousand of those chosen are reported.
 // C lends such rows too.
@@ -34,19 +37,11 @@ fn count(bytes: &[u8], value: u8) -> u32
     bytes.iter().filter(|byte| **byte == value).count() as u32
 }
 
-// The share of the names reported, in thousandths, rounded down.
-fn share(reported: u32, chosen: u32) -> u32
-    requires { reported ≤ 4 * most_names }
-    ensures { result ≡ share reported chosen }
-{
-    (reported * 1000).checked_div(chosen).unwrap_or(0)
-}
-
 // Tells the row. A name with witnesses on both sides has a byte of its own, so it is counted once in the share. The bytes are numbers, not an
 // enum: they are a comparison's result bytes, as it writes them for C.
-pub fn tell(names: &[u8], bytes: &[u8]) -> Row
+pub fn tell(names: &[u8], bytes: &[u8], rounding: Rounding) -> Row
     requires { (length names.now ≤ most_names) × (length bytes.now ≤ most_names) }
-    ensures { result ≡ row_of names.now bytes.now }
+    ensures { RowOf (rule_number rounding) names.now bytes.now result }
 {
     let chosen = count(names, 1);
     let left_only = count(bytes, 1);
@@ -56,6 +51,6 @@ pub fn tell(names: &[u8], bytes: &[u8]) -> Row
         chosen,
         left: left_only + both,
         right: right_only + both,
-        share: share(left_only + right_only + both, chosen),
+        share: rounding.share(left_only + right_only + both, chosen),
     }
 }

@@ -21,14 +21,16 @@ pub fn fill_part(
     second: &[u8],
     signatures: &[u8],
     count: usize,
+    rule: usize,
     work: &mut [u8],
     mut rows: [Row; Sheet::BRANCHES],
     lent: usize,
 ) -> Filled
     requires { lent ≤ most_branches }
-    ensures { FilledPart first.now second.now signatures.now count lent rows result.rows work.old work.new result.answer }
+    ensures { FilledPart first.now second.now signatures.now count rule lent rows result.rows work.old work.new result.answer }
 {
-    let answer = compare_branches(first, second, signatures, count, work, &mut rows[..lent]);
+    let part = &mut rows[..lent];
+    let answer = compare_branches(first, second, signatures, count, rule, work, part);
     Filled { answer, rows }
 }
 
@@ -38,16 +40,18 @@ pub fn fill_rows(
     second: &[u8],
     signatures: &[u8],
     count: usize,
+    rule: usize,
     work: &mut [u8],
     rows: [Row; Sheet::BRANCHES],
 ) -> Filled
-    ensures { Says first.now second.now signatures.now count rows result.rows work.old work.new result.answer }
+    ensures { Says first.now second.now signatures.now count rule rows result.rows work.old work.new result.answer }
 {
     fill_part(
         first,
         second,
         signatures,
         count,
+        rule,
         work,
         rows,
         Sheet::BRANCHES,

@@ -1,7 +1,8 @@
 -- `fill` meets its contract: each turn finds one row more in the memory that was prepared.
 use Rattle.std.proofs.Common.{◌<◌, arith, ap, ◌∙◌, length}
 use Rattle.std.proofs.lemmas.List.{length-set}
-use Rattle.branches.specs.Filling.{row_at}
+use Rattle.branches.specs.Filling.{RowAt}
+use Rattle.branches.specs.Shares.{rule_number}
 use Rattle.branches.proofs.Rows.{long_small, start_small, part_inside, given_part, row_is, rows_more, rows_filled}
 use Rattle.branches.proofs.filling.fill.Goals as goal
 
@@ -24,9 +25,10 @@ pub loop-branch-preserved : goal.loop-branch-preserved
 loop-branch-preserved c =
     let inside : c.loop-branch.branch < length c.args.rows.now = omega arith in
     let releases = c.args.releases.now in
+    let IsAt = RowAt (rule_number c.args.rounding) releases.first.file.now releases.second.file.now c.args.signatures.now in
     let row = row_is c.requires c.loop-branch.branch inside c.row_of.ensures.row in (
       length-set _ _ _ ∙ c.loop-branch.invariant.0,
-      rows_more (row_at releases.first.file.now releases.second.file.now c.args.signatures.now) c.loop-branch.rows c.loop-branch.branch _ (omega arith) c.loop-branch.invariant.1 row,
+      rows_more IsAt c.loop-branch.rows c.loop-branch.branch _ (omega arith) c.loop-branch.invariant.1 row,
       c.row_of.ensures.same ∙ c.loop-branch.invariant.2,
     )
 

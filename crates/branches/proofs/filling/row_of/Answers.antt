@@ -1,8 +1,7 @@
 -- `row_of` meets its contract: the row is told of the signature's names and of the bytes that are computed.
 use Rattle.branches.proofs.Rows.{result_lent, names_lent, take_few, bytes_told}
-use Rattle.branches.specs.Rows.{row_of}
 use lib.Seq.{length-take-le}
-use mathlib.Core.Path.{refl, sym, ap, ◌∙◌}
+use mathlib.Core.Path.{refl, sym}
 use Rattle.branches.proofs.filling.row_of.Goals as goal
 
 pub compare_prepared-requires : goal.compare_prepared-requires
@@ -22,6 +21,6 @@ tell-requires c = (take_few _ _ c.args.releases.now.few, take_few _ _ c.args.rel
 
 pub returns : goal.returns
 returns c = let p = c.requires.given in record {
-  row = c.tell.ensures ∙ ap (row_of _) (bytes_told p (result_lent c.compare_prepared.ensures.reported refl) c.compare_prepared.ensures.reported);
+  row = rw (bytes_told p (result_lent c.compare_prepared.ensures.reported refl) c.compare_prepared.ensures.reported) at c.tell.ensures;
   same = c.compare_prepared.ensures.same;
 }
