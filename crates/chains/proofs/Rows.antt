@@ -1,8 +1,8 @@
 -- Rows of one branch in a chain.
---   RowTold g s t             the row of two accepted releases over the signature g
+--   RowTold g s t             the row of two accepted releases over the signature g, by a rule
 --   left_most, right_most     the row across counts no more on a side than the rows of all steps together
 --   share_none                a row that counts none has the share 0
-use mathlib.Core.Path.{◌≡◌, refl, ap, ◌∙◌}
+use mathlib.Core.Path.{◌≡◌, refl, sym, ◌∙◌}
 use mathlib.Core.Bool.{Bool, true, false, ◌||◌}
 use mathlib.Core.List.{List, [], ◌∷◌}
 use Prim.Native.Nat.{ℕ, zero, suc, ◌+◌, ◌≤◌}
@@ -15,7 +15,9 @@ use Rattle.el.specs.Comparison.{on_left, on_right, is_reported}
 use Rattle.release.specs.Files.{names_of}
 use Rattle.demands.specs.Inputs.{Accepted}
 use Rattle.branches.specs.declared.row.Row.{Row}
-use Rattle.branches.specs.Rows.{is_chosen, share, row_of, IsRow}
+use Rattle.branches.specs.Shares.{is_rule, share_down, IsShare}
+use Rattle.branches.specs.Rows.{is_chosen, IsRow}
+use Rattle.branches.proofs.Shares.{one_share}
 use Rattle.chains.specs.Chains.{last_from, Steps, sum_of}
 use Rattle.chains.specs.Sheets.{CountsNone}
 use Rattle.chains.proofs.Sums.{sum_le, count_across}
@@ -23,24 +25,20 @@ use Rattle.chains.proofs.Told.{BytesTold, left_steps, right_steps}
 
 pub record RowTold (g s t : List ℕ) : Type 0 where
   pub accepted : Accepted s t g
+  pub rule : ℕ
+  pub ruled : is_rule rule ≡ true
   pub row : Row
-  pub is_row : IsRow s t g row
+  pub is_row : IsRow rule s t g row
 
 abbrev bytes_told : (g s t : List ℕ) → RowTold g s t → BytesTold g s t
 bytes_told g s t r = record { accepted = r.accepted; bytes = r.is_row.bytes; are = r.is_row.are_bytes }
 
 module _ {g s t : List ℕ} (r : RowTold g s t) where
   left_is : r.row.left ≡ count on_left r.is_row.bytes
-  unfolding row_of
-  left_is = ap (λ (x : Row). x.left) r.is_row.is
+  left_is = r.is_row.is.left
 
   right_is : r.row.right ≡ count on_right r.is_row.bytes
-  unfolding row_of
-  right_is = ap (λ (x : Row). x.right) r.is_row.is
-
-  share_is : r.row.share ≡ share (count is_reported r.is_row.bytes) (count is_chosen (take (names_of s) g))
-  unfolding row_of
-  share_is = ap (λ (x : Row). x.share) r.is_row.is
+  right_is = r.is_row.is.right
 
 module _ {g s : List ℕ} {ts : List (List ℕ)} (steps : Steps (RowTold g) s ts) (over : RowTold g s (last_from s ts)) where
   abbrev all : BytesTold g s (last_from s ts)
@@ -69,13 +67,18 @@ unfolding count
 counted_less [] = omega arith
 counted_less (b ∷ bs) = omega (arith, reported_less b, counted_less bs)
 
-share_zero : (c : ℕ) → share 0 c ≡ 0
-unfolding share
-share_zero zero = refl
-share_zero (suc c) = simp (share, ne_eqb (suc c) 0 (λ z. omega arith)) (div-eq_of_lt (omega arith))
+down_zero : (c : ℕ) → share_down 0 c ≡ 0
+unfolding share_down
+down_zero zero = refl
+down_zero (suc c) = simp (share_down, ne_eqb (suc c) 0 (λ z. omega arith)) (div-eq_of_lt (omega arith))
+
+zero_is : (rule c : ℕ) → IsShare rule 0 c 0
+zero_is rule c = record { down = λ _. sym (down_zero c); to_nearest = λ _. record { none_chosen = λ _. refl; near = λ _. omega arith; even = λ _ _. refl } }
+
+share_zero : (rule c s : ℕ) → is_rule rule ≡ true → IsShare rule 0 c s → s ≡ 0
+share_zero rule c s ruled is = let one = one_share rule 0 c ruled in one.only s is ∙ sym (one.only 0 (zero_is rule c))
 
 pub share_none : {g s t : List ℕ} (r : RowTold g s t) → CountsNone r.row → r.row.share ≡ 0
 share_none {g} {s} r none =
     let zero_reported : count is_reported r.is_row.bytes ≡ 0 = omega (arith, counted_less r.is_row.bytes, left_is r, right_is r, none.left, none.right) in
-    let chosen = count is_chosen (take (names_of s) g) in
-    share_is r ∙ (ap (λ (k : ℕ). share k chosen) zero_reported ∙ share_zero chosen)
+    share_zero r.rule (count is_chosen (take (names_of s) g)) r.row.share r.ruled (rw zero_reported at r.is_row.is.share)

@@ -2,6 +2,7 @@
 -- the first release, which all releases of the chain share.
 --   row_steps            the rows of one branch in all steps;  across_sheets: the law
 use mathlib.Core.Path.{◌≡◌, refl, sym, ap, ap₂, subst, ◌∙◌}
+use mathlib.Core.Bool.{true}
 use mathlib.Core.List.{List}
 use Prim.Native.Nat.{ℕ, ◌+◌, ◌≤◌, ◌<◌}
 use native.Mathlib.Omega.{arith}
@@ -11,6 +12,7 @@ use Rattle.release.specs.Refusals.{told}
 use Rattle.demands.specs.Inputs.{Accepted}
 use Rattle.branches.specs.declared.row.Row.{Row}
 use Rattle.branches.specs.Refusals.{sheet_refusal}
+use Rattle.branches.specs.Shares.{is_rule}
 use Rattle.branches.specs.Rows.{IsRow}
 use Rattle.branches.specs.Sheets.{signature_at, no_row}
 use Rattle.branches.proofs.Judged.{known}
@@ -29,7 +31,10 @@ module _ {gs : List ℕ} {q : ℕ} (i : ℕ) (i_in : i < q) where
     accepted : Accepted s t part
     accepted = let found = known (sym r.call.says.answer ∙ ap (told sheet_refusal) r.accepted) in accepted_one found.0 found.1 i i_in
 
-    is_row : IsRow s t part (branch_row r i)
+    ruled : is_rule r.rule ≡ true
+    ruled = (known (sym r.call.says.answer ∙ ap (told sheet_refusal) r.accepted)).1.ruled
+
+    is_row : IsRow r.rule s t part (branch_row r i)
     is_row =
         let f = r.call.says.accepted_rows r.accepted in
         let early : i < length f.filled = omega (arith, f.long, i_in) in
@@ -38,7 +43,13 @@ module _ {gs : List ℕ} {q : ℕ} (i : ℕ) (i_in : i < q) where
 
     -- as the row of a signature
     abbrev row_told : {g : List ℕ} → part ≡ g → RowTold g s t
-    row_told e = record { accepted = subst (λ (h : List ℕ). Accepted s t h) e accepted; row = branch_row r i; is_row = subst (λ (h : List ℕ). IsRow s t h (branch_row r i)) e is_row }
+    row_told e = record {
+      accepted = subst (λ (h : List ℕ). Accepted s t h) e accepted;
+      rule = r.rule;
+      ruled = ruled;
+      row = branch_row r i;
+      is_row = subst (λ (h : List ℕ). IsRow r.rule s t h (branch_row r i)) e is_row;
+    }
 
     next_part : {g : List ℕ} → part ≡ g → signature_at (names_of t) (roles_of t) gs i ≡ g
     next_part e = ap₂ (λ (n m : ℕ). signature_at n m gs i) (sym accepted.names) (sym accepted.roles) ∙ e

@@ -1,6 +1,7 @@
 -- What a branch that skips releases may rely on, of its rows in the sheets of a chain.
---   ComparesBranches s t gs q ys w    a sheet of the releases s and t for q signatures gs, lent the rows ys and the work memory w, as the call promises it
---   Sheet gs q s t                    such a sheet that is not refused
+--   ComparesBranches s t gs q rule ys w    a sheet of the releases s and t for q signatures gs, by a rule for the share, lent the rows ys and the work
+--                                          memory w, as the call promises it
+--   Sheet gs q s t                    such a sheet that is not refused, by any rule
 --   branch_row r i                    its row of the branch i;  CountsNone: a row counts no name on either side
 --   AcrossSheets steps across         a branch's row across counts no more on a side than its rows in all steps together; so where these count
 --                                     nothing, it counts nothing
@@ -11,16 +12,17 @@ use Rattle.branches.specs.declared.row.Row.{Row}
 use Rattle.branches.specs.Sheets.{no_row, Says}
 use Rattle.chains.specs.Chains.{last_from, Steps, EveryStep, sum_of}
 
-pub record ComparesBranches (s t gs : List ℕ) (q : ℕ) (ys : List Row) (w : List ℕ) : Type 0 where
+pub record ComparesBranches (s t gs : List ℕ) (q rule : ℕ) (ys : List Row) (w : List ℕ) : Type 0 where
   pub answer : Result Compared SheetRefusal
   pub rows : List Row
   pub memory : List ℕ
-  pub says : Says s t gs q ys rows w memory answer
+  pub says : Says s t gs q rule ys rows w memory answer
 
 pub record Sheet (gs : List ℕ) (q : ℕ) (s t : List ℕ) : Type 0 where
+  pub rule : ℕ
   pub rows_lent : List Row
   pub work_lent : List ℕ
-  pub call : ComparesBranches s t gs q rows_lent work_lent
+  pub call : ComparesBranches s t gs q rule rows_lent work_lent
   pub counts : Compared
   pub accepted : call.answer ≡ Ok counts
 
