@@ -2,14 +2,14 @@
 --   prints           a text that was written is printed;  prints_within: its length is within the output
 --   answer_fitted    an answer to a comparison with a result that is long enough is written where its text fits
 --   station_prints, sheet_prints     the two programs
---   count_divided    how many signatures there are
+--   count_divided    how many signatures there are;  none_named, digit_named: the number that a word names
 use mathlib.Core.Path.{◌≡◌, refl, sym, ap, ◌∙◌}
 use mathlib.Core.List.{List}
-use Prim.Native.Nat.{ℕ, ◌*◌, ◌+◌, ◌/◌, ◌≤◌, ◌<◌}
+use Prim.Native.Nat.{ℕ, ◌*◌, ◌+◌, ◌-◌, ◌/◌, ◌≤◌, ◌<◌}
 use native.Mathlib.Omega.{arith}
 use borrow.Author.Tests.{eq-eqb, ne_eqb, le-ltb}
 use mathlib.Core.Logic.{⊎_elim}
-use lib.ListN.{length}
+use lib.ListN.{length, get_or}
 use Rattle.std.proofs.lemmas.Bool.{cases_lt}
 use Rattle.std.specs.Option.{SomeIff, unwrap_or}
 use Rattle.std.specs.Prelude.{Option, Some, None, Result, Ok, Err, IfSome}
@@ -35,7 +35,7 @@ use Rattle.output.proofs.Written.{fits, lacks}
 use Rattle.report.specs.Written.{report_answer}
 use Rattle.report.specs.Answered.{answer_text, answer_to}
 use Rattle.report.specs.Sheets.{sheet_text, SheetWritten}
-use Rattle.programs.specs.Printed.{Prints, signature_count, StationPrints, SheetPrints}
+use Rattle.programs.specs.Printed.{Prints, signature_count, rule_named, StationPrints, SheetPrints}
 
 -- a text that is written
 pub prints : {text o p : List ℕ} {a : Result ℕ ReportRefusal} {r : Option ℕ} → WrittenAs (fitted ShortOutput text o) text o p a → r ≡ result_ok a → Prints text o p r
@@ -72,15 +72,15 @@ module _ {s t g b bs m ms w v o p : List ℕ} {a : Result Compared CompareRefusa
       record { lent = b; result = bs; answer = a; long = h; roles_lent = m; role_result = ms; roles_long = l; says = says; prints = prints (rw fitting at writes) e }
 
 -- the sheet
-module _ {s t gs w v o p : List ℕ} {ys zs : List Row} {a : Result Compared SheetRefusal} {d : Result ℕ ReportRefusal} {q : ℕ} {r : Option ℕ} where
-  pub sheet_prints : length ys ≡ most_branches → q ≡ signature_count (checked s) (length gs) → branches.Says s t gs q ys zs w v a
-      → SheetWritten (told sheet_refusal a) q zs o p d → r ≡ result_ok d → SheetPrints s t gs w v o p r
-  sheet_prints h i says writes e = record {
+module _ {s t gs word w v o p : List ℕ} {ys zs : List Row} {a : Result Compared SheetRefusal} {d : Result ℕ ReportRefusal} {q rule : ℕ} {r : Option ℕ} where
+  pub sheet_prints : length ys ≡ most_branches → q ≡ signature_count (checked s) (length gs) → rule ≡ rule_named word → branches.Says s t gs q rule ys zs w v a
+      → SheetWritten (told sheet_refusal a) q zs o p d → r ≡ result_ok d → SheetPrints s t gs word w v o p r
+  sheet_prints h i named says writes e = record {
     lent = ys;
     rows = zs;
     answer = a;
     long = h;
-    says = rw i at says;
+    says = rw (i, named) at says;
     prints = rw i at (prints {text = sheet_text (told sheet_refusal a) q zs} writes e);
   }
 
@@ -94,3 +94,12 @@ pub count_divided : (c : Result Counts Numbers) (bytes : ℕ) (a : Counts) → O
 unfolding signature_count
 count_divided c bytes a e None h = let none : a.names + a.roles ≡ 0 = omega arith in rw (← e, signature_count) (simp (eq-eqb _ 0 none))
 count_divided c bytes a e (Some q) (some, is) = rw (← e, signature_count) (simp (ne_eqb (a.names + a.roles) 0 (λ z. omega arith)) is)
+
+-- the number that a word names
+pub none_named : (word : List ℕ) → (length word ≡ 1 → ⊥) → 0 ≡ rule_named word
+unfolding rule_named
+none_named word h = simp (rule_named, ne_eqb (length word) 1 h)
+
+pub digit_named : (word : List ℕ) {number : ℕ} → length word ≡ 1 → number ≡ get_or word 0 0 - 48 → number ≡ rule_named word
+unfolding rule_named
+digit_named word h is = simp (rule_named, eq-eqb (length word) 1 h) is

@@ -4,7 +4,7 @@
 
 ghost use Rattle.std.specs.Prelude.{◌≡◌, ◌≤◌, length, IfSome};
 ghost use Rattle.release.specs.Readings.{checked};
-ghost use Rattle.programs.specs.Printed.{signature_count, StationPrints, SheetPrints};
+ghost use Rattle.programs.specs.Printed.{signature_count, rule_named, StationPrints, SheetPrints};
 
 use branches::judging::Sheet;
 use branches::row::Row;
@@ -52,22 +52,34 @@ fn signature_count(first: &[u8], length: usize) -> usize
     length.checked_div(one).unwrap_or(0)
 }
 
-// Compares over the signatures that stand one after another in `chosen`, and writes the lines or the refusal to the start of `output`.
-// Answers the text's length, or none where the output is too short for it. The longest text, 64 lines of 51 bytes, fits `TEXT_BYTES`.
+// The number of the rule that a word names, as a person writes it: a digit. Any other word names 0, which is no rule's and is refused 53.
+fn rule_named(word: &[u8]) -> usize
+    ensures { result ≡ rule_named word.now }
+{
+    let [digit] = word else {
+        return 0;
+    };
+    usize::from(digit.saturating_sub(b'0'))
+}
+
+// Compares over the signatures that stand one after another in `chosen`, by the rule that a word names, and writes the lines or the refusal to
+// the start of `output`. Answers the text's length, or none where the output is too short for it. The longest text, 64 lines of 51 bytes, fits `TEXT_BYTES`.
 pub fn sheet(
     first: &[u8],
     second: &[u8],
     chosen: &[u8],
+    rule: &[u8],
     work: &mut [u8],
     output: &mut [u8],
 ) -> Option<usize>
-    ensures prints { SheetPrints first.now second.now chosen.now
+    ensures prints { SheetPrints first.now second.now chosen.now rule.now
         work.old work.new output.old output.new result }
     ensures within { IfSome result (λ k. k ≤ length output.new) }
 {
     // A local array, since there is no heap.
     let rows = [Row::NONE; Sheet::BRANCHES];
     let count = signature_count(first, chosen.len());
-    let filled = fill_rows(first, second, chosen, count, work, rows);
+    let rule = rule_named(rule);
+    let filled = fill_rows(first, second, chosen, count, rule, work, rows);
     write_sheet(filled.answer, &filled.rows, count, output).ok()
 }

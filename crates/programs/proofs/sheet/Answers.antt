@@ -5,5 +5,5 @@ use Rattle.programs.proofs.sheet.Goals as goal
 
 pub returns : goal.returns
 returns c =
-    let prints = sheet_prints refl c.signature_count-count.ensures c.fill_rows-filled.ensures c.write_sheet.ensures c.ok.ensures.value in
+    let prints = sheet_prints refl c.signature_count-count.ensures c.rule_named-rule.ensures c.fill_rows-filled.ensures c.write_sheet.ensures c.ok.ensures.value in
     record { prints = prints; within = prints_within _ _ _ _ c.write_sheet.auto.output prints.prints }
