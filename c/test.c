@@ -204,14 +204,22 @@ static void try_sheet(void)
     struct berrytick_row rows[4];
     refill();
     memset(rows, FILLED, sizeof rows);
-    check(berrytick_compare_branches(PASS(p1_first), PASS(p1_second), PASS(signatures), 3, work, sizeof work, rows, 2) == 43 * 256,
+    check(berrytick_compare_branches(PASS(p1_first), PASS(p1_second), PASS(signatures), 3, BERRYTICK_ROUND_DOWN, work, sizeof work,
+                                     rows, 2) == 43 * 256,
           "a sheet with fewer rows than signatures");
+    check(berrytick_compare_branches(PASS(p1_first), PASS(p1_second), PASS(signatures), 3, 257, work, sizeof work, rows, 2) == 53 * 256,
+          "a sheet by no rule");
     check(rows[0].chosen == UNTOUCHED && work_is_left(0), "a refused sheet changes nothing");
-    check(berrytick_compare_branches(PASS(p1_first), PASS(p1_second), PASS(signatures), 3, work, sizeof work, rows, 4) == 0,
+    check(berrytick_compare_branches(PASS(p1_first), PASS(p1_second), PASS(signatures), 3, BERRYTICK_ROUND_DOWN, work, sizeof work,
+                                     rows, 4) == 0,
           "P1's releases for three branches");
     check(rows[0].chosen == 3 && rows[0].left == 1 && rows[0].right == 2 && rows[0].share == 666, "the first branch");
     check(rows[1].chosen == 1 && rows[1].left == 0 && rows[1].right == 0 && rows[1].share == 0, "the second");
     check(rows[2].chosen == 0 && rows[3].chosen == UNTOUCHED && work_is_left(needed(4)), "the third, and what is beyond");
+    check(berrytick_compare_branches(PASS(p1_first), PASS(p1_second), PASS(signatures), 3, BERRYTICK_ROUND_TO_NEAREST, work, sizeof work,
+                                     rows, 3) == 0,
+          "the same to the nearest");
+    check(rows[0].share == 667 && rows[1].share == 0 && rows[2].share == 0, "their shares");
 }
 
 static void try_report(void)
@@ -430,8 +438,8 @@ static void try_empty(void)
     check(berrytick_compare(PASS(one_role), PASS(one_role), PASS(one), NULL, 0, NULL, 0, NULL, 0) == 50 * 256, "role pairs to NULL");
     check(berrytick_compare(PASS(no_names), PASS(no_names), NULL, 0, NULL, 0, NULL, 0, NULL, 0) == 32 * 256, "in NULL");
     check(berrytick_compare(PASS(no_names), PASS(no_names), NULL, 0, NULL, 0, NULL, 0, work, sizeof work) == 0, "no names, no roles");
-    check(berrytick_compare_branches(NULL, 0, NULL, 0, NULL, 0, 0, NULL, 0, NULL, 0) == 1 * 256 + 1, "a sheet of NULL");
-    check(berrytick_compare_branches(PASS(p1_first), PASS(p1_second), NULL, 0, 0, work, sizeof work, NULL, 0) == 0,
+    check(berrytick_compare_branches(NULL, 0, NULL, 0, NULL, 0, 0, 0, NULL, 0, NULL, 0) == 1 * 256 + 1, "a sheet of NULL");
+    check(berrytick_compare_branches(PASS(p1_first), PASS(p1_second), NULL, 0, 0, BERRYTICK_ROUND_DOWN, work, sizeof work, NULL, 0) == 0,
           "a sheet of no branches");
     check(berrytick_report(NULL, 0, NULL, 0, NULL, 0, NULL, 0, &length, NULL, 0) == 33 * 256, "a report to NULL");
     check(berrytick_report(NULL, 0, NULL, 0, NULL, 0, output, sizeof output, &length, NULL, 0) == 1 * 256 + 1, "a report of NULL");

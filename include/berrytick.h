@@ -87,7 +87,7 @@ uint32_t berrytick_compare(const uint8_t *first, size_t first_length,
                            uint8_t *work, size_t work_length);
 
 /* What a comparison tells of one branch: the names chosen, those reported on the left and on the right, and the share of names reported, in
- * thousandths of those chosen. */
+ * thousandths of those chosen, rounded by a rule. */
 struct berrytick_row {
     uint32_t chosen;
     uint32_t left;
@@ -95,12 +95,17 @@ struct berrytick_row {
     uint32_t share;
 };
 
-/* Compares two releases over `count` signatures, which stand one after another: a row for each. Rows tell of names only.
- * Refused: 1 to 15 and 49 with the release's side; 16, 42, 17, 18, 43, 32. */
+/* The rules for the share: down, and to the nearest, with an exact half to the even neighbour. */
+#define BERRYTICK_ROUND_DOWN 1
+#define BERRYTICK_ROUND_TO_NEAREST 2
+
+/* Compares two releases over `count` signatures, which stand one after another: a row for each, with a share by the rule of this number. Rows
+ * tell of names only.
+ * Refused: 1 to 15 and 49 with the release's side; 16, 53, 42, 17, 18, 43, 32. */
 uint32_t berrytick_compare_branches(const uint8_t *first, size_t first_length,
                                     const uint8_t *second, size_t second_length,
                                     const uint8_t *signatures, size_t signatures_length,
-                                    size_t count,
+                                    size_t count, size_t rule,
                                     uint8_t *work, size_t work_length,
                                     struct berrytick_row *rows, size_t rows_length);
 

@@ -53,6 +53,7 @@ extern "C" {
         signatures: *const u8,
         signatures_length: usize,
         count: usize,
+        rule: usize,
         work: *mut u8,
         work_length: usize,
         rows: *mut Row,

@@ -54,6 +54,11 @@ pub const PAGE_BYTES: usize = 16645;
 /// The bytes of the longest practice release.
 pub const PRACTICE_BYTES: usize = 897;
 
+/// The rules for the share: down, and to the nearest, with an exact half to the even neighbour.
+pub const ROUND_DOWN: usize = 1;
+
+pub const ROUND_TO_NEAREST: usize = 2;
+
 /// The bytes of a session, and those of the longest file and of the longest signature that one can hold.
 pub const SESSION_BYTES: usize = 5136;
 
@@ -78,7 +83,7 @@ pub struct Row {
     /// The names reported on the left, and on the right.
     pub left: u32,
     pub right: u32,
-    /// The names reported, in thousandths of those chosen, rounded down.
+    /// The names reported, in thousandths of those chosen, rounded by a rule.
     pub share: u32,
 }
 
@@ -164,12 +169,14 @@ pub fn compare(
     })
 }
 
-/// Compares two releases over `count` signatures, which stand one after another: a row for each. Rows tell of names only.
+/// Compares two releases over `count` signatures, which stand one after another: a row for each, with a share by the rule of this number,
+/// [`ROUND_DOWN`] or [`ROUND_TO_NEAREST`]. Rows tell of names only.
 pub fn compare_branches(
     first: &[u8],
     second: &[u8],
     signatures: &[u8],
     count: usize,
+    rule: usize,
     work: &mut [u8],
     rows: &mut [Row],
 ) -> Result<(), Refusal> {
@@ -182,6 +189,7 @@ pub fn compare_branches(
             signatures.as_ptr(),
             signatures.len(),
             count,
+            rule,
             work.as_mut_ptr(),
             work.len(),
             rows.as_mut_ptr(),

@@ -59,6 +59,7 @@ impl Refusal {
             (50, _) => "the role result is shorter than m × m bytes for m roles",
             (51, _) => "the result has more than 1,023 bytes or one above 3, or the output is shorter than the page",
             (52, _) => "the output is shorter than the practice release",
+            (53, _) => "the rule for the share is neither 1 nor 2",
             _ => "a number that this version does not know",
         }
     }

@@ -138,12 +138,13 @@ fn row(bytes: &[u8]) -> Row {
 }
 
 fn try_sheet(case: &[&[u8]]) {
-    let &[first, second, count, signatures, lines, works, refused, side, filled, cleared] = case else {
+    let &[first, second, count, rule, signatures, lines, works, refused, side, filled, cleared] = case else {
         panic!("fields of a sheet")
     };
     let mut rows = vec![UNTOUCHED; number(lines)];
     let mut work = lent(works);
-    let answer = berrytick::compare_branches(first, second, signatures, number(count), &mut work, &mut rows);
+    let (count, rule) = (number(count), number(rule));
+    let answer = berrytick::compare_branches(first, second, signatures, count, rule, &mut work, &mut rows);
     assert_eq!(answer, expected(refused, side, ()));
     let told: Vec<Row> = filled.chunks(8).map(row).collect();
     assert!(rows.starts_with(&told) && rows[told.len()..].iter().all(|&row| row == UNTOUCHED));

@@ -77,7 +77,7 @@ fn files() {
         assert_eq!(berrytick::rewrite(file, 2, output).map(|_| ()), of_rewriting);
         assert_eq!(berrytick::compare(file, RELEASE, &[1, 1, 1], result, role_result, work), own);
         assert_eq!(berrytick::compare(RELEASE, file, &[1, 1, 1], result, role_result, work), other);
-        assert_eq!(berrytick::compare_branches(RELEASE, file, &[1, 1, 1], 1, work, rows), other);
+        assert_eq!(berrytick::compare_branches(RELEASE, file, &[1, 1, 1], 1, 1, work, rows), other);
         assert_eq!(berrytick::report(RELEASE, file, &[1, 1, 1], output, work).map(|_| ()), other);
         assert_eq!(berrytick::show_concept(RELEASE, file, &[1, 1, 1], 0, 1, concept, work).map(|_| ()), other);
         assert_eq!(berrytick::check_concept(RELEASE, file, &[1, 1, 1], 0, 1, concept, work).map(|_| ()), other);
@@ -110,7 +110,10 @@ fn comparisons() {
         assert_eq!(answer, expected);
         // 31 and 50 are of a comparison alone.
         if number != 31 && number != 50 {
-            assert_eq!(berrytick::compare_branches(RELEASE, second, signature, 1, &mut work[..works], rows), expected);
+            assert_eq!(
+                berrytick::compare_branches(RELEASE, second, signature, 1, 2, &mut work[..works], rows),
+                expected
+            );
             assert_eq!(berrytick::report(RELEASE, second, signature, output, &mut work[..works]).map(|_| ()), expected);
             let work = &mut work[..works];
             let shown = berrytick::show_concept(RELEASE, second, signature, 0, 1, concept, work);
@@ -122,8 +125,11 @@ fn comparisons() {
     }
     let short = berrytick::REPORT_BYTES - 1;
     assert_eq!(berrytick::report(RELEASE, RELEASE, &[1, 1, 1], &mut output[..short], work), Err(refusal(33, 0)));
-    assert_eq!(berrytick::compare_branches(RELEASE, RELEASE, &[1; 65 * 3], 65, work, rows), Err(refusal(42, 0)));
-    assert_eq!(berrytick::compare_branches(RELEASE, RELEASE, &[1; 3 * 3], 3, work, rows), Err(refusal(43, 0)));
+    assert_eq!(berrytick::compare_branches(RELEASE, RELEASE, &[1; 65 * 3], 65, 1, work, rows), Err(refusal(42, 0)));
+    assert_eq!(berrytick::compare_branches(RELEASE, RELEASE, &[1; 3 * 3], 3, 2, work, rows), Err(refusal(43, 0)));
+    for no_rule in [0, 3, 257, 258, u32::MAX as usize + 2, u32::MAX as usize + 3, usize::MAX] {
+        assert_eq!(berrytick::compare_branches(RELEASE, RELEASE, &[], 65, no_rule, work, rows), Err(refusal(53, 0)));
+    }
     // Two names: 36 bytes, 6 more for a row; 64 rows.
     let too_few = &mut concept[..63];
     assert_eq!(berrytick::show_concept(RELEASE, RELEASE, &[1, 1, 1], 0, 1, too_few, work), Err(refusal(44, 0)));
@@ -214,7 +220,7 @@ fn work_lengths() {
 /// Every number has a meaning of its own, and numbers that no call has are told from them.
 #[test]
 fn meanings() {
-    let numbers = (1..=19).chain([31, 32, 33, 40, 41, 42, 43, 44]).chain(46..=52);
+    let numbers = (1..=19).chain([31, 32, 33, 40, 41, 42, 43, 44]).chain(46..=53);
     let unknown = refusal(255, 0).meaning();
     let meanings: BTreeSet<&str> = numbers.clone().map(|number| refusal(number, 1).meaning()).collect();
     assert_eq!(meanings.len(), numbers.count());

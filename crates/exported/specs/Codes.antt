@@ -96,9 +96,9 @@ pub record CompareReturns (s t g o o2 p p2 w w2 : List ℕ) (r : ℕ) : Type 0 w
   pub says : Says s t g o o2 p p2 w w2 answer
   pub code : r ≡ code_of (told compare_refusal answer)
 
-pub record SheetReturns (s t gs : List ℕ) (q : ℕ) (ys zs : List Row) (w w2 : List ℕ) (r : ℕ) : Type 0 where
+pub record SheetReturns (s t gs : List ℕ) (q rule : ℕ) (ys zs : List Row) (w w2 : List ℕ) (r : ℕ) : Type 0 where
   pub answer : Result Compared SheetRefusal
-  pub says : branches.Says s t gs q ys zs w w2 answer
+  pub says : branches.Says s t gs q rule ys zs w w2 answer
   pub code : r ≡ code_of (told sheet_refusal answer)
 
 -- rewriting: the length of the file written. A wanted version that is neither 1 nor 2 is refused 3 with side 0, before all else

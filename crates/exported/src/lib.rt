@@ -143,19 +143,20 @@ pub fn berrytick_compare(
     code_of(compare_releases(first, second, signature, result_bytes, role_result, work))
 }
 
-// Compares two releases over `count` signatures: a row for each.
+// Compares two releases over `count` signatures: a row for each, with a share by the rule of this number.
 pub fn berrytick_compare_branches(
     first: &[u8],
     second: &[u8],
     signatures: &[u8],
     count: usize,
+    rule: usize,
     work: &mut [u8],
     rows: &mut [Row],
 ) -> u32
-    ensures { SheetReturns first.now second.now signatures.now count
+    ensures { SheetReturns first.now second.now signatures.now count rule
         rows.old rows.new work.old work.new result }
 {
-    code_of(compare_branches(first, second, signatures, count, work, rows))
+    code_of(compare_branches(first, second, signatures, count, rule, work, rows))
 }
 
 // Writes a release as a file of a wanted version, 1 or 2, to the start of the output: its length. Another version is refused 3, side 0,

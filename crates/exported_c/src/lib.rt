@@ -70,20 +70,21 @@ pub extern "C" fn berrytick_compare(
     exported::berrytick_compare(first, second, signature, result_bytes, role_result, work)
 }
 
-// Compares two releases over `count` signatures: a row for each.
+// Compares two releases over `count` signatures: a row for each, with a share by the rule of this number.
 #[unsafe(no_mangle)]
 pub extern "C" fn berrytick_compare_branches(
     first: &[u8],
     second: &[u8],
     signatures: &[u8],
     count: usize,
+    rule: usize,
     work: &mut [u8],
     rows: &mut [Row],
 ) -> u32
-    ensures { SheetReturns first.now second.now signatures.now count
+    ensures { SheetReturns first.now second.now signatures.now count rule
         rows.old rows.new work.old work.new result }
 {
-    exported::berrytick_compare_branches(first, second, signatures, count, work, rows)
+    exported::berrytick_compare_branches(first, second, signatures, count, rule, work, rows)
 }
 
 // Shows a concept for a name and a side, written as rows of three numbers each: the number of rows.
