@@ -308,10 +308,10 @@ def rowcheck(first, second, signature, count, work):
         (32, work < 4 * (n + 1) ** 2 + 2 * (n + 1) * count)))
 
 
-def sheet(first, second, count, signatures, lent, work):
+def sheet(first, second, count, rule, signatures, lent, work):
     number, side, n, m = agreed(first, second)
     return (number, side) if number else first_of((
-        (42, count > 64), (17, len(signatures) != count * (n + m)), (18, any(byte > 1 for byte in signatures)),
+        (53, rule not in (1, 2)), (42, count > 64), (17, len(signatures) != count * (n + m)), (18, any(byte > 1 for byte in signatures)),
         (43, lent < count), (32, work < 4 * (n + 1) ** 2)))
 
 

@@ -43,9 +43,7 @@ fn main(rt: HostRuntime) -> io::Result<()> {
     family(&rt, "compare", compare::judge)?;
     family(&rt, "compare-roles", compare::judge)?;
     family(&rt, "comparisons", compare::judge)?;
-    family(&rt, "station", |case| {
-        printed::judge(case, programs::station)
-    })?;
+    family(&rt, "station", printed::station)?;
     family(&rt, "rewrite", rewrite::judge)?;
     family(&rt, "rewrites", rewrite::judge)?;
     family(&rt, "page", pages::judge)?;
@@ -54,9 +52,7 @@ fn main(rt: HostRuntime) -> io::Result<()> {
     family(&rt, "practices", practices::judge)?;
     family(&rt, "sheet", sheets::judge)?;
     family(&rt, "sheets", sheets::judge)?;
-    family(&rt, "lines", |case| {
-        printed::judge(case, programs::sheet)
-    })?;
+    family(&rt, "lines", printed::sheet)?;
     family(&rt, "shown", concepts::judge)?;
     family(&rt, "concepts", concepts::judge)?;
     family(&rt, "rowcheck", rowchecks::judge)?;

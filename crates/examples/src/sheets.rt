@@ -1,4 +1,4 @@
-// Cases of the sheet: first, second, how many signatures, the signatures, how many rows, length of the
+// Cases of the sheet: first, second, how many signatures, the number of the rule, the signatures, how many rows, length of the
 // work memory; number, side, the rows filled, each four numbers of two bytes, and how many bytes of the
 // work memory are then zero. Each row is also held to a single comparison over its signature.
 use crate::cases::{Case, number_in};
@@ -29,8 +29,8 @@ const MARKED: Row = Row {
 };
 
 pub(crate) fn judge(case: &[u8]) -> Verdict {
-    let case = Case::of(case, 10)?;
-    let Case([_, _, _, _, _, work_length, ..]) = case;
+    let case = Case::of(case, 11)?;
+    let Case([_, _, _, _, _, _, work_length, ..]) = case;
     let mut work = [0u8; ROOM];
     memory::lend(&mut work, number_in(work_length), |work| filled(case, work))
 }
@@ -38,13 +38,14 @@ pub(crate) fn judge(case: &[u8]) -> Verdict {
 // Fills as many rows as are lent; the others are there to be seen unchanged. A sheet has no use for more
 // than there can be branches.
 fn filled(case: Case, work: &mut [u8]) -> Verdict {
-    let Case([first, second, count, signatures, rows, ..]) = case;
-    let Case([_, _, _, _, _, _, number, side, expected, zeros, ..]) = case;
+    let Case([first, second, count, rule, signatures, rows, ..]) = case;
+    let Case([_, _, _, _, _, _, _, number, side, expected, zeros, ..]) = case;
     let filled = fill_part(
         first,
         second,
         signatures,
         number_in(count),
+        number_in(rule),
         work,
         [MARKED; Sheet::BRANCHES],
         number_in(rows).min(Sheet::BRANCHES),
@@ -98,7 +99,7 @@ fn expected_row(bytes: &[u8]) -> Row {
 // Whether each row that is filled is what a single comparison over its signature tells. The signatures are cut by hand: `chunks_exact`
 // asks for a length above 0, and releases may have neither names nor roles.
 fn single_rows(case: Case, filled: Filled) -> Verdict {
-    let Case([_, _, _, signatures, _, _, _, _, expected, ..]) = case;
+    let Case([_, _, _, _, signatures, _, _, _, _, expected, ..]) = case;
     let Ok(counts) = filled.answer else {
         return Ok(());
     };
@@ -120,7 +121,7 @@ fn single_rows(case: Case, filled: Filled) -> Verdict {
 
 // The row by a single comparison, counted name by name.
 fn single_row(case: Case, signature: &[u8], names: usize) -> Row {
-    let Case([first, second, ..]) = case;
+    let Case([first, second, _, rule, ..]) = case;
     let mut result_bytes = [0u8; Release::NAMES];
     let mut role_result = [0u8; ROLE_PAIRS];
     let mut work = [0u8; ROOM];
@@ -139,11 +140,20 @@ fn single_row(case: Case, signature: &[u8], names: usize) -> Row {
         chosen,
         left: count(told, |byte| byte % 2 == 1),
         right: count(told, |byte| 2 <= byte),
-        share: reported
-            .saturating_mul(1000)
-            .checked_div(chosen)
-            .unwrap_or(0),
+        share: share(reported, chosen, number_in(rule)),
     }
+}
+
+// The share in thousandths: rounded down, and by rule 2 one more where more than a half is left over, or just a half after an odd number.
+fn share(reported: u32, chosen: u32, rule: usize) -> u32 {
+    let thousandths = reported.saturating_mul(1000);
+    let down = thousandths.checked_div(chosen).unwrap_or(0);
+    let left_over = thousandths.saturating_sub(down.saturating_mul(chosen));
+    let twice = left_over.saturating_mul(2);
+    if rule == 2 && (chosen < twice || chosen == twice && down % 2 == 1) {
+        return down.saturating_add(1);
+    }
+    down
 }
 
 // How many of the bytes pass the test.
