@@ -7,7 +7,7 @@ use crate::baseline::Asked;
 use crate::baseline::Refusal;
 #[cfg(feature = "ours")]
 use berrytick::Session;
-pub use linked::{Row, NAME};
+pub use linked::{Row, NAME, ROUND_DOWN, ROUND_TO_NEAREST};
 
 /// A row of a concept.
 #[cfg(feature = "ours")]
@@ -76,32 +76,30 @@ pub fn compare_branches(
     second: &[u8],
     signatures: &[u8],
     count: usize,
+    rule: usize,
     work: &mut [u8],
     rows: &mut [Row],
 ) -> Result<(), Refusal> {
-    linked::compare_branches(first, second, signatures, count, work, rows).map_err(told)
+    linked::compare_branches(first, second, signatures, count, rule, work, rows).map_err(told)
 }
 
 pub fn ask(file: &[u8], below: &[u8], above: &[u8], work: &mut [u8]) -> Result<u32, Refusal> {
     linked::ask(file, below, above, work).map_err(told)
 }
 
-/// The row of a comparison over the signature, with its byte for each name.
-pub fn row_of(signature: &[u8], result: &[u8]) -> Row {
+/// The row of a comparison over the signature, with its byte for each name, and the share by a rule.
+pub fn row_of(rule: usize, signature: &[u8], result: &[u8]) -> Row {
     let count = |test: fn(u8) -> bool| result.iter().filter(|&&byte| test(byte)).count() as u32;
     let chosen = signature.iter().take(result.len()).filter(|&&byte| byte == 1).count() as u32;
     let reported = count(|byte| byte != 0);
-    Row {
-        chosen,
-        left: count(|byte| byte & 1 == 1),
-        right: count(|byte| byte & 2 == 2),
-        share: (reported * 1000).checked_div(chosen).unwrap_or(0),
-    }
+    let exact = f64::from(1000 * reported) / f64::from(chosen.max(1));
+    let share = if rule == ROUND_DOWN { exact.floor() } else { exact.round_ties_even() };
+    Row { chosen, left: count(|byte| byte & 1 == 1), right: count(|byte| byte & 2 == 2), share: share as u32 }
 }
 
 #[cfg(feature = "ours")]
 mod linked {
-    pub use berrytick::{ask, compare, compare_branches, Refusal, Row};
+    pub use berrytick::{ask, compare, compare_branches, Refusal, Row, ROUND_DOWN, ROUND_TO_NEAREST};
 
     pub const NAME: &str = "ours";
 }
@@ -115,6 +113,10 @@ mod linked {
     use crate::calls::MOST_PAIRS;
 
     pub const NAME: &str = "stand-in";
+
+    pub const ROUND_DOWN: usize = 1;
+
+    pub const ROUND_TO_NEAREST: usize = 2;
 
     #[derive(Clone, Copy, Debug, Default, PartialEq, Eq)]
     pub struct Row {
@@ -130,6 +132,7 @@ mod linked {
         second: &[u8],
         signatures: &[u8],
         count: usize,
+        rule: usize,
         work: &mut [u8],
         rows: &mut [Row],
     ) -> Result<(), Refusal> {
@@ -137,7 +140,7 @@ mod linked {
         let (mut result, mut role_result) = (vec![0; names], [0; MOST_PAIRS]);
         for (signature, row) in signatures.chunks(signatures.len() / count.max(1)).zip(rows) {
             compare(first, second, signature, &mut result, &mut role_result, work)?;
-            *row = row_of(signature, &result);
+            *row = row_of(rule, signature, &result);
         }
         Ok(())
     }

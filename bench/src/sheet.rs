@@ -7,7 +7,7 @@
 use crate::baseline::{self, Refusal};
 use crate::calls::{Buffers, Call};
 use crate::inputs::Input;
-use crate::ours::{self, Row};
+use crate::ours::{self, Row, ROUND_DOWN, ROUND_TO_NEAREST};
 use std::hint::black_box;
 use std::time::{Duration, Instant};
 
@@ -42,11 +42,12 @@ impl Sheet<'_> {
         Some(Sheet { first, second, signatures: signatures(signature), names })
     }
 
-    /// The rows of the first `count` branches.
-    fn rows(&self, count: usize, buffers: &mut Buffers) -> Vec<Row> {
+    /// The rows of the first `count` branches, by a rule.
+    fn rows(&self, count: usize, rule: usize, buffers: &mut Buffers) -> Vec<Row> {
         let mut rows = vec![Row::default(); count];
         let together = self.signatures[..count].concat();
-        let answer = ours::compare_branches(self.first, self.second, &together, count, &mut buffers.work, &mut rows);
+        let answer =
+            ours::compare_branches(self.first, self.second, &together, count, rule, &mut buffers.work, &mut rows);
         assert_eq!(answer, Ok(()), "a sheet that is refused");
         rows
     }
@@ -56,16 +57,18 @@ impl Sheet<'_> {
         ours::compare(self.first, self.second, signature, result, role_result, work)
     }
 
-    /// The row that a single comparison tells.
-    fn single(&self, signature: &[u8], buffers: &mut Buffers) -> Row {
+    /// The row that a single comparison tells, by a rule.
+    fn single(&self, signature: &[u8], rule: usize, buffers: &mut Buffers) -> Row {
         assert_eq!(self.compare(signature, buffers), Ok(()), "a comparison that is refused");
-        ours::row_of(signature, &buffers.result[..self.names])
+        ours::row_of(rule, signature, &buffers.result[..self.names])
     }
 
     fn agrees(&self) -> bool {
         let mut buffers = Buffers::for_names(self.names);
-        let rows = self.rows(BRANCHES, &mut buffers);
-        self.signatures.iter().zip(rows).all(|(signature, row)| self.single(signature, &mut buffers) == row)
+        [ROUND_DOWN, ROUND_TO_NEAREST].into_iter().all(|rule| {
+            let rows = self.rows(BRANCHES, rule, &mut buffers);
+            self.signatures.iter().zip(rows).all(|(signature, row)| self.single(signature, rule, &mut buffers) == row)
+        })
     }
 
     /// Microseconds: the sheet, the single comparisons together, the classifications.
@@ -85,7 +88,7 @@ impl Sheet<'_> {
                 best[place] = best[place].min(start.elapsed());
             };
             timed(0, &mut |buffers| {
-                black_box(self.rows(BRANCHES, buffers));
+                black_box(self.rows(BRANCHES, ROUND_DOWN, buffers));
             });
             timed(1, &mut |buffers| {
                 for signature in &self.signatures {
@@ -93,7 +96,7 @@ impl Sheet<'_> {
                 }
             });
             timed(2, &mut |buffers| {
-                black_box(self.rows(0, buffers));
+                black_box(self.rows(0, ROUND_DOWN, buffers));
             });
             timed(3, &mut |buffers| {
                 _ = black_box(self.compare(&refused, buffers));
@@ -144,7 +147,7 @@ pub fn repeat(input: &Input, count: usize) -> bool {
     };
     let mut buffers = Buffers::for_names(sheet.names);
     for _ in 0..count {
-        black_box(sheet.rows(BRANCHES, &mut buffers));
+        black_box(sheet.rows(BRANCHES, ROUND_DOWN, &mut buffers));
     }
     true
 }
