@@ -17,6 +17,20 @@ mod partner;
 mod propagation;
 mod sweep;
 
+// The first marks, all that follows from them, and passes until one is quiet. It is never inlined, nor is the function that sorts: what each of
+// them keeps need not stand on the stack together.
+#[inline(never)]
+fn mark_in_order(given: &Given, work: &mut [u8], order: &Order)
+    requires { Setting given.now work.old }
+    ensures { ForwardFrom given.now work.old work.new }
+{
+    let mut waiting = Waiting::new();
+    let lost = LostAbove { given };
+    propagation::begin(given, work, &mut waiting, order);
+    rules::deal_with_all(&lost, work, &mut waiting);
+    rules::close(&lost, work, &mut waiting, order);
+}
+
 // Marks those pairs. The inclusions of the second release are there also with rows and columns exchanged. The order, and what waits, are
 // hints.
 pub fn mark_lost_above(given: &Given, work: &mut [u8])
@@ -24,9 +38,6 @@ pub fn mark_lost_above(given: &Given, work: &mut [u8])
     ensures { ForwardFrom given.now work.old work.new }
 {
     let mut order = Order::new();
-    let mut waiting = Waiting::new();
-    let lost = LostAbove { given };
-    propagation::begin(given, work, &mut waiting, &mut order);
-    rules::deal_with_all(&lost, work, &mut waiting);
-    rules::close(&lost, work, &mut waiting, &order);
+    propagation::sort(given, work, &mut order);
+    mark_in_order(given, work, &order);
 }

@@ -18,13 +18,16 @@ use marks::order::Order;
 use marks::waiting::Waiting;
 
 // Writes an order in which ends come before their edges, and what lies above before what lies below, as far as that can be had: a hint.
-fn sort(given: &Given, work: &[u8], order: &mut Order)
+#[inline(never)]
+pub fn sort(given: &Given, work: &[u8], order: &mut Order)
     requires { Room (first_square given.now.layout) work.now }
 {
+    // in variables of its own, so that a turn reads them from registers
+    let first = given.first;
     let inclusions = given.layout.first_square();
     order.sort(work, inclusions, |x| {
-        if x < given.layout.names && given.first.is_restriction(x) {
-            Some(given.first.filler(x))
+        if x < inclusions.names && first.is_restriction(x) {
+            Some(first.filler(x))
         } else {
             None
         }
@@ -120,12 +123,11 @@ fn first_rows(given: &Given, work: &mut [u8], waiting: &mut Waiting, done: &mut 
     }
 }
 
-// The marks that names give, and those of each row by what lies above it. Writes the order of the rows, which the passes ask for too.
-pub fn begin(given: &Given, work: &mut [u8], waiting: &mut Waiting, order: &mut Order)
+// The marks that names give, and those of each row by what lies above it, one row after the other in the order.
+pub fn begin(given: &Given, work: &mut [u8], waiting: &mut Waiting, order: &Order)
     requires { Setting given.now work.old }
     ensures { Grows (Step given.now) (mark_square given.now.layout) work.old work.new }
 {
-    sort(given, work, order);
     mark_names(given, work);
     let mut done = [0u8; Line::LENGTH];
     first_rows(given, work, waiting, &mut done, order);

@@ -4,7 +4,7 @@ use Rattle.marks.proofs.Passes.{closed_further}
 use Rattle.forward.proofs.Tested.{follows_grows}
 use Rattle.forward.proofs.Meaning.{forwarded}
 use Rattle.forward.specs.Rules.{setting_stays}
-use Rattle.forward.proofs.mark_lost_above.Goals as goal
+use Rattle.forward.proofs.mark_in_order.Goals as goal
 
 pub deal_with_all-requires : goal.deal_with_all-requires
 deal_with_all-requires c = setting_stays c.begin.ensures c.requires
