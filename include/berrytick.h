@@ -14,9 +14,9 @@
  * entry it may hold anything.
  *
  * Nothing is kept between calls, and none allocates memory. Any number of threads may call at the same time, each with memory of its own to
- * write to. A call uses less than 68 KiB of stack, whatever it is lent: measured, with all of the calling program's own, 67,552 bytes for a
- * session's start, 48,832 for a step, at most 32,592 for a comparison, a sheet, a report or a concept, 29,032 for a question, 18,424 for a shown
- * axiom, 15,480 for what reads a session and 10,296 for a check or a rewriting.
+ * write to. A call uses less than 72 KiB of stack, whatever it is lent: measured, 72,616 bytes for a session's start, 48,552 for a step, at most
+ * 34,112 for a comparison, a sheet, a report or a concept, 28,904 for a question, 20,120 for a shown axiom, 16,936 for what reads a session and
+ * 11,784 for a check or a rewriting.
  */
 #ifndef BERRYTICK_H
 #define BERRYTICK_H
