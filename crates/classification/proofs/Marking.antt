@@ -4,17 +4,22 @@
 --   .._grows                              the same where only the growth is asked, for new marks that are dealt with
 --   restriction_of, over_of               what new marks ask of restrictions, from the tests made on them
 --   gathered_.., filled_.., axiom_..      what is left to mark by conjuncts, by fillers, by an axiom
+--   needed, passed_over                   a row that lacks the first conjunct of a conjunction, or ⊤ where there is none, is not gathered in
 -- Not here: the other laws of passes for any rule (crate marks).
 use mathlib.Core.Path.{◌≡◌, refl, sym, ◌∙◌}
 use mathlib.Core.Bool.{Bool, true, false, ◌||◌, false≢true}
 use mathlib.Core.List.{List}
 use Prim.Native.Nat.{ℕ, suc, ◌≤◌, ◌<◌}
 use native.Mathlib.Omega.{arith}
+use Rattle.std.specs.Prelude.{Option, Some, None, unwrap_or}
 use Rattle.el.proofs.Tests.{Tells, tells_as}
 use Rattle.release.specs.Files.{joins, restricts}
 use Rattle.release.specs.Roles.{HasRole}
+use Rattle.release.specs.Parts.{PartsOf, PartGiven}
 use Rattle.release.specs.Tables.{kind_at, role_at, filler_at, ServingAt, count_at, part_at, HasRow, Conjunctive, Shaped}
 use Rattle.release.proofs.Faults.{restricts_not_joins}
+use Rattle.release.proofs.PartWalks.{part_is, part_among}
+use Rattle.release.specs.declared.parts.Parts.{Parts}
 use Rattle.release.specs.declared.table.Table.{Table}
 use Rattle.marks.specs.declared.Square.{Square}
 use Rattle.marks.specs.Squares.{Marked, Put}
@@ -22,7 +27,7 @@ use Rattle.marks.specs.Passes.{Grows, Pass, Below, Due, FromRow}
 use Rattle.marks.specs.Inclusions.{Taking}
 use Rattle.marks.proofs.Squares.{frame_area}
 use Rattle.marks.proofs.Passes.{room_stays, grows_frame, marks_stay, pass_none, pass_as, pass_both, pass_by, grows_as, put_pass, put_grows, due_not, due_as}
-use Rattle.classification.specs.Steps.{PartMarked, Gathers, Fills, Step, to_itself, to_top, to_part, to_gathered, to_filled, through, Gathered, Seeds, GatheredAt, FilledAt}
+use Rattle.classification.specs.Steps.{PartMarked, Gathers, Needed, Fills, Step, to_itself, to_top, to_part, to_gathered, to_filled, through, Gathered, Seeds, GatheredAt, FilledAt}
 use Rattle.classification.specs.Steps.{AxiomSettled, Setting, SeededSetting, InRow, Source, DefinedRestriction, FilledBy, Pair, Restriction, Over}
 
 not_both : {A : Type 0} (k : ℕ) → joins k ≡ true → restricts k ≡ true → A
@@ -95,6 +100,18 @@ module _ {s : List ℕ} {t : Table} {q : Square} {w : List ℕ} {x b : ℕ} wher
 
   pub gathered_not : (Gathers s t q x b w → ⊥) → Pass (Step s t q) q (Gathered s t q x b) w w false
   gathered_not g = pass_none (record { marked = λ z. absurd (g z) })
+
+-- what a row needs in which it is gathered
+module _ {s : List ℕ} {t : Table} {q : Square} {y : ℕ} (h : Conjunctive q.names s t y) where
+  pub needed : {p : Parts} {z : ℕ} (o : Option ℕ) (u : Parts) → PartsOf s t y 0 p → PartGiven p o u → z ≡ unwrap_or o q.names → Needed s t q y z
+  needed (Some part) u walk given e =
+      let first = e ∙ part_is walk given in
+      let among = part_among walk given in
+      record { column = omega (arith, first, h.shaped.part y 0 h.is_name h.is_conjunctive among); marked = λ x w top g. rw first (g.parts.at 0 among).is }
+  needed None u walk given e = record { column = omega (arith, e); marked = λ x w top g. rw e top }
+
+pub passed_over : {s : List ℕ} {t : Table} {q : Square} {w : List ℕ} {x y z : ℕ} → Needed s t q y z → Marked q w x q.names → (Marked q w x z → ⊥) → GatheredAt s t q y x w
+passed_over {w = w} {x = x} needs top lacks = record { marked = λ g. absurd (lacks (needs.marked x w top g)) }
 
 -- a row
 pub seeds : {q : Square} {w u v : List ℕ} {x : ℕ} {a b : Bool} → Put q x x w u a → Put q x q.names u v b → Seeds q x w v (a || b)

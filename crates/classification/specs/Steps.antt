@@ -5,6 +5,7 @@
 --                           is marked in the row of a marked node
 --   Grown c w v             marks that the rules allow were put in the square of c
 --   Gathers s t q x y w     y is a defined conjunction, and its conjuncts are marked in row x
+--   Needed s t q y z        z is marked in each row in which y is to be: its first conjunct, or ⊤
 --   Fills t q b y w         y is a defined ∃r.B, and b lies below ∃r.C with (C, B) marked
 --   Looked s t q x b w      nothing is left to mark in row x by b: by its axiom if it is marked, and itself by its conjuncts
 --   Row s t q x w           nothing is left to mark in row x;  Settled s t q x w: what a pass finishes of it
@@ -30,6 +31,11 @@ pub record PartMarked (s : List ℕ) (t : Table) (q : Square) (x b i : ℕ) (w :
 pub record Gathers (s : List ℕ) (t : Table) (q : Square) (x y : ℕ) (w : List ℕ) : Type 0 where
   pub kind : kind_at t y ≡ 2
   pub parts : Below (PartMarked s t q x y) (count_at s t y) w
+
+-- a column that each row has in which y is gathered and ⊤ is marked: where it is not, y need not be asked for
+pub record Needed (s : List ℕ) (t : Table) (q : Square) (y z : ℕ) : Type 0 where
+  pub column : z ≤ q.names
+  pub marked : (x : ℕ) (w : List ℕ) → Marked q w x q.names → Gathers s t q x y w → Marked q w x z
 
 pub record Fills (t : Table) (q : Square) (b y : ℕ) (w : List ℕ) : Type 0 where
   pub kind : kind_at t y ≡ 4

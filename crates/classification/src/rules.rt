@@ -2,10 +2,10 @@
 ghost use Rattle.std.specs.Prelude.{◌≡◌, true, ◌≤◌};
 ghost use Rattle.el.proofs.Tests.{Tells};
 ghost use Rattle.release.specs.Files.{joins};
-ghost use Rattle.release.specs.Tables.{kind_at, count_at};
+ghost use Rattle.release.specs.Tables.{kind_at, count_at, Conjunctive};
 ghost use Rattle.marks.specs.Squares.{Room, Marked};
 ghost use Rattle.marks.specs.Passes.{Pass, Below, Due};
-ghost use Rattle.classification.specs.Steps.{Of, Step, PartMarked, Gathers, Fills, Gathered, Seeds, InRow, Source, Pair};
+ghost use Rattle.classification.specs.Steps.{Of, Step, PartMarked, Gathers, Needed, Fills, Gathered, Seeds, InRow, Source, Pair};
 
 use crate::Classification;
 use release::Kind;
@@ -58,6 +58,17 @@ impl<'a> Classification<'a> {
             return self.square.is_marked(work, under, filler);
         }
         false
+    }
+
+    // The first conjunct of y, and ⊤ if it has none: a column that is marked in each row in which y is gathered.
+    pub(crate) fn first_part(&self, y: usize) -> usize
+        requires { Conjunctive self.now.square.names self.now.terminology.file.now self.now.terminology.table.now y }
+        ensures { Of Needed self.now y result }
+    {
+        self.terminology
+            .parts(y)
+            .next()
+            .unwrap_or(self.square.names)
     }
 
     // Whether all conjuncts of the defined conjunction y are marked in row x.

@@ -30,20 +30,24 @@ impl<'a> Classification<'a> {
         changed
     }
 
-    // Marks the defined conjunction y in each row in which all its conjuncts are marked. Whether a mark is new. By itself, and with a copy of
-    // what it works on, so that the compiler has registers for the loop; so too the next one.
+    // Marks the defined conjunction y in each row in which all its conjuncts are marked. Whether a mark is new. Most rows lack its first conjunct:
+    // they are passed over by one look at a cell, before the walk of the conjuncts is made. By itself, and with a copy of what it works on, so
+    // that the compiler has registers for the loop; so too the next one.
     #[inline(never)]
     fn gather_column(&self, work: &mut [u8], y: usize) -> bool
-        requires setting { Of Setting self.now work.old }
+        requires seeded_setting { Of SeededSetting self.now work.old }
         requires y_lt_names { y < self.now.square.names }
         requires y_value { kind_at self.now.terminology.table.now y ≡ 2 }
         ensures { Pass (Of Step self.now) self.now.square (Below (Of GatheredAt self.now y) (suc self.now.square.names)) work.old work.new result }
     {
         let own = *self;
+        let first = own.first_part(y);
         let mut changed = false;
         for row in 0..self.nodes() {
-            let gathered = own.gather(work, row, y);
-            changed |= gathered;
+            if own.square.is_marked(work, row, first) {
+                let gathered = own.gather(work, row, y);
+                changed |= gathered;
+            }
         }
         changed
     }
