@@ -1,7 +1,9 @@
 -- Laws of the rules of forward marks.
 --   joined_below, second_small, join_asks     what lies below a name, by a row of the turned inclusions
 --   KeptTo, kept_more                     the line of the nodes that the names before one keep
---   roles_to, roles_end, roles_full       the roles of an edge, one after the other, and where its row is full
+--   partnered_none, partnered_more, row_kept     a line of nodes with a partner, and a row that it leaves none to lose
+--   quiet_start .. open_full              the next role of an edge by which something can be left to mark
+--   roles_to, roles_end                   the roles of an edge, one after the other
 --   role_small                            the roles of an edge have bits
 --   no_partner_stays                      where there is no partner, marks put later give none
 --   seen_stays                            what is asked holds after marks are seen
@@ -23,6 +25,7 @@ use native.Mathlib.Omega.{arith}
 use native.Mathlib.Decide.{ℕ_discrete, dec_lt}
 use Rattle.std.specs.Prelude.{Option, None, Some, is_some}
 use Rattle.release.specs.Files.{most_roles}
+use Rattle.release.specs.declared.RoleName.{RoleName}
 use Rattle.release.specs.Tables.{filler_at, HasSuccessor}
 use Rattle.marks.specs.declared.Square.{Square}
 use Rattle.marks.specs.Squares as squares
@@ -41,7 +44,8 @@ use Rattle.layout.specs.Layouts.{first_square, second_square, below_square, mark
 use Rattle.layout.proofs.Layouts.{second_apart}
 use Rattle.layout.proofs.Searches.{each_more, each_to}
 use Rattle.forward.specs.Rules.{Beneath, beneath_stays, Serves, Setting, setting_stays, Named, NameLost, Partner, Edge, RoleLost, Own, by_name, by_edge, FromAbove, Follows}
-use Rattle.forward.specs.Rules.{from_edge, from_above, Step, by_itself, by_above, follows_step, JoinedBelow, Kept, RowFull, LeftOpen, ByName, ByRole, ByEdge, EdgeCell, RowLost, Looked, Row}
+use Rattle.forward.specs.Rules.{from_edge, from_above, Step, by_itself, by_above, follows_step, JoinedBelow, Partnered, Kept, RowFull, NextOpen, LeftOpen}
+use Rattle.forward.specs.Rules.{ByName, ByRole, ByEdge, EdgeCell, RowLost, Looked, Row}
 
 -- what lies below a name, by a row of the turned inclusions
 pub joined_below : {l : Layout} {w : List ℕ} {c : ℕ} {i j : List ℕ} {p : Square} → p ≡ below_square l → Beneath l w → c < l.names → Joined p w c i j → JoinedBelow l w c i j
@@ -82,6 +86,22 @@ kept_more {given} {w} {z} {r} {c} {i} {j} serves joined k = record {
     by_place y d h o p (yes e) = let q : Partner given w z y r c = rw e at p in joined.has y h q.second
     by_place y d h o p (no e) = joined.stays y (k.has y d h (omega arith) p)
 
+-- a line of nodes with a partner: an empty one, one with what lies below a name more that serves, and one that leaves a row none to lose
+pub partnered_none : {given : Given} {w : List ℕ} {z r : ℕ} {k : List ℕ} → Empty k → Partnered given w z r k
+partnered_none empty = record { partner = λ y h m. absurd (empty.none y m) }
+
+pub partnered_more : {given : Given} {w : List ℕ} {z r c : ℕ} {i j : List ℕ} → Serves given.second.table.now (mark_square given.layout) w z r c → c < given.layout.names
+    → JoinedBelow given.layout w c i j → Partnered given w z r i → Partnered given w z r j
+partnered_more {c = c} serves c_in joined p = record {
+  partner = λ y h m. elim (joined.only y h m) [
+    | inl e ↦ p.partner y h e
+    | inr e ↦ record { it = c; below = c_in; holds = record { serves = serves; second = e } }
+  ];
+}
+
+pub row_kept : {given : Given} {w : List ℕ} {x r : ℕ} {k : List ℕ} → Partnered given w (filler_at given.first.table.now x) r k → Full (mark_square given.layout) k x w → ByRole given x r w
+row_kept p full = record { marked = λ y h o. full.marked y h (λ m. o.no_partner (p.partner y h m)) }
+
 -- the roles of an edge have bits
 pub role_small : {given : Given} {x r : ℕ} → Edge given x r → r < most_roles
 role_small {given} {x} {r} e = given.edges_found.few x r e.is_name e.with_role
@@ -90,21 +110,65 @@ role_small {given} {x} {r} e = given.edges_found.few x r e.is_name e.with_role
 role_none : {given : Given} {w : List ℕ} {x r : ℕ} → (HasEdge given.edges.now x r → ⊥) → ByRole given x r w
 role_none not = record { marked = λ y h o. absurd (not o.edge.with_role) }
 
-module _ {given : Given} {x from : ℕ} {u w : List ℕ} {b : Bool} (p : Pass (Follows given) (mark_square given.layout) (Below (ByRole given x) from) u w b) where
-  pub roles_to : {r : ℕ} → First (HasEdge given.edges.now x) (λ q. HasEdge given.edges.now x q → ⊥) 31 from r
-      → Pass (Follows given) (mark_square given.layout) (Below (ByRole given x) r) u w b
-  roles_to next = turns_to p (λ q h l. role_none (next.before q h l))
+-- the next role by which something can be left: from a number on, by each one before it nothing is
+pub record QuietFrom (given : Given) (w : List ℕ) (x from r : ℕ) : Type 0 where
+  pub quiet : from ≤ r → ByRole given x r w
 
-  pub roles_end : x < given.layout.names → Nowhere (λ q. HasEdge given.edges.now x q → ⊥) 31 from → Pass (Follows given) (mark_square given.layout) (ByEdge given x) u w b
+module _ {given : Given} {w : List ℕ} {x from : ℕ} where
+  pub quiet_start : EachBelow (QuietFrom given w x from) from
+  quiet_start = record { at = λ r h. record { quiet = λ j. absurd (omega arith) } }
+
+  pub quiet_to : {m r : ℕ} → First (HasEdge given.edges.now x) (λ q. HasEdge given.edges.now x q → ⊥) 31 m r → EachBelow (QuietFrom given w x from) m
+      → EachBelow (QuietFrom given w x from) r
+  quiet_to next p = each_to (λ r not. record { quiet = λ j. role_none not }) next p
+
+  pub quiet_more : {r : ℕ} → ByRole given x r w → EachBelow (QuietFrom given w x from) r → EachBelow (QuietFrom given w x from) (r + 1)
+  quiet_more quiet p = each_more p (record { quiet = λ j. quiet })
+
+  pub open_found : {m r : ℕ} → from ≤ m → First (HasEdge given.edges.now x) (λ q. HasEdge given.edges.now x q → ⊥) 31 m r → EachBelow (QuietFrom given w x from) r
+      → First (HasEdge given.edges.now x) (λ q. ByRole given x q w) 31 from r
+  open_found h next p = record { after = omega (arith, next.after); inside = next.inside; there = next.there; before = λ r j l. (p.at r l).quiet j }
+
+  pub open_none : {m : ℕ} → Nowhere (λ q. HasEdge given.edges.now x q → ⊥) 31 m → EachBelow (QuietFrom given w x from) m → Nowhere (λ q. ByRole given x q w) 31 from
+  open_none {m} past p = record { each = λ r j h. by_place r j h (dec_lt r m) }
+    where
+      by_place : (r : ℕ) → from ≤ r → r ≤ 31 → Dec (r < m) → ByRole given x r w
+      by_place r j h (yes l) = (p.at r l).quiet j
+      by_place r j h (no l) = role_none (past.each r (omega arith) h)
+
+  -- a row that is full
+  pub open_full : {q : Square} → q ≡ mark_square given.layout → RowFull q x w → Nowhere (λ r. ByRole given x r w) 31 from
+  open_full e full = let all : RowFull (mark_square given.layout) x w = rw e at full in record { each = λ r j h. record { marked = λ y i o. all.marked y i } }
+
+-- from the first role of the edge on
+pub open_further : (given : Given) (w : List ℕ) (x : ℕ) {from r : ℕ} (o : Option RoleName) → First (HasEdge given.edges.now x) (λ q. HasEdge given.edges.now x q → ⊥) 31 from r
+    → NextOpen given w x r o → NextOpen given w x from o
+open_further given w x {from} {r} None first past = record { each = λ q j h. by_place q j h (dec_lt q r) }
+  where
+    by_place : (q : ℕ) → from ≤ q → q ≤ 31 → Dec (q < r) → ByRole given x q w
+    by_place q j h (yes l) = role_none (first.before q j l)
+    by_place q j h (no l) = past.each q (omega arith) h
+open_further given w x {from} {r} (Some role) first next = record {
+  after = omega (arith, first.after, next.after);
+  inside = next.inside;
+  there = next.there;
+  before = λ q j l. by_place q j l (dec_lt q r);
+}
+  where
+    by_place : (q : ℕ) → from ≤ q → q < role.0 → Dec (q < r) → ByRole given x q w
+    by_place q j l (yes i) = role_none (first.before q j i)
+    by_place q j l (no i) = next.before q (omega arith) l
+
+module _ {given : Given} {x from : ℕ} {u w : List ℕ} {b : Bool} (p : Pass (Follows given) (mark_square given.layout) (Below (ByRole given x) from) u w b) where
+  pub roles_to : {r : ℕ} → First (HasEdge given.edges.now x) (λ q. ByRole given x q w) 31 from r → Pass (Follows given) (mark_square given.layout) (Below (ByRole given x) r) u w b
+  roles_to next = turns_to p (λ q h l. next.before q h l)
+
+  pub roles_end : x < given.layout.names → Nowhere (λ q. ByRole given x q w) 31 from → Pass (Follows given) (mark_square given.layout) (ByEdge given x) u w b
   roles_end x_in past = pass_as (λ below. record { marked = λ y h o. (by_place below o.role (given.edges_found.few x o.role x_in o.lost.edge.with_role) (dec_lt o.role from)).marked y h o.lost }) p
     where
       by_place : Below (ByRole given x) from w → (r : ℕ) → r < 32 → Dec (r < from) → ByRole given x r w
       by_place below r l (yes i) = below.at r i
-      by_place below r l (no i) = role_none (past.each r (omega arith) (omega arith))
-
-  -- a row that is full
-  pub roles_full : {q : Square} → q ≡ mark_square given.layout → RowFull q x w → Pass (Follows given) (mark_square given.layout) (ByEdge given x) u w b
-  roles_full e full = let all : RowFull (mark_square given.layout) x w = rw e at full in pass_as (λ below. record { marked = λ y h o. all.marked y h }) p
+      by_place below r l (no i) = past.each r (omega arith) (omega arith)
 
 -- what is seen of the marks changes none
 pub seen_stays : {given : Given} {w v : List ℕ} → squares.Kept (mark_square given.layout) w v → Setting given w → Setting given v
@@ -146,7 +210,7 @@ module _ {given : Given} {w : List ℕ} (s : Setting given w) {x r : ℕ} {k : L
   by_role_pass {v} p = pass_with done (pass_by edge_missing p)
     where
       done : v ≡ w → Full (mark_square given.layout) k x v → ByRole given x r v
-      done e full = record { marked = λ y h o. full.marked y h (λ m. o.no_partner (rw e (kept.only y h m))) }
+      done e full = record { marked = λ y h o. full.marked y h (λ m. o.no_partner (rw e (kept.only.partner y h m))) }
 
 -- what is answered of them: no, where the row is full; else yes
 module _ {given : Given} {x r : ℕ} {w v : List ℕ} where
@@ -199,7 +263,7 @@ module _ {given : Given} {x r : ℕ} where
   -- a node that is marked, or that has a partner by the line; the line holds as long as nothing has changed
   settled : {u w k : List ℕ} {y : ℕ} → Kept given u (filler_at given.first.table.now x) r k → w ≡ u → y ≤ given.layout.names
       → Has k y ⊎ Marked (mark_square given.layout) w x y → EdgeCell given x r y w
-  settled {y = y} kept e h (inl i) = record { marked = λ o. absurd (o.no_partner (rw e (kept.only y h i))) }
+  settled {y = y} kept e h (inl i) = record { marked = λ o. absurd (o.no_partner (rw e (kept.only.partner y h i))) }
   settled kept e h (inr i) = record { marked = λ o. i }
 
   -- up to the next node that the line leaves open

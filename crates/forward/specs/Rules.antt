@@ -13,8 +13,9 @@
 --   Follows given w x y         x, y is lost by the edge of x, or by what lies above x;  Followed given w v: w became v by such marks
 --   Step given w x y            a rule allows the mark x, y: it is lost by x itself, or by what lies above x
 --   JoinedBelow l w c i j       the line j is i, with what lies below c by the second release
---   Kept given w z r k          the line k is what lies below a name that serves
+--   Partnered given w z r k     what is in the line k lies below a name that serves;  Kept given w z r k: that is all that does
 --   RowFull q x w               row x is marked with all nodes
+--   NextOpen given w x from o   o is the first role of the edge of x from `from` on by which something can be left to mark, if there is one
 --   LeftOpen q w x k y          the cell x, y is not marked, and y is not in the line k
 --   NextMissing q w x k from o  o is the first such column of row x from `from` on, if there is one
 --   ByName given x w            nothing is left to mark by the name x;  ByRole given x r w: by its edge with r;  ByEdge given x w: by its edge
@@ -26,11 +27,12 @@
 -- Not here: what the rules mean (proofs/Meaning).
 use Rattle.std.specs.Prelude.{◌≡◌, Bool, true, false, List, ◌⊎◌, ℕ, suc, ◌+◌, ◌*◌, ◌≤◌, ◌<◌, Option}
 use Rattle.std.specs.Option.{MatchOption}
+use Rattle.release.specs.declared.RoleName.{RoleName}
 use Rattle.release.specs.declared.table.Table.{Table}
 use Rattle.release.specs.Files.{restricts}
 use Rattle.release.specs.Tables.{kind_at, role_at, filler_at, serves_at, HasSuccessor}
 use Rattle.marks.specs.declared.Square.{Square}
-use Rattle.marks.specs.Squares.{span, behind, Room, Marked, Apart, Frame, Within, Next}
+use Rattle.marks.specs.Squares.{span, behind, Room, Marked, Apart, Frame, Within, First, Nowhere, Next}
 use Rattle.marks.specs.Passes.{Grows, Below}
 use Rattle.marks.specs.Lines.{Has}
 use Rattle.marks.specs.Inclusions.{Turned}
@@ -146,9 +148,12 @@ pub record JoinedBelow (l : Layout) (w : List ℕ) (c : ℕ) (i j : List ℕ) : 
   pub has : (y : ℕ) → y ≤ l.names → Marked (second_square l) w y c → Has j y
   pub only : (y : ℕ) → y ≤ l.names → Has j y → Has i y ⊎ Marked (second_square l) w y c
 
+pub record Partnered (given : Given) (w : List ℕ) (z r : ℕ) (k : List ℕ) : Type 0 where
+  pub partner : (y : ℕ) → y ≤ given.layout.names → Has k y → SomeBelow (Partner given w z y r) given.layout.names
+
 pub record Kept (given : Given) (w : List ℕ) (z r : ℕ) (k : List ℕ) : Type 0 where
   pub has : (y c : ℕ) → y ≤ given.layout.names → c < given.layout.names → Partner given w z y r c → Has k y
-  pub only : (y : ℕ) → y ≤ given.layout.names → Has k y → SomeBelow (Partner given w z y r) given.layout.names
+  pub only : Partnered given w z r k
 
 pub record LeftOpen (q : Square) (w : List ℕ) (x : ℕ) (k : List ℕ) (y : ℕ) : Type 0 where
   pub not_marked : Marked q w x y → ⊥
@@ -168,6 +173,9 @@ pub record ByRole (given : Given) (x r : ℕ) (w : List ℕ) : Type 0 where
 
 pub record ByEdge (given : Given) (x : ℕ) (w : List ℕ) : Type 0 where
   pub marked : (y : ℕ) → y ≤ given.layout.names → EdgeLost given w x y → Marked (mark_square given.layout) w x y
+
+abbrev pub NextOpen : Given → List ℕ → ℕ → ℕ → Option RoleName → Type 0
+NextOpen given w x from o = MatchOption o (Nowhere (λ r. ByRole given x r w) 31 from) (λ role. First (HasEdge given.edges.now x) (λ r. ByRole given x r w) 31 from role.0)
 
 pub record EdgeCell (given : Given) (x r y : ℕ) (w : List ℕ) : Type 0 where
   pub marked : RoleLost given w x r y → Marked (mark_square given.layout) w x y

@@ -9,7 +9,7 @@ ghost use Rattle.marks.specs.Lines.{Spans};
 ghost use Rattle.layout.specs.Layouts.{first_square, second_square, mark_square};
 ghost use Rattle.forward.specs.Rules.{Beneath, Setting, Edge, FromAbove, Follows, Followed, RowLost};
 
-use crate::kept::{is_full, join_below, keep_partners};
+use crate::kept::{join_below, keep_partners, next_role};
 use crate::partner::look_at_pair;
 use classification::hints::{BELOW, FILLERS};
 use layout::Given;
@@ -43,22 +43,21 @@ fn lose_row(given: &Given, work: &mut [u8], x: usize, role: RoleName) -> bool
     true
 }
 
-// The same for each role of the edge of x, until the row is full: what a role without a partner loses is lost once.
-pub fn lose_rows(given: &Given, work: &mut [u8], x: usize)
+// The same for each role of the edge of x by which something can be left to mark: what a role without a partner loses is lost once. Whether
+// marks can be new.
+pub fn lose_rows(given: &Given, work: &mut [u8], x: usize) -> bool
     requires setting { Setting given.now work.old }
     requires x_lt_names { x < given.now.layout.names }
     ensures { Followed given.now work.old work.new }
 {
-    let roles = given.edges[x];
-    let marks = given.layout.mark_square();
+    let mut changed = false;
     let mut next = 0;
-    while let Some(role) = roles.next(next) {
-        if is_full(marks, work, x) {
-            return;
-        }
+    // the loop writes the memory that it searches, so no iterator can hold it
+    while let Some(role) = next_role(given, work, x, next) {
         next = role.0 + 1;
-        lose_row(given, work, x, role);
+        changed |= lose_row(given, work, x, role);
     }
+    changed
 }
 
 // Adds to the line what lies below the restrictions of the second release with one of these roles, and this filler.
@@ -149,46 +148,36 @@ fn lose_touched(given: &Given, work: &mut [u8], touched: &[u8], x: usize, role: 
     }
 }
 
-// The edge of x with the role, whose end has new marks in the columns of a line: for the nodes that can lose it by these, or where something
-// is new in more bytes than a few, for all nodes at once. Whether marks can be new.
-fn lose_role(
-    given: &Given,
-    work: &mut [u8],
-    new: &[u8],
-    fresh: usize,
-    x: usize,
-    role: RoleName,
-) -> bool
+// The edge of x with the role, whose end has new marks in the columns of a line: for the nodes that can lose it by these. Whether marks can be
+// new.
+fn lose_role(given: &Given, work: &mut [u8], new: &[u8], x: usize, role: RoleName) -> bool
     requires setting { Setting given.now work.old }
     requires spans { Spans given.now.layout.names new.now }
     requires edge { Edge given.now x role.0 }
     ensures { Followed given.now work.old work.new }
 {
-    if FEW_BYTES < fresh {
-        return lose_row(given, work, x, role);
-    }
     let mut touched = [0u8; Line::LENGTH];
     touch(given, work, new, &mut touched, role);
     lose_touched(given, work, &touched, x, role)
 }
 
-// The same for each role of the edge of x, until the row is full. That costs more than to look for the few nodes that can lose the first.
+// The edge of x, whose end has new marks in the columns of a line, in so many bytes: where these are more than a few, for all nodes at once. Else
+// for each of its roles; to ask before each whether the row is full costs more than to look for the few nodes that can lose it.
 fn lose_edge(given: &Given, work: &mut [u8], new: &[u8], fresh: usize, x: usize) -> bool
     requires setting { Setting given.now work.old }
     requires spans { Spans given.now.layout.names new.now }
     requires x_lt_names { x < given.now.layout.names }
     ensures { Followed given.now work.old work.new }
 {
+    if FEW_BYTES < fresh {
+        return lose_rows(given, work, x);
+    }
     let roles = given.edges[x];
-    let marks = given.layout.mark_square();
     let mut changed = false;
     let mut next = 0;
     while let Some(role) = roles.next(next) {
-        if (0 < next || FEW_BYTES < fresh) && is_full(marks, work, x) {
-            return changed;
-        }
         next = role.0 + 1;
-        changed |= lose_role(given, work, new, fresh, x, role);
+        changed |= lose_role(given, work, new, x, role);
     }
     changed
 }

@@ -3,15 +3,17 @@ ghost use Rattle.std.specs.Prelude.{◌≡◌, true, ◌≤◌, ◌<◌};
 ghost use Rattle.el.proofs.Tests.{Tells};
 ghost use Rattle.release.specs.Files.{most_roles};
 ghost use Rattle.release.specs.Tables.{filler_at};
-ghost use Rattle.marks.specs.Squares.{Small, Room};
+ghost use Rattle.marks.specs.Squares.{Small, Room, Area};
 ghost use Rattle.marks.specs.Lines.{Spans, Empty, Full};
 ghost use Rattle.layout.specs.Tables.{Rowed};
 ghost use Rattle.layout.specs.Layouts.{second_square, below_square, mark_square};
 ghost use Rattle.forward.specs.Asking.{Asks};
-ghost use Rattle.forward.specs.Rules.{Beneath, JoinedBelow, Serves, Kept, RowFull, NextMissing};
+ghost use Rattle.forward.specs.Rules.{Beneath, JoinedBelow, Serves, Partnered, Kept, Setting, Edge, ByRole, RowFull, NextOpen, NextMissing};
 
 use crate::asked::Asked;
+use crate::hints::ROLES;
 use layout::{Given, Layout};
+use marks::line::Line;
 use marks::{Square, hints, line};
 use release::RoleName;
 use release::terminology::Terminology;
@@ -97,13 +99,101 @@ pub fn keep_partners(given: &Given, work: &[u8], kept: &mut [u8], x: usize, role
     marks.seems_full(work, x, kept)
 }
 
+// Adds what lies below those restrictions that were noted with a role, serve, and lead to a node that `end` is not marked with.
+fn keep_by_role(given: &Given, work: &[u8], kept: &mut [u8], end: usize, asked: Asked, row: usize)
+    requires asks { Asks given.now.second.table.now asked }
+    requires room { Area (mark_square given.now.layout) work.now × Beneath given.now.layout work.now }
+    requires spans { Spans given.now.layout.names kept.old }
+    requires partnered { Partnered given.now work.now end asked.role.0 kept.old }
+    requires end_le_names { (end ≤ given.now.layout.names) × (row ≤ given.now.layout.names) }
+    ensures { Partnered given.now work.now end asked.role.0 kept.new }
+{
+    let second = given.second;
+    let marks = given.layout.mark_square();
+    let below = below(given.layout);
+    for name in marks.hinted(work, ROLES, row) {
+        if name < marks.names && serves(&second, marks, work, end, asked, name) {
+            below.join(work, name, kept);
+        }
+    }
+}
+
+// The same for each role that serves.
+fn keep_noted(given: &Given, work: &[u8], kept: &mut [u8], end: usize, asked: Asked)
+    requires asks { Asks given.now.second.table.now asked }
+    requires room { Area (mark_square given.now.layout) work.now × Beneath given.now.layout work.now }
+    requires spans { Spans given.now.layout.names kept.old }
+    requires partnered { Partnered given.now work.now end asked.role.0 kept.old }
+    requires end_le_names { end ≤ given.now.layout.names }
+    ensures { Partnered given.now work.now end asked.role.0 kept.new }
+{
+    let mut next = 0;
+    while let Some(role) = asked.serving.next(next) {
+        next = role.0 + 1;
+        let row = usize::from(role.0);
+        if row <= given.layout.names {
+            keep_by_role(given, work, kept, end, asked, row);
+        }
+    }
+}
+
+// Whether each node that has no partner of the edge of x with the role is marked in row x, as far as the noted restrictions tell: a no says
+// nothing.
+fn seems_kept(given: &Given, work: &[u8], x: usize, role: RoleName) -> bool
+    requires setting { Setting given.now work.now }
+    requires edge { Edge given.now x role.0 }
+    ensures { result ≡ true → ByRole given.now x role.0 work.now }
+{
+    let end = given.first.filler(x);
+    let mut kept = [0u8; Line::LENGTH];
+    keep_noted(given, work, &mut kept, end, Asked::of(&given.second, role));
+    let marks = given.layout.mark_square();
+    marks.seems_full(work, x, &kept)
+}
+
+// The first role of the edge of x from `from` on by which, as far as the noted restrictions tell, something can be left to mark. It stays a
+// function of its own, since most edges have one role, for which it is not called.
+#[inline(never)]
+fn next_open(given: &Given, work: &[u8], x: usize, from: u8) -> Option<RoleName>
+    requires setting { Setting given.now work.now }
+    requires x_lt_names { x < given.now.layout.names }
+    ensures { NextOpen given.now work.now x from result }
+{
+    let roles = given.edges[x];
+    let mut next = from;
+    while let Some(role) = roles.next(next) {
+        if !seems_kept(given, work, x, role) {
+            return Some(role);
+        }
+        next = role.0 + 1;
+    }
+    None
+}
+
 // Whether row x is marked with all nodes: then its edge can lose no more, by whichever of its roles.
-pub fn is_full(marks: Square, work: &[u8], x: usize) -> bool
+fn is_full(marks: Square, work: &[u8], x: usize) -> bool
     requires room { Room marks work.now }
     requires x_le_names { x ≤ marks.names }
     ensures { result ≡ true → RowFull marks x work.now }
 {
     marks.next_unmarked(work, x, 0).is_none()
+}
+
+// The first role of the edge of x from `from` on by which something can be left to mark: none where the row is full. An edge may have as many roles
+// as there are, and a release few restrictions with each; so for those after the first the noted restrictions are looked at, before all names are.
+pub fn next_role(given: &Given, work: &[u8], x: usize, from: u8) -> Option<RoleName>
+    requires setting { Setting given.now work.now }
+    requires x_lt_names { x < given.now.layout.names }
+    ensures { NextOpen given.now work.now x from result }
+{
+    let role = given.edges[x].next(from)?;
+    if is_full(given.layout.mark_square(), work, x) {
+        return None;
+    }
+    if from == 0 {
+        return Some(role);
+    }
+    next_open(given, work, x, role.0)
 }
 
 // The first node from `from` on that x is not marked with and that is not in the line.

@@ -12,6 +12,7 @@ use marks::waiting::Waiting;
 
 mod asked;
 mod consequences;
+mod hints;
 mod kept;
 mod partner;
 mod propagation;
@@ -26,6 +27,7 @@ fn mark_in_order(given: &Given, work: &mut [u8], order: &Order)
 {
     let mut waiting = Waiting::new();
     let lost = LostAbove { given };
+    hints::list(given, work);
     propagation::begin(given, work, &mut waiting, order);
     rules::deal_with_all(&lost, work, &mut waiting);
     rules::close(&lost, work, &mut waiting, order);

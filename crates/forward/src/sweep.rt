@@ -7,7 +7,7 @@ ghost use Rattle.layout.specs.Layouts.{mark_square};
 ghost use Rattle.forward.specs.Rules.{Setting, setting_stays, follows_step, Named, NameLost, Edge, Follows, Step, Kept, ByName, ByRole, ByEdge, EdgeCell, Looked, Row};
 
 use crate::consequences::deal;
-use crate::kept::{is_full, join_below, keep_partners, next_missing};
+use crate::kept::{join_below, keep_partners, next_missing, next_role};
 use crate::partner::look_at_pair;
 use crate::propagation::taking;
 use layout::Given;
@@ -71,20 +71,16 @@ fn look_at_role(given: &Given, work: &mut [u8], x: usize, role: RoleName) -> boo
     look_at_missing(given, work, &kept, x, role)
 }
 
-// The same for each role of the edge of x, until the row is full.
+// The same for each role of the edge of x by which something can be left.
 fn look_at_edge(given: &Given, work: &mut [u8], x: usize) -> bool
     requires setting { Setting given.now work.old }
     requires x_lt_names { x < given.now.layout.names }
     ensures { Pass (Follows given.now) (mark_square given.now.layout) (ByEdge given.now x) work.old work.new result }
 {
-    let roles = given.edges[x];
-    let marks = given.layout.mark_square();
     let mut changed = false;
     let mut next = 0;
-    while let Some(role) = roles.next(next) {
-        if is_full(marks, work, x) {
-            return changed;
-        }
+    // the loop writes the memory that it searches, so no iterator can hold it
+    while let Some(role) = next_role(given, work, x, next) {
         next = role.0 + 1;
         changed |= look_at_role(given, work, x, role);
     }

@@ -1,9 +1,9 @@
--- The edge of x with the role for all nodes at once: a row that is full by the line of kept nodes has nothing left to mark; else what the
--- line lacks is lost.
+-- The edge of x with the role for all nodes at once: a row that is full by what keeps a partner has nothing left to mark; else what the line of
+-- all that do lacks is lost.
 use native.Mathlib.Omega.{arith}
 use Rattle.marks.proofs.Passes.{pass_none}
 use Rattle.marks.proofs.Lines.{empty_zeros}
-use Rattle.forward.proofs.Tested.{role_small, edges_lost, by_role_pass, row_quiet, row_lost}
+use Rattle.forward.proofs.Tested.{role_small, edges_lost, row_kept, row_quiet, row_lost}
 use Rattle.forward.proofs.consequences.lose_row.Goals as goal
 
 pub keep_partners-requires-clause-spans : goal.keep_partners-requires-clause-spans
@@ -14,7 +14,7 @@ keep_partners-requires-clause-role c = role_small c.requires.edge
 
 pub returns-then-keep_partners : goal.returns-then-keep_partners
 returns-then-keep_partners c =
-    row_quiet (by_role_pass c.requires.setting c.requires.edge c.keep_partners.ensures.0 (pass_none (c.keep_partners.ensures.1 c.if-keep_partners.true)))
+    row_quiet (pass_none (row_kept c.keep_partners.ensures.0.only (c.keep_partners.ensures.1 c.if-keep_partners.true)))
 
 pub returns : goal.returns
 returns c =

@@ -3,11 +3,11 @@ use Prim.Native.Nat.{◌-◌, ◌≤◌}
 use Rattle.forward.specs.Rules.{Setting, Followed}
 use Rattle.forward.proofs.consequences.lose_rows.Given as goal
 
-abbrev pub invariant-loop-next : goal.invariant-loop-next
-invariant-loop-next l =
+abbrev pub invariant-loop-role : goal.invariant-loop-role
+invariant-loop-role l =
     (l.next ≤ 32)
     × Setting l.given l.work
     × Followed l.given l.initial.work l.work
 
-abbrev pub decreases-loop-next : goal.decreases-loop-next
-decreases-loop-next l = 32 - l.next
+abbrev pub decreases-loop-role : goal.decreases-loop-role
+decreases-loop-role l = 32 - l.next

@@ -5,11 +5,11 @@ use Rattle.layout.specs.Layouts.{mark_square}
 use Rattle.forward.specs.Rules.{Setting, Follows, ByRole}
 use Rattle.forward.proofs.sweep.look_at_edge.Given as goal
 
-abbrev pub invariant-loop-next : goal.invariant-loop-next
-invariant-loop-next l =
+abbrev pub invariant-loop-role : goal.invariant-loop-role
+invariant-loop-role l =
     (l.next ≤ 32)
     × Setting l.given l.work
     × Pass (Follows l.given) (mark_square l.given.layout) (Below (ByRole l.given l.x) l.next) l.initial.work l.work l.changed
 
-abbrev pub decreases-loop-next : goal.decreases-loop-next
-decreases-loop-next l = 32 - l.next
+abbrev pub decreases-loop-role : goal.decreases-loop-role
+decreases-loop-role l = 32 - l.next
