@@ -135,11 +135,86 @@ fn shaped(inputs: &[Input], keep: impl Fn(&Shape) -> bool) -> Vec<Input> {
     inputs.iter().flat_map(|input| shapes.iter().map(|shape| shape.input(input))).collect()
 }
 
-/// The comparisons of the folder that are numbered at random.
+/// The comparisons of the folder that are numbered at random, and those in which rows stay open by all roles.
 fn at_random(folder: &Path) -> Vec<Input> {
     let mut inputs = inputs::from_folder(folder);
     inputs.retain(|input| input.name.ends_with("_perm"));
+    inputs.extend(open_rows());
     inputs
+}
+
+/// How many names these have, a prime number, and by what a name is multiplied so that what is made one after the other is spread.
+const NAMES: u16 = 127;
+const SPREAD: u16 = 50;
+
+/// A release in the making: its names are handed out one after the other.
+#[derive(Clone)]
+struct Draft {
+    axioms: Vec<Axiom>,
+    used: u16,
+}
+
+impl Draft {
+    fn new() -> Draft {
+        Draft { axioms: vec![Axiom::None; NAMES.into()], used: 0 }
+    }
+
+    /// The next name, with an axiom.
+    fn name(&mut self, axiom: Axiom) -> u16 {
+        let name = self.used * SPREAD % NAMES;
+        self.used += 1;
+        self.axioms[usize::from(name)] = axiom;
+        name
+    }
+
+    fn restriction(&mut self, role: u8, filler: u16) -> u16 {
+        self.name(Axiom::Some { equal: false, role, filler: Some(filler) })
+    }
+
+    fn conjunction(&mut self, parts: &[u16]) -> u16 {
+        let mut parts = parts.to_vec();
+        parts.sort();
+        self.name(Axiom::Conjunction { equal: false, parts })
+    }
+}
+
+/// The two releases of a draft: each name left is below a restriction with the lowest role in the first one, and in the second below these names.
+fn lowest_against(draft: Draft, filler: u16, names: &[u16]) -> Call {
+    let [mut first, mut second] = [draft.clone(), draft];
+    while first.used < NAMES {
+        first.restriction(0, filler);
+        second.conjunction(names);
+    }
+    let [first, second] =
+        [first, second].map(|draft| file_of(Version::Three, NAMES.into(), ROLES.into(), &[], &draft.axioms));
+    let names = (0..NAMES).map(|name| (name % SPREAD == 0) as u8);
+    let signature = names.chain([1; ROLES as usize]).collect();
+    Call::Compare { first, second, signature }
+}
+
+/// Comparisons in which names have an edge with the lowest role in the first release, and in the second a partner with each role: where all roles
+/// lie above the lowest one, rows stay open whichever role is looked at. In the second of them each role loses one more node.
+fn open_rows() -> [Input; 2] {
+    let mut draft = Draft::new();
+    let filler = draft.name(Axiom::None);
+    let restrictions: Vec<u16> = (0..ROLES).map(|role| draft.restriction(role, filler)).collect();
+    let halves: Vec<u16> = restrictions.chunks(16).map(|half| draft.conjunction(half)).collect();
+    let all = lowest_against(draft, filler, &halves);
+
+    let mut draft = Draft::new();
+    let filler = draft.name(Axiom::None);
+    let restrictions: Vec<u16> = (0..ROLES).map(|role| draft.restriction(role, filler)).collect();
+    let quarters: Vec<u16> = restrictions.chunks(4).map(|quarter| draft.conjunction(quarter)).collect();
+    for missing in 0..restrictions.len() {
+        let others = quarters.iter().enumerate().filter(|(quarter, _)| *quarter != missing / 4).map(|(_, &name)| name);
+        let near =
+            (missing / 4 * 4..missing / 4 * 4 + 4).filter(|&role| role != missing).map(|role| restrictions[role]);
+        draft.conjunction(&others.chain(near).collect::<Vec<_>>());
+    }
+    let each = lowest_against(draft, filler, &quarters);
+
+    [("open_by_all_roles_127", all), ("open_by_all_but_each_127", each)]
+        .map(|(name, call)| Input { name: name.to_string(), call })
 }
 
 /// These in each shape.
@@ -195,7 +270,8 @@ pub fn table(what: &str, inputs: &[Input]) -> bool {
 pub fn named(name: &str, find: impl Fn(&str) -> Option<Input>) -> Option<Input> {
     let shape = shape_of(name)?;
     let base = name.replacen(&format!("+{}", shape.name), "", 1);
-    find(&base).map(|input| shape.input(&input))
+    let open = open_rows().into_iter().find(|input| input.name == base);
+    open.or_else(|| find(&base)).map(|input| shape.input(&input))
 }
 
 #[cfg(test)]
