@@ -1,6 +1,7 @@
 -- Laws of the rules of forward marks.
 --   joined_below, second_small, join_asks     what lies below a name, by a row of the turned inclusions
---   KeptTo, kept_more                     the line of the nodes that the names before one keep
+--   bit_away                              a role's bit that the set has not
+--   KeptTo, kept_more, kept_past          the line of the nodes that the names before one keep
 --   partnered_none, partnered_more, row_kept     a line of nodes with a partner, and a row that it leaves none to lose
 --   quiet_start .. open_full              the next role of an edge by which something can be left to mark
 --   roles_to, roles_end                   the roles of an edge, one after the other
@@ -20,16 +21,17 @@ use mathlib.Core.Path.{◌≡◌, sym, ap, ◌∙◌}
 use mathlib.Core.Bool.{Bool, true, false, not, ◌||◌, true≢false, false≢true}
 use mathlib.Core.List.{List}
 use mathlib.Core.Logic.{◌⊎◌, inl, inr}
-use Prim.Native.Nat.{ℕ, suc, ◌+◌, ◌≤◌, ◌<◌}
+use Prim.Native.Nat.{ℕ, suc, ◌+◌, ◌/◌, ◌%◌, ◌^◌, ◌≤◌, ◌<◌}
 use native.Mathlib.Omega.{arith}
 use native.Mathlib.Decide.{ℕ_discrete, dec_lt}
-use Rattle.std.specs.Prelude.{Option, None, Some, is_some}
+use Rattle.std.specs.Prelude.{eqb, Option, None, Some, is_some}
 use Rattle.release.specs.Files.{most_roles}
 use Rattle.release.specs.declared.RoleName.{RoleName}
+use Rattle.release.specs.Roles.{HasRole}
 use Rattle.release.specs.Tables.{filler_at, HasSuccessor}
 use Rattle.marks.specs.declared.Square.{Square}
 use Rattle.marks.specs.Squares as squares
-use Rattle.marks.specs.Squares.{behind, Small, Room, First, Nowhere, Marked, NotMarked, NextUnmarked, Apart, Frame, Put}
+use Rattle.marks.specs.Squares.{bit, behind, Small, Room, First, Nowhere, Marked, NotMarked, NextUnmarked, Apart, Frame, Put}
 use Rattle.marks.specs.Passes.{Grows, Pass, Below, FromRow}
 use Rattle.marks.specs.Lines.{Has, Spans, Empty, Joined, Missing, Full}
 use Rattle.marks.specs.Inclusions.{Taking, Takes}
@@ -85,6 +87,25 @@ kept_more {given} {w} {z} {r} {c} {i} {j} serves joined k = record {
     by_place : (y d : ℕ) → y ≤ given.layout.names → d < c + 1 → Partner given w z y r d → Dec (d ≡ c) → Has j y
     by_place y d h o p (yes e) = let q : Partner given w z y r c = rw e at p in joined.has y h q.second
     by_place y d h o p (no e) = joined.stays y (k.has y d h (omega arith) p)
+
+-- the bit of a role that the set has not
+pub bit_away : {set r : ℕ} → eqb (set / 2 ^ (r % 32) % 2) 1 ≡ false → r < 32 → HasRole set r → ⊥
+unfolding bit
+bit_away {set} {r} e l h =
+    let own : r % 32 ≡ r = omega arith in
+    let there : set / 2 ^ (r % 32) % 2 ≡ 1 = rw own h.is in
+    false≢true (sym (rw there at e))
+
+-- a name more, which does not serve
+pub kept_past : {given : Given} {w : List ℕ} {z r c : ℕ} {k : List ℕ} → (Serves given.second.table.now (mark_square given.layout) w z r c → ⊥) → KeptTo given w z r c k → KeptTo given w z r (c + 1) k
+kept_past {given} {w} {z} {r} {c} {k} none kept = record {
+  has = λ y d h o p. by_place y d h o p (ℕ_discrete d c);
+  only = λ y h e. let s = kept.only y h e in record { it = s.it; below = omega (arith, s.below); holds = s.holds };
+}
+  where
+    by_place : (y d : ℕ) → y ≤ given.layout.names → d < c + 1 → Partner given w z y r d → Dec (d ≡ c) → Has k y
+    by_place y d h o p (yes e) = absurd (none (rw e at p.serves))
+    by_place y d h o p (no e) = kept.has y d h (omega arith) p
 
 -- a line of nodes with a partner: an empty one, one with what lies below a name more that serves, and one that leaves a row none to lose
 pub partnered_none : {given : Given} {w : List ℕ} {z r : ℕ} {k : List ℕ} → Empty k → Partnered given w z r k

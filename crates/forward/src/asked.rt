@@ -1,9 +1,9 @@
 // A role that is asked for in the second release, with the roles that serve for it. They are taken from the table of roles once, before a
 // loop over names; the role itself is what contracts speak of.
-ghost use Rattle.std.specs.Prelude.{◌≡◌, ◌<◌};
+ghost use Rattle.std.specs.Prelude.{◌≡◌, false, ◌<◌};
 ghost use Rattle.release.specs.Files.{most_roles};
 ghost use Rattle.release.specs.Tables.{role_at, serves_at, SuccessorOf, HasRow};
-ghost use Rattle.forward.specs.Asking.{Asks, SmallRole};
+ghost use Rattle.forward.specs.Asking.{Asks, SmallRole, Idle};
 
 use release::RoleName;
 use release::roles::RoleSet;
@@ -24,6 +24,16 @@ impl Asked {
             role,
             serving: second.under(role),
         }
+    }
+
+    // Whether the role of a name can serve, as far as a bit tells, whatever that is of a name without a restriction: three instructions.
+    pub fn may_serve(self, second: &Terminology, name: usize) -> bool
+        requires asks { Asks second.now.table.now self }
+        requires row { HasRow name }
+        requires small { SmallRole second.now.table.now name }
+        ensures { result ≡ false → Idle second.now.table.now self name }
+    {
+        (self.serving.0 >> (second.role(name).0 % 32)) % 2 == 1
     }
 
     // Whether the role of a restriction serves.

@@ -61,14 +61,14 @@ pub fn join_below(given: &Given, work: &[u8], line: &mut [u8], name: usize)
 }
 
 // Adds all nodes that have an edge with the role by the second release, to a node that `end` is not marked with.
-fn keep(given: &Given, work: &[u8], kept: &mut [u8], end: usize, asked: Asked)
+fn keep_of_any(given: &Given, work: &[u8], kept: &mut [u8], end: usize, asked: Asked)
     requires asks { Asks given.now.second.table.now asked }
     requires room { Room (mark_square given.now.layout) work.now × Beneath given.now.layout work.now }
     requires spans { Spans given.now.layout.names kept.old × Empty kept.old }
     requires end_le_names { end ≤ given.now.layout.names }
     ensures { Kept given.now work.now end asked.role.0 kept.new }
 {
-    // in variables of its own, so that a turn reads them from registers
+    // in variables of its own, so that a turn reads them from registers; so too the next one
     let second = given.second;
     let marks = given.layout.mark_square();
     let below = below(given.layout);
@@ -77,6 +77,43 @@ fn keep(given: &Given, work: &[u8], kept: &mut [u8], end: usize, asked: Asked)
             continue;
         }
         below.join(work, name, kept);
+    }
+}
+
+// The same in less time where there are several roles: most names have another one, so that is asked before all else.
+fn keep_of_role(given: &Given, work: &[u8], kept: &mut [u8], end: usize, asked: Asked)
+    requires asks { Asks given.now.second.table.now asked }
+    requires room { Room (mark_square given.now.layout) work.now × Beneath given.now.layout work.now }
+    requires spans { Spans given.now.layout.names kept.old × Empty kept.old }
+    requires end_le_names { end ≤ given.now.layout.names }
+    ensures { Kept given.now work.now end asked.role.0 kept.new }
+{
+    let second = given.second;
+    let marks = given.layout.mark_square();
+    let below = below(given.layout);
+    for name in 0..marks.names {
+        if !asked.may_serve(&second, name) {
+            continue;
+        }
+        if !serves(&second, marks, work, end, asked, name) {
+            continue;
+        }
+        below.join(work, name, kept);
+    }
+}
+
+// The same by whichever is quicker.
+fn keep(given: &Given, work: &[u8], kept: &mut [u8], end: usize, asked: Asked)
+    requires asks { Asks given.now.second.table.now asked }
+    requires room { Room (mark_square given.now.layout) work.now × Beneath given.now.layout work.now }
+    requires spans { Spans given.now.layout.names kept.old × Empty kept.old }
+    requires end_le_names { end ≤ given.now.layout.names }
+    ensures { Kept given.now work.now end asked.role.0 kept.new }
+{
+    if 1 < given.layout.roles {
+        keep_of_role(given, work, kept, end, asked);
+    } else {
+        keep_of_any(given, work, kept, end, asked);
     }
 }
 
@@ -176,7 +213,7 @@ fn is_full(marks: Square, work: &[u8], x: usize) -> bool
     requires x_le_names { x ≤ marks.names }
     ensures { result ≡ true → RowFull marks x work.now }
 {
-    marks.next_unmarked(work, x, 0).is_none()
+    marks.is_marked(work, x, x) && marks.next_unmarked(work, x, 0).is_none()
 }
 
 // The first role of the edge of x from `from` on by which something can be left to mark: none where the row is full. An edge may have as many roles

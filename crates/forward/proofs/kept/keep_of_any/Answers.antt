@@ -1,7 +1,7 @@
 -- All names, one after the other. Invariant: the line has just what the names before this one keep.
 use native.Mathlib.Omega.{arith}
 use Rattle.forward.proofs.Tested.{second_small, join_asks, joined_below, kept_more}
-use Rattle.forward.proofs.kept.keep.Goals as goal
+use Rattle.forward.proofs.kept.keep_of_any.Goals as goal
 
 pub below-below-requires : goal.below-below-requires
 below-below-requires c = second_small c.requires.room.1

@@ -1,0 +1,22 @@
+-- All names with the role, one after the other. Invariant: the line has just what the names before this one keep.
+use native.Mathlib.Omega.{arith}
+use Rattle.forward.proofs.Tested.{second_small, join_asks, joined_below, kept_more, kept_past}
+use Rattle.forward.proofs.kept.keep_of_role.Goals as goal
+
+pub below-below-requires : goal.below-below-requires
+below-below-requires c = second_small c.requires.room.1
+
+pub join-requires : goal.join-requires
+join-requires c =
+    let name = rw c.mark_square-marks.ensures at c.loop-name-test.true in
+    let asked = join_asks c.below-below.ensures c.requires.room.1 name (record { inside = omega (arith, c.requires.spans.0.inside, c.loop-name.auto.kept) }) in
+    record { room = asked.0; x_le_names = asked.1.0; spans = asked.1.1 }
+
+pub loop-name-preserved : goal.loop-name-preserved
+loop-name-preserved c =
+    let name = rw c.mark_square-marks.ensures at c.loop-name-test.true in
+    let serves = rw c.mark_square-marks.ensures at (c.serves.ensures.sound c.if-not-serves.false) in
+    kept_more serves (joined_below c.below-below.ensures c.requires.room.1 name c.join.ensures) c.loop-name.invariant
+
+pub loop-name-preserved-then-not-may_serve : goal.loop-name-preserved-then-not-may_serve
+loop-name-preserved-then-not-may_serve c = kept_past (λ s. (c.may_serve.ensures c.if-not-may_serve.true).none s.is_restriction s.role) c.loop-name.invariant
