@@ -7,6 +7,8 @@ ghost use Rattle.release.specs.Files.{most_names, most_roles};
 use crate::marking::unmark;
 use crate::result::write_bytes;
 use layout::Layout;
+use release::Release;
+use release::roles::RoleSet;
 use release::terminology::Terminology;
 
 mod marking;
@@ -53,14 +55,21 @@ impl<'a> Releases<'a> {
         layout
     }
 
-    // Marks, and writes the byte of each name into the first bytes of `result_bytes`.
-    fn write_marked(&self, signature: &[u8], result_bytes: &mut [u8], work: &mut [u8])
+    // Marks, and writes the byte of each name into the first bytes of `result_bytes`. What `edges` holds before does not matter.
+    fn write_marked(
+        &self,
+        signature: &[u8],
+        result_bytes: &mut [u8],
+        edges: &mut [RoleSet],
+        work: &mut [u8],
+    )
         requires given { Given signature.now self.now work.old }
         requires ready { Ready self.now work.old }
         requires names_in_bounds { self.now.names ≤ length result_bytes.old }
+        requires edges_in_bounds { self.now.names ≤ length edges.old }
         ensures { Marking signature.now self.now result_bytes.old result_bytes.new work.old work.new }
     {
-        self.mark(signature, work);
+        self.mark(signature, edges, work);
         let forward = self.forward_layout();
         let backward = self.backward_layout();
         write_bytes(signature, work, result_bytes, forward, backward);
@@ -73,18 +82,28 @@ impl<'a> Releases<'a> {
         ensures { Compared signature.now self.now result_bytes.old result_bytes.new work.old work.new }
     {
         self.prepare(work);
-        self.write_marked(signature, result_bytes, work);
+        // A local array, since there is no heap.
+        let mut edges = [RoleSet::NONE; Release::NAMES];
+        self.write_marked(signature, result_bytes, &mut edges, work);
         marks::clear(work, marks::work_length(self.names));
     }
 
-    // The same in memory that is prepared for the two releases, and is left as it was: for the next signature.
-    pub fn compare_prepared(&self, signature: &[u8], result_bytes: &mut [u8], work: &mut [u8])
+    // The same in memory that is prepared for the two releases, and is left as it was: for the next signature. `edges` is
+    // written over, and lent so that it is made once for all signatures.
+    pub fn compare_prepared(
+        &self,
+        signature: &[u8],
+        result_bytes: &mut [u8],
+        edges: &mut [RoleSet],
+        work: &mut [u8],
+    )
         requires given { Given signature.now self.now work.old }
         requires ready { Ready self.now work.old }
         requires names_in_bounds { self.now.names ≤ length result_bytes.old }
+        requires edges_in_bounds { self.now.names ≤ length edges.old }
         ensures { ComparedAgain signature.now self.now result_bytes.old result_bytes.new work.old work.new }
     {
-        self.write_marked(signature, result_bytes, work);
+        self.write_marked(signature, result_bytes, edges, work);
         unmark(work, marks::size(self.names));
     }
 }

@@ -10,7 +10,6 @@ use crate::Releases;
 use backward::mark_lost_below;
 use forward::mark_lost_above;
 use layout::edges::{Position, find_edges};
-use release::Release;
 use release::roles::RoleSet;
 use signature::LentSignature;
 
@@ -58,38 +57,38 @@ impl<'a> Releases<'a> {
     // Fills the third square: the forward marks. Never inlined, nor is the next function: what each of them keeps need not stand on the stack
     // together.
     #[inline(never)]
-    fn mark_above(&self, signature: &[u8], work: &mut [u8])
+    fn mark_above(&self, signature: &[u8], edges: &mut [RoleSet], work: &mut [u8])
         requires given { Given signature.now self.now work.old }
         requires ready { Ready self.now work.old }
+        requires names_in_bounds { self.now.names ≤ length edges.old }
         ensures { Forwarded signature.now self.now.first.file.now self.now.second.file.now (forward_layout self.now) work.old work.new }
     {
-        // an array, since there is no heap; so it is below
-        let mut edges = [RoleSet::NONE; Release::NAMES];
-        let given = self.given(signature, Position::Above, &mut edges);
+        let given = self.given(signature, Position::Above, edges);
         mark_lost_above(&given, work);
     }
 
     // Fills the last square: the backward marks.
     #[inline(never)]
-    fn mark_below(&self, signature: &[u8], work: &mut [u8])
+    fn mark_below(&self, signature: &[u8], edges: &mut [RoleSet], work: &mut [u8])
         requires given { Given signature.now self.now work.old }
         requires ready { BackwardReady self.now work.old }
+        requires names_in_bounds { self.now.names ≤ length edges.old }
         ensures { Backwarded signature.now self.now.first.file.now self.now.second.file.now (backward_layout self.now) work.old work.new }
     {
-        let mut edges = [RoleSet::NONE; Release::NAMES];
-        let mut given = self.given(signature, Position::Below, &mut edges);
+        let mut given = self.given(signature, Position::Below, edges);
         given.layout = self.backward_layout();
         mark_lost_below(&given, work);
     }
 
-    // Fills both.
-    pub fn mark(&self, signature: &[u8], work: &mut [u8])
+    // Fills both, with the same array for the edges.
+    pub fn mark(&self, signature: &[u8], edges: &mut [RoleSet], work: &mut [u8])
         requires given { Given signature.now self.now work.old }
         requires ready { Ready self.now work.old }
+        requires names_in_bounds { self.now.names ≤ length edges.old }
         ensures { AllMarked signature.now self.now work.old work.new }
     {
-        self.mark_above(signature, work);
-        self.mark_below(signature, work);
+        self.mark_above(signature, edges, work);
+        self.mark_below(signature, edges, work);
     }
 }
 

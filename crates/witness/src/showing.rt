@@ -41,9 +41,10 @@ fn is_reported_on(releases: &Releases, signature: &[u8], work: &mut [u8], asked:
     requires { ToAsk signature.now releases.now work.old asked }
     ensures { ReportFound signature.now releases.now work.old work.new asked result }
 {
-    // A local array, since there is no heap; so it is below.
+    // Local arrays, since there is no heap; so are those below.
     let mut result = [0u8; Release::NAMES];
-    releases.compare_prepared(signature, &mut result, work);
+    let mut edges = [RoleSet::NONE; Release::NAMES];
+    releases.compare_prepared(signature, &mut result, &mut edges, work);
     match asked.side {
         Side::Left => on_left(result[asked.name.0]),
         Side::Right => on_right(result[asked.name.0]),

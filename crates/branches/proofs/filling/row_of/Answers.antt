@@ -5,7 +5,7 @@ use mathlib.Core.Path.{refl, sym}
 use Rattle.branches.proofs.filling.row_of.Goals as goal
 
 pub compare_prepared-requires : goal.compare_prepared-requires
-compare_prepared-requires c = record { given = c.requires.given; ready = c.requires.ready; names_in_bounds = c.args.releases.now.few }
+compare_prepared-requires c = record { given = c.requires.given; ready = c.requires.ready; names_in_bounds = c.args.releases.now.few; edges_in_bounds = c.requires.edges_in_bounds }
 
 pub slice_bounds-tell-end : goal.slice_bounds-tell-end
 slice_bounds-tell-end c = sym (length-take-le _ _ (names_lent c.requires.given))

@@ -4,7 +4,7 @@ use Rattle.comparison.proofs.Pipeline.{handable, backward_asks, backwarded}
 use Rattle.comparison.proofs.Releases.mark_below.Goals as goal
 
 pub given-given-requires : goal.given-given-requires
-given-given-requires c = record { ranged = handable c.requires.given.both c.requires.given.signature; names_in_bounds = omega (arith, c.args.self.now.few) }
+given-given-requires c = record { ranged = handable c.requires.given.both c.requires.given.signature; names_in_bounds = c.requires.names_in_bounds }
 
 pub mark_lost_below-requires : goal.mark_lost_below-requires
 mark_lost_below-requires c =
