@@ -3,11 +3,14 @@
 -- lowest by the second release are kept: one for which another serves there has each partner of that other, so it is lost only with it.
 --   lies p a q r                  the role r lies so to the role q by the table
 --   RoleChosen p g a n m q r      so it does, and it is in the signature
---   RolesFound p g a n m q set    these are the roles of the set
+--   ChosenRoles g n m set         the set has just the roles of the signature
+--   EachAlone a                   by the table no role lies under another
+--   RoleLies p a set q r          the role r is in the set, and lies so to q;  RolesFound p a set q found: these are the roles that are found
 --   Stands p b q r                the role q stands for r: above, where it serves for it by the second release; below, for itself alone
 --   StandsFor p b set r           one of the set stands for r
 --   Lowest b set kept             some roles of the set, of which one serves for each of the set by a release with the table b
---   RolesStand p g a b n m q set  the set has roles that are chosen for q, and one that stands for each of these;  EachStands: so it is for each q
+--   RolesStand p a b set q found  found are roles of the set that lie so to q, and one that stands for each of these
+--   EachStands p g a b n m sets   so it is for each q, of the roles of the signature
 --   EdgesOf a sets x set          the roles of x's edge: those of its own role, where its axiom is a restriction
 --   EdgeChosen p g a n m x r      the axiom of x is a restriction, and r is chosen for its role
 --   Found p g a b n m edges       that is told of each name: its edge has roles that are chosen for it, and one that stands for each of these
@@ -32,8 +35,18 @@ pub record RoleChosen (p : Position) (g : List ℕ) (a : Table) (n m q r : ℕ) 
   pub in_signature : (signature_of n m g).has_role r ≡ true
   pub lies : lies p a q r ≡ true
 
-pub record RolesFound (p : Position) (g : List ℕ) (a : Table) (n m q set : ℕ) : Type 0 where
-  pub tells : (r : ℕ) → HasRole set r ↔ RoleChosen p g a n m q r
+pub record ChosenRoles (g : List ℕ) (n m set : ℕ) : Type 0 where
+  pub tells : (r : ℕ) → HasRole set r ↔ ((signature_of n m g).has_role r ≡ true)
+
+pub record EachAlone (a : Table) : Type 0 where
+  pub alone : (q r : ℕ) → r < most_roles → serves_at a q r ≡ true → q ≡ r
+
+pub record RoleLies (p : Position) (a : Table) (set q r : ℕ) : Type 0 where
+  pub in_set : HasRole set r
+  pub lies : lies p a q r ≡ true
+
+pub record RolesFound (p : Position) (a : Table) (set q found : ℕ) : Type 0 where
+  pub tells : (r : ℕ) → HasRole found r ↔ RoleLies p a set q r
 
 abbrev pub Stands : Position → Table → ℕ → ℕ → Type 0
 Stands Above b q r = serves_at b q r ≡ true
@@ -49,12 +62,14 @@ pub record Lowest (b : Table) (set kept : ℕ) : Type 0 where
   pub sound : (r : ℕ) → HasRole kept r → HasRole set r
   pub complete : (t : List ℕ) → Release t b → (r : ℕ) → HasRole set r → StandsFor Above b kept r
 
-pub record RolesStand (p : Position) (g : List ℕ) (a b : Table) (n m q set : ℕ) : Type 0 where
-  pub sound : (r : ℕ) → HasRole set r → RoleChosen p g a n m q r
-  pub complete : (t : List ℕ) → Release t b → (r : ℕ) → RoleChosen p g a n m q r → StandsFor p b set r
+pub record RolesStand (p : Position) (a b : Table) (set q found : ℕ) : Type 0 where
+  pub sound : (r : ℕ) → HasRole found r → RoleLies p a set q r
+  pub complete : (t : List ℕ) → Release t b → (r : ℕ) → RoleLies p a set q r → StandsFor p b found r
 
 pub record EachStands (p : Position) (g : List ℕ) (a b : Table) (n m : ℕ) (sets : List RoleSet) : Type 0 where
-  pub role : (q : ℕ) → q < most_roles → RolesStand p g a b n m q (edges_at sets q)
+  pub set : ℕ
+  pub chosen : ChosenRoles g n m set
+  pub role : (q : ℕ) → q < most_roles → RolesStand p a b set q (edges_at sets q)
 
 pub record EdgeChosen (p : Position) (g : List ℕ) (a : Table) (n m x r : ℕ) : Type 0 where
   pub is_restriction : restricts (kind_at a x) ≡ true

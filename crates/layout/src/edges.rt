@@ -1,10 +1,10 @@
 // What is found of a signature before marks are put: with which of its roles each name of the first release has an edge. The functions that
 // put marks are handed that for each name, and none of the signature's roles.
-ghost use Rattle.std.specs.Prelude.{◌≡◌, ◌≤◌, ◌<◌, length};
+ghost use Rattle.std.specs.Prelude.{◌≡◌, true, ◌≤◌, ◌<◌, length};
 ghost use Rattle.release.specs.Files.{most_roles};
 ghost use Rattle.release.specs.Tables.{HasRow};
 ghost use Rattle.layout.specs.Tables.{Rowed};
-ghost use Rattle.layout.specs.Findings.{lies, RolesFound, Lowest, RolesStand, EachStands, EdgesOf, Found};
+ghost use Rattle.layout.specs.Findings.{lies, EachAlone, ChosenRoles, RolesFound, Lowest, RolesStand, EachStands, EdgesOf, Found};
 
 use release::roles::RoleSet;
 use release::terminology::Terminology;
@@ -29,24 +29,67 @@ fn lies(position: Position, first: &Terminology, own: RoleName, role: RoleName) 
     }
 }
 
-// The roles of the signature that lie so to a role.
+// The roles of the signature as a set: they are looked at once, and not again for each role of an axiom.
+fn chosen_roles(signature: &LentSignature) -> RoleSet
+    requires few { signature.now.roles ≤ most_roles }
+    ensures { ChosenRoles signature.now.bytes.now signature.now.names signature.now.roles result.0 }
+{
+    let mut chosen = RoleSet::NONE;
+    for number in 0..signature.roles {
+        let role = RoleName(number as u8);
+        if signature.has_role(role) {
+            chosen = chosen.with(role);
+        }
+    }
+    chosen
+}
+
+// Whether by the release no role lies under another, as without pairs.
+fn are_alone(first: &Terminology) -> bool
+    ensures { result ≡ true → EachAlone first.now.table.now }
+{
+    for number in 0..Release::ROLES {
+        let role = RoleName(number as u8);
+        let others = first.under(role).without(RoleSet::NONE.with(role));
+        if !others.is_empty() {
+            return false;
+        }
+    }
+    true
+}
+
+// Those of some roles that lie so to a role.
+fn find_among(among: RoleSet, first: &Terminology, position: Position, own: RoleName) -> RoleSet
+    ensures { RolesFound position first.now.table.now among.0 own.0 result.0 }
+{
+    let mut found = RoleSet::NONE;
+    let mut next = 0;
+    while let Some(role) = among.next(next) {
+        if lies(position, first, own, role) {
+            found = found.with(role);
+        }
+        next = role.0 + 1;
+    }
+    found
+}
+
+// Those of the chosen roles. Where no role lies under another, only the role itself has to be looked at.
 fn find_roles(
-    signature: &LentSignature,
+    chosen: RoleSet,
+    alone: bool,
     first: &Terminology,
     position: Position,
     own: RoleName,
 ) -> RoleSet
-    requires few { signature.now.roles ≤ most_roles }
-    ensures { RolesFound position signature.now.bytes.now first.now.table.now signature.now.names signature.now.roles own.0 result.0 }
+    requires alone { alone ≡ true → EachAlone first.now.table.now }
+    requires small { own.0 < most_roles }
+    ensures { RolesFound position first.now.table.now chosen.0 own.0 result.0 }
 {
-    let mut found = RoleSet::NONE;
-    for number in 0..signature.roles {
-        let role = RoleName(number as u8);
-        if signature.has_role(role) && lies(position, first, own, role) {
-            found = found.with(role);
-        }
+    if alone {
+        let itself = RoleSet::NONE.with(own);
+        return find_among(chosen.meet(itself), first, position, own);
     }
-    found
+    find_among(chosen, first, position, own)
 }
 
 // The lowest of the roles by the second release: a role for which another one serves is left out, but for one of those that serve for each
@@ -70,18 +113,18 @@ fn lowest(second: &Terminology, roles: RoleSet) -> RoleSet
 
 // Those of the roles that stand for all. Backward marks ask all those below at once, so none of these is left out.
 fn find_standing(
-    signature: &LentSignature,
+    chosen: RoleSet,
+    alone: bool,
     first: &Terminology,
     second: &Terminology,
     position: Position,
     own: RoleName,
 ) -> RoleSet
-    requires few { signature.now.roles ≤ most_roles }
-    ensures { RolesStand
-        position signature.now.bytes.now first.now.table.now second.now.table.now signature.now.names signature.now.roles own.0
-        result.0 }
+    requires alone { alone ≡ true → EachAlone first.now.table.now }
+    requires small { own.0 < most_roles }
+    ensures { RolesStand position first.now.table.now second.now.table.now chosen.0 own.0 result.0 }
 {
-    let roles = find_roles(signature, first, position, own);
+    let roles = find_roles(chosen, alone, first, position, own);
     match position {
         Position::Above => lowest(second, roles),
         Position::Below => roles,
@@ -99,9 +142,11 @@ fn find_each_role(
     ensures { EachStands
         position signature.now.bytes.now first.now.table.now second.now.table.now signature.now.names signature.now.roles result }
 {
+    let chosen = chosen_roles(signature);
+    let alone = are_alone(first);
     let mut sets = [RoleSet::NONE; Release::ROLES];
     for own in 0..Release::ROLES {
-        sets[own] = find_standing(signature, first, second, position, RoleName(own as u8));
+        sets[own] = find_standing(chosen, alone, first, second, position, RoleName(own as u8));
     }
     sets
 }

@@ -12,4 +12,4 @@ pub loop-own-preserved : goal.loop-own-preserved
 loop-own-preserved c = (length-set _ _ _ ∙ c.loop-own.invariant.0, written_more c.find_standing.result (omega (arith, c.loop-own.invariant.0)) c.loop-own.invariant.1 c.find_standing.ensures)
 
 pub returns : goal.returns
-returns c = record { role = λ q h. c.loop-own.invariant.1.at q (omega arith) }
+returns c = record { set = c.chosen_roles-chosen.result.0; chosen = c.chosen_roles-chosen.ensures; role = λ q h. c.loop-own.invariant.1.at q (omega arith) }

@@ -7,4 +7,4 @@ use Rattle.layout.proofs.edges.find_each_role.Given as goal
 abbrev pub invariant-loop-own : goal.invariant-loop-own
 invariant-loop-own l =
     (length l.sets ≡ 32)
-    × Written (RolesStand l.position l.signature.bytes.now l.first.table.now l.second.table.now l.signature.names l.signature.roles) l.own l.sets
+    × Written (RolesStand l.position l.first.table.now l.second.table.now l.chosen.0) l.own l.sets
