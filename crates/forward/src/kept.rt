@@ -60,7 +60,9 @@ pub fn join_below(given: &Given, work: &[u8], line: &mut [u8], name: usize)
     below(given.layout).join(work, name, line);
 }
 
-// Adds all nodes that have an edge with the role by the second release, to a node that `end` is not marked with.
+// Adds all nodes that have an edge with the role by the second release, to a node that `end` is not marked with. It stands in its callers' code,
+// as do the next three, where the line is known to be apart from the work memory.
+#[inline(always)]
 fn keep_of_any(given: &Given, work: &[u8], kept: &mut [u8], end: usize, asked: Asked)
     requires asks { Asks given.now.second.table.now asked }
     requires room { Room (mark_square given.now.layout) work.now × Beneath given.now.layout work.now }
@@ -81,6 +83,7 @@ fn keep_of_any(given: &Given, work: &[u8], kept: &mut [u8], end: usize, asked: A
 }
 
 // The same in less time where there are several roles: most names have another one, so that is asked before all else.
+#[inline(always)]
 fn keep_of_role(given: &Given, work: &[u8], kept: &mut [u8], end: usize, asked: Asked)
     requires asks { Asks given.now.second.table.now asked }
     requires room { Room (mark_square given.now.layout) work.now × Beneath given.now.layout work.now }
@@ -103,6 +106,7 @@ fn keep_of_role(given: &Given, work: &[u8], kept: &mut [u8], end: usize, asked: 
 }
 
 // The same by whichever is quicker.
+#[inline(always)]
 fn keep(given: &Given, work: &[u8], kept: &mut [u8], end: usize, asked: Asked)
     requires asks { Asks given.now.second.table.now asked }
     requires room { Room (mark_square given.now.layout) work.now × Beneath given.now.layout work.now }
@@ -119,7 +123,6 @@ fn keep(given: &Given, work: &[u8], kept: &mut [u8], end: usize, asked: Asked)
 
 // The line of the edge of x with the role: all nodes that have a partner of it. Where it answers yes, row x is marked with all others; a no
 // says nothing.
-// It stands in its callers' code, where the line is known to be apart from the work memory.
 #[inline(always)]
 pub fn keep_partners(given: &Given, work: &[u8], kept: &mut [u8], x: usize, role: RoleName) -> bool
     requires room { Room (mark_square given.now.layout) work.now × Beneath given.now.layout work.now }
