@@ -14,8 +14,8 @@
  * entry it may hold anything.
  *
  * Nothing is kept between calls, and none allocates memory. Any number of threads may call at the same time, each with memory of its own to
- * write to. A call uses less than 72 KiB of stack, whatever it is lent: measured, 72,616 bytes for a session's start, 48,552 for a step, at most
- * 34,112 for a comparison, a sheet, a report or a concept, 28,904 for a question, 20,120 for a shown axiom, 16,936 for what reads a session and
+ * write to. A call uses less than 72 KiB of stack, whatever it is lent: measured, 72,776 bytes for a session's start, 48,712 for a step, at most
+ * 34,568 for a comparison, a sheet, a report or a concept, 28,904 for a question, 20,120 for a shown axiom, 16,936 for what reads a session and
  * 11,784 for a check or a rewriting.
  */
 #ifndef BERRYTICK_H
