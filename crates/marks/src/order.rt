@@ -9,7 +9,7 @@ use crate::Square;
 use crate::path::Path;
 
 // The nodes by their places. An array, since there is no heap.
-#[derive(Clone, Debug, PartialEq, Eq, Drop)]
+#[derive(Clone, Copy, Debug, PartialEq, Eq)]
 pub struct Order {
     nodes: [Option<u16>; Path::NODES],
 }

@@ -8,7 +8,7 @@ const ROWS: usize = 1024;
 
 // The rows that wait, in a ring; whether a row waits, so that none is there twice; where the ring begins, and how many wait. Arrays, since
 // there is no heap.
-#[derive(Clone, Debug, PartialEq, Eq, Drop)]
+#[derive(Clone, Copy, Debug, PartialEq, Eq)]
 pub struct Waiting {
     ring: [u16; ROWS],
     waits: [bool; ROWS],
