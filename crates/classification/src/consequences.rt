@@ -15,7 +15,7 @@ use crate::hints::{BELOW, CONJUNCTS, FILLERS};
 use marks::columns;
 use marks::line::Line;
 use marks::waiting::Waiting;
-use release::{Kind, RoleName};
+use release::{Kind, RoleIndex};
 
 impl<'a> Classification<'a> {
     // Hands row c on to row x, which waits if it had not all of it.
@@ -73,7 +73,7 @@ impl<'a> Classification<'a> {
 
     // Whether z is a defined restriction with this filler, and the role serves for it. Crate backward has a test of the role alone
     // (`is_filled`): what it asks of the filler differs from place to place.
-    fn is_defined_by(&self, z: usize, role: RoleName, filler: usize) -> bool
+    fn is_defined_by(&self, z: usize, role: RoleIndex, filler: usize) -> bool
         requires { HasRow z }
         ensures { Tells result (FilledBy self.now.terminology.table.now z role.0 filler) }
     {

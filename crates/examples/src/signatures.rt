@@ -35,9 +35,5 @@ fn wider(built: Signature, step: &[u8]) -> Signature {
     if *kind == b'n' {
         return built.with_name(ConceptName(number));
     }
-    // A number past a byte is no role's, and so changes nothing.
-    let Some(role) = RoleName::numbered(number) else {
-        return built;
-    };
-    built.with_role(role)
+    built.with_role(RoleName(number))
 }

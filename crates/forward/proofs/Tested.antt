@@ -26,7 +26,7 @@ use native.Mathlib.Omega.{arith}
 use native.Mathlib.Decide.{ℕ_discrete, dec_lt}
 use Rattle.std.specs.Prelude.{eqb, Option, None, Some, is_some}
 use Rattle.release.specs.Files.{most_roles}
-use Rattle.release.specs.declared.RoleName.{RoleName}
+use Rattle.release.specs.declared.RoleIndex.{RoleIndex}
 use Rattle.release.specs.Roles.{HasRole}
 use Rattle.release.specs.Tables.{filler_at, HasSuccessor}
 use Rattle.marks.specs.declared.Square.{Square}
@@ -162,7 +162,7 @@ module _ {given : Given} {w : List ℕ} {x from : ℕ} where
   open_full e full = let all : RowFull (mark_square given.layout) x w = rw e at full in record { each = λ r j h. record { marked = λ y i o. all.marked y i } }
 
 -- from the first role of the edge on
-pub open_further : (given : Given) (w : List ℕ) (x : ℕ) {from r : ℕ} (o : Option RoleName) → First (HasEdge given.edges.now x) (λ q. HasEdge given.edges.now x q → ⊥) 31 from r
+pub open_further : (given : Given) (w : List ℕ) (x : ℕ) {from r : ℕ} (o : Option RoleIndex) → First (HasEdge given.edges.now x) (λ q. HasEdge given.edges.now x q → ⊥) 31 from r
     → NextOpen given w x r o → NextOpen given w x from o
 open_further given w x {from} {r} None first past = record { each = λ q j h. by_place q j h (dec_lt q r) }
   where

@@ -27,7 +27,7 @@
 -- Not here: what the rules mean (proofs/Meaning).
 use Rattle.std.specs.Prelude.{◌≡◌, Bool, true, false, List, ◌⊎◌, ℕ, suc, ◌+◌, ◌*◌, ◌≤◌, ◌<◌, Option}
 use Rattle.std.specs.Option.{MatchOption}
-use Rattle.release.specs.declared.RoleName.{RoleName}
+use Rattle.release.specs.declared.RoleIndex.{RoleIndex}
 use Rattle.release.specs.declared.table.Table.{Table}
 use Rattle.release.specs.Files.{restricts}
 use Rattle.release.specs.Tables.{kind_at, role_at, filler_at, serves_at, HasSuccessor}
@@ -174,7 +174,7 @@ pub record ByRole (given : Given) (x r : ℕ) (w : List ℕ) : Type 0 where
 pub record ByEdge (given : Given) (x : ℕ) (w : List ℕ) : Type 0 where
   pub marked : (y : ℕ) → y ≤ given.layout.names → EdgeLost given w x y → Marked (mark_square given.layout) w x y
 
-abbrev pub NextOpen : Given → List ℕ → ℕ → ℕ → Option RoleName → Type 0
+abbrev pub NextOpen : Given → List ℕ → ℕ → ℕ → Option RoleIndex → Type 0
 NextOpen given w x from o = MatchOption o (Nowhere (λ r. ByRole given x r w) 31 from) (λ role. First (HasEdge given.edges.now x) (λ r. ByRole given x r w) 31 from role.0)
 
 pub record EdgeCell (given : Given) (x r y : ℕ) (w : List ℕ) : Type 0 where

@@ -5,18 +5,18 @@ ghost use Rattle.release.specs.Files.{most_roles};
 ghost use Rattle.release.specs.Tables.{role_at, serves_at, SuccessorOf, HasRow};
 ghost use Rattle.forward.specs.Asking.{Asks, SmallRole, Idle};
 
-use release::RoleName;
+use release::RoleIndex;
 use release::roles::RoleSet;
 use release::terminology::Terminology;
 
 #[derive(Clone, Copy, Debug, PartialEq, Eq)]
 pub struct Asked {
-    pub role: RoleName,
+    pub role: RoleIndex,
     pub serving: RoleSet,
 }
 
 impl Asked {
-    pub fn of(second: &Terminology, role: RoleName) -> Asked
+    pub fn of(second: &Terminology, role: RoleIndex) -> Asked
         requires { role.0 < most_roles }
         ensures { (result.role ≡ role) × Asks second.now.table.now result }
     {

@@ -16,7 +16,7 @@ use layout::Given;
 use marks::columns;
 use marks::line::Line;
 use marks::waiting::Waiting;
-use release::RoleName;
+use release::RoleIndex;
 use release::roles::RoleSet;
 
 // What is few. Where more bytes of a row have something new, the nodes that can lose a partner by it are not looked for; where more
@@ -29,7 +29,7 @@ const FEW_NODES: usize = 4;
 // left to put.
 // It stays a function of its own, so that its loop has registers enough.
 #[inline(never)]
-fn lose_row(given: &Given, work: &mut [u8], x: usize, role: RoleName) -> bool
+fn lose_row(given: &Given, work: &mut [u8], x: usize, role: RoleIndex) -> bool
     requires setting { Setting given.now work.old }
     requires edge { Edge given.now x role.0 }
     ensures { RowLost given.now x role.0 work.old work.new result }
@@ -78,7 +78,7 @@ fn touch_by(given: &Given, work: &[u8], touched: &mut [u8], serving: RoleSet, fi
 
 // Adds what lies below the restrictions with a role that serves for this one, for each filler among the new columns. A node that is not in the
 // line has no partner with such a filler, so the new marks take none from it.
-fn touch(given: &Given, work: &[u8], new: &[u8], touched: &mut [u8], role: RoleName)
+fn touch(given: &Given, work: &[u8], new: &[u8], touched: &mut [u8], role: RoleIndex)
     requires area { Area (second_square given.now.layout) work.now × Beneath given.now.layout work.now }
     requires spans { Spans given.now.layout.names new.now × Spans given.now.layout.names touched.old }
 {
@@ -118,7 +118,7 @@ fn find_left(
 }
 
 // The edge of x with the role, for each of the nodes noted. Whether a mark is new.
-fn lose_each(given: &Given, work: &mut [u8], left: &[usize], x: usize, role: RoleName) -> bool
+fn lose_each(given: &Given, work: &mut [u8], left: &[usize], x: usize, role: RoleIndex) -> bool
     requires setting { Setting given.now work.old }
     requires edge { Edge given.now x role.0 }
     ensures { Pass (Follows given.now) (mark_square given.now.layout) Anything work.old work.new result }
@@ -135,7 +135,7 @@ fn lose_each(given: &Given, work: &mut [u8], left: &[usize], x: usize, role: Rol
 
 // The edge of x with the role, which only nodes of the line can lose: where a few are left that x is not marked with, for each of these; where
 // more are left, for all nodes at once. Whether marks can be new.
-fn lose_touched(given: &Given, work: &mut [u8], touched: &[u8], x: usize, role: RoleName) -> bool
+fn lose_touched(given: &Given, work: &mut [u8], touched: &[u8], x: usize, role: RoleIndex) -> bool
     requires setting { Setting given.now work.old }
     requires spans { Spans given.now.layout.names touched.now }
     requires edge { Edge given.now x role.0 }
@@ -150,7 +150,7 @@ fn lose_touched(given: &Given, work: &mut [u8], touched: &[u8], x: usize, role: 
 
 // The edge of x with the role, whose end has new marks in the columns of a line: for the nodes that can lose it by these. Whether marks can be
 // new.
-fn lose_role(given: &Given, work: &mut [u8], new: &[u8], x: usize, role: RoleName) -> bool
+fn lose_role(given: &Given, work: &mut [u8], new: &[u8], x: usize, role: RoleIndex) -> bool
     requires setting { Setting given.now work.old }
     requires spans { Spans given.now.layout.names new.now }
     requires edge { Edge given.now x role.0 }

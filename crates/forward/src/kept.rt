@@ -15,7 +15,7 @@ use crate::hints::ROLES;
 use layout::{Given, Layout};
 use marks::line::Line;
 use marks::{Square, hints, line};
-use release::RoleName;
+use release::RoleIndex;
 use release::terminology::Terminology;
 
 // Whether the name is a restriction of the second release with a role that serves, to a node that `end` is not marked with. The role is asked
@@ -124,7 +124,7 @@ fn keep(given: &Given, work: &[u8], kept: &mut [u8], end: usize, asked: Asked)
 // The line of the edge of x with the role: all nodes that have a partner of it. Where it answers yes, row x is marked with all others; a no
 // says nothing.
 #[inline(always)]
-pub fn keep_partners(given: &Given, work: &[u8], kept: &mut [u8], x: usize, role: RoleName) -> bool
+pub fn keep_partners(given: &Given, work: &[u8], kept: &mut [u8], x: usize, role: RoleIndex) -> bool
     requires room { Room (mark_square given.now.layout) work.now × Beneath given.now.layout work.now }
     requires spans { Spans given.now.layout.names kept.old × Empty kept.old }
     requires x_lt_names { (x < given.now.layout.names) × (filler_at given.now.first.table.now x ≤ given.now.layout.names) }
@@ -179,7 +179,7 @@ fn keep_noted(given: &Given, work: &[u8], kept: &mut [u8], end: usize, asked: As
 
 // Whether each node that has no partner of the edge of x with the role is marked in row x, as far as the noted restrictions tell: a no says
 // nothing.
-fn seems_kept(given: &Given, work: &[u8], x: usize, role: RoleName) -> bool
+fn seems_kept(given: &Given, work: &[u8], x: usize, role: RoleIndex) -> bool
     requires setting { Setting given.now work.now }
     requires edge { Edge given.now x role.0 }
     ensures { result ≡ true → ByRole given.now x role.0 work.now }
@@ -194,7 +194,7 @@ fn seems_kept(given: &Given, work: &[u8], x: usize, role: RoleName) -> bool
 // The first role of the edge of x from `from` on by which, as far as the noted restrictions tell, something can be left to mark. It stays a
 // function of its own, since most edges have one role, for which it is not called.
 #[inline(never)]
-fn next_open(given: &Given, work: &[u8], x: usize, from: u8) -> Option<RoleName>
+fn next_open(given: &Given, work: &[u8], x: usize, from: u8) -> Option<RoleIndex>
     requires setting { Setting given.now work.now }
     requires x_lt_names { x < given.now.layout.names }
     ensures { NextOpen given.now work.now x from result }
@@ -221,7 +221,7 @@ fn is_full(marks: Square, work: &[u8], x: usize) -> bool
 
 // The first role of the edge of x from `from` on by which something can be left to mark: none where the row is full. An edge may have as many roles
 // as there are, and a release few restrictions with each; so for those after the first the noted restrictions are looked at, before all names are.
-pub fn next_role(given: &Given, work: &[u8], x: usize, from: u8) -> Option<RoleName>
+pub fn next_role(given: &Given, work: &[u8], x: usize, from: u8) -> Option<RoleIndex>
     requires setting { Setting given.now work.now }
     requires x_lt_names { x < given.now.layout.names }
     ensures { NextOpen given.now work.now x from result }

@@ -11,7 +11,7 @@ ghost use Rattle.forward.specs.Rules.{Partner, NextSuccessor, Setting, Edge, Fol
 
 use crate::asked::Asked;
 use layout::Given;
-use release::RoleName;
+use release::RoleIndex;
 use release::terminology::Terminology;
 
 // The first successor of the name by the role, from the node `from` on. A name has one axiom, so one successor at most.
@@ -60,7 +60,7 @@ fn has_partner(given: &Given, work: &[u8], end: usize, asked: Asked, y: usize) -
 }
 
 // Marks the pair x, y if the search finds no partner of the edge of x with the role there. Whether the mark is new.
-pub fn look_at_pair(given: &Given, work: &mut [u8], x: usize, role: RoleName, y: usize) -> bool
+pub fn look_at_pair(given: &Given, work: &mut [u8], x: usize, role: RoleIndex, y: usize) -> bool
     requires setting { Setting given.now work.old }
     requires edge { Edge given.now x role.0 }
     requires y_le_names { y ≤ given.now.layout.names }

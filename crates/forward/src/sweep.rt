@@ -16,7 +16,7 @@ use marks::line::Line;
 use marks::order::Order;
 use marks::rules::Rules;
 use marks::waiting::Waiting;
-use release::RoleName;
+use release::RoleIndex;
 
 // Marks the name x with all that it is not above by the second release, if it is in the signature. Whether a mark is new. Crate backward has
 // a function of this name, which joins another row and marks one column more; what the two share is no more than these few lines. So it is
@@ -37,7 +37,7 @@ pub fn look_at_name(given: &Given, work: &mut [u8], x: usize) -> bool
 
 // The edge of x with the role, for each node that x is not marked with and that is not in the line of those that keep a partner: of each the
 // search decides. Whether a mark is new.
-fn look_at_missing(given: &Given, work: &mut [u8], kept: &[u8], x: usize, role: RoleName) -> bool
+fn look_at_missing(given: &Given, work: &mut [u8], kept: &[u8], x: usize, role: RoleIndex) -> bool
     requires setting { Setting given.now work.old }
     requires edge { Edge given.now x role.0 }
     requires spans { Spans given.now.layout.names kept.now }
@@ -59,7 +59,7 @@ fn look_at_missing(given: &Given, work: &mut [u8], kept: &[u8], x: usize, role: 
 // the search decides. A quiet pass has no such node, so the search costs it nothing. Whether a mark is new. It stays a function of its own, so
 // that its loop has registers enough.
 #[inline(never)]
-fn look_at_role(given: &Given, work: &mut [u8], x: usize, role: RoleName) -> bool
+fn look_at_role(given: &Given, work: &mut [u8], x: usize, role: RoleIndex) -> bool
     requires setting { Setting given.now work.old }
     requires edge { Edge given.now x role.0 }
     ensures { Pass (Follows given.now) (mark_square given.now.layout) (ByRole given.now x role.0) work.old work.new result }

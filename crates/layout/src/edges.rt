@@ -8,7 +8,7 @@ ghost use Rattle.layout.specs.Findings.{lies, EachAlone, ChosenRoles, RolesFound
 
 use release::roles::RoleSet;
 use release::terminology::Terminology;
-use release::{Release, RoleName};
+use release::{Release, RoleIndex};
 use signature::LentSignature;
 
 // Which roles are found of the role of an axiom: those above it, for which it serves, as forward marks ask, or those below it, which serve
@@ -20,7 +20,7 @@ pub enum Position {
 }
 
 // Whether a role lies so to the role `own` of an axiom.
-fn lies(position: Position, first: &Terminology, own: RoleName, role: RoleName) -> bool
+fn lies(position: Position, first: &Terminology, own: RoleIndex, role: RoleIndex) -> bool
     ensures { result ≡ lies position first.now.table.now own.0 role.0 }
 {
     match position {
@@ -36,7 +36,7 @@ fn chosen_roles(signature: &LentSignature) -> RoleSet
 {
     let mut chosen = RoleSet::NONE;
     for number in 0..signature.roles {
-        let role = RoleName(number as u8);
+        let role = RoleIndex(number as u8);
         if signature.has_role(role) {
             chosen = chosen.with(role);
         }
@@ -49,7 +49,7 @@ fn are_alone(first: &Terminology) -> bool
     ensures { result ≡ true → EachAlone first.now.table.now }
 {
     for number in 0..Release::ROLES {
-        let role = RoleName(number as u8);
+        let role = RoleIndex(number as u8);
         let others = first.under(role).without(RoleSet::NONE.with(role));
         if !others.is_empty() {
             return false;
@@ -59,7 +59,7 @@ fn are_alone(first: &Terminology) -> bool
 }
 
 // Those of some roles that lie so to a role.
-fn find_among(among: RoleSet, first: &Terminology, position: Position, own: RoleName) -> RoleSet
+fn find_among(among: RoleSet, first: &Terminology, position: Position, own: RoleIndex) -> RoleSet
     ensures { RolesFound position first.now.table.now among.0 own.0 result.0 }
 {
     let mut found = RoleSet::NONE;
@@ -79,7 +79,7 @@ fn find_roles(
     alone: bool,
     first: &Terminology,
     position: Position,
-    own: RoleName,
+    own: RoleIndex,
 ) -> RoleSet
     requires alone { alone ≡ true → EachAlone first.now.table.now }
     requires small { own.0 < most_roles }
@@ -118,7 +118,7 @@ fn find_standing(
     first: &Terminology,
     second: &Terminology,
     position: Position,
-    own: RoleName,
+    own: RoleIndex,
 ) -> RoleSet
     requires alone { alone ≡ true → EachAlone first.now.table.now }
     requires small { own.0 < most_roles }
@@ -146,7 +146,7 @@ fn find_each_role(
     let alone = are_alone(first);
     let mut sets = [RoleSet::NONE; Release::ROLES];
     for own in 0..Release::ROLES {
-        sets[own] = find_standing(chosen, alone, first, second, position, RoleName(own as u8));
+        sets[own] = find_standing(chosen, alone, first, second, position, RoleIndex(own as u8));
     }
     sets
 }

@@ -10,14 +10,14 @@ ghost use Rattle.outline.specs.Atoms.{BeginsWith, value_of, child_of, ChildGiven
 ghost use Rattle.outline.specs.Constructors.{arity, is_known, SplitAs};
 
 use concept::LONGEST;
-use release::RoleName;
+use release::RoleIndex;
 use release::number::Version;
 
 // A name, or an ∃ with the root that is its filler. A role is one byte, so that an atom takes six bytes and an outline 768 of a stack: there is no heap.
 #[derive(Clone, Copy, Debug, PartialEq, Eq)]
 pub enum Conjunct {
     Name(u16),
-    Restriction { role: RoleName, filler: u16 },
+    Restriction { role: RoleIndex, filler: u16 },
 }
 
 // A conjunct, and the root that it is one of.
@@ -93,7 +93,7 @@ enum Constructor {
     Top,
     Name(u16),
     Conjunction,
-    Restriction(RoleName),
+    Restriction(RoleIndex),
 }
 
 impl Constructor {
@@ -131,7 +131,7 @@ fn split_constructor(bytes: &[u8], version: Version) -> Option<(Constructor, &[u
             Some((Constructor::Name(name), rest))
         }
         [2, rest @ ..] => Some((Constructor::Conjunction, rest)),
-        [3, role, rest @ ..] => Some((Constructor::Restriction(RoleName(*role)), rest)),
+        [3, role, rest @ ..] => Some((Constructor::Restriction(RoleIndex(*role)), rest)),
         _ => None,
     }
 }

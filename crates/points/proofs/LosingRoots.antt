@@ -15,7 +15,7 @@ use lib.Seq.{get_or-take, length-take-le}
 use Rattle.std.specs.Prelude.{not}
 use Rattle.el.proofs.Tests.{Tells, never, not_both, tells_as, tells_not}
 use Rattle.release.specs.Tables.{serves_at}
-use Rattle.release.specs.declared.RoleName.{RoleName}
+use Rattle.release.specs.declared.RoleIndex.{RoleIndex}
 use Rattle.marks.specs.Lines.{Has, Added}
 use Rattle.marks.proofs.Squares.{refuted}
 use Rattle.outline.specs.declared.Atom.{Atom}
@@ -32,7 +32,7 @@ use Rattle.points.proofs.Grids.{adds_as}
 use Rattle.points.proofs.Raising.{has_root}
 
 -- whether an ∃ of C lies below one of D
-module _ {g : Classified} {e : Atom} {role : RoleName} {k : ℕ} (is : e.conjunct ≡ conjunct.Restriction role k) (rooted : Rooted e) {i : List ℕ} {l : Pairs} {r j : ℕ} where
+module _ {g : Classified} {e : Atom} {role : RoleIndex} {k : ℕ} (is : e.conjunct ≡ conjunct.Restriction role k) (rooted : Rooted e) {i : List ℕ} {l : Pairs} {r j : ℕ} where
   pub other_role : serves_at (table_in g) role.0 r ≡ false → Tells false (AtomReaches g e i l r j)
   other_role missed = never by_form
     where

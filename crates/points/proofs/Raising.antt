@@ -9,7 +9,7 @@ use native.Mathlib.Omega.{arith}
 use Rattle.el.proofs.Tests.{Tells, never, not_both, tells_as}
 use Rattle.release.specs.Files.{joins, restricts}
 use Rattle.release.specs.Tables.{kind_at, role_at, filler_at, serves_at}
-use Rattle.release.specs.declared.RoleName.{RoleName}
+use Rattle.release.specs.declared.RoleIndex.{RoleIndex}
 use Rattle.marks.specs.Lines.{Added}
 use Rattle.marks.proofs.Squares.{refuted}
 use Rattle.outline.specs.declared.Atom.{Atom}
@@ -28,11 +28,11 @@ pub kind_4_restricts : {k : ℕ} → k ≡ 4 → restricts k ≡ true
 kind_4_restricts e = rw e
 
 -- the root of an ∃ is not the whole concept
-pub has_root : (b : Atom) {role : RoleName} {k : ℕ} → b.conjunct ≡ Restriction role k → Rooted b → 0 < child_number b
+pub has_root : (b : Atom) {role : RoleIndex} {k : ℕ} → b.conjunct ≡ Restriction role k → Rooted b → 0 < child_number b
 has_root b {k = k} is rooted = let z : 0 < k = rw is at rooted in omega (arith, ap number_in is)
 
 -- whether an ∃ lies below a name that is defined by one
-module _ {g : Classified} {b : Atom} {role : RoleName} {k : ℕ} (is : b.conjunct ≡ Restriction role k) (rooted : Rooted b) {a : Grid} {y : ℕ} where
+module _ {g : Classified} {b : Atom} {role : RoleIndex} {k : ℕ} (is : b.conjunct ≡ Restriction role k) (rooted : Rooted b) {a : Grid} {y : ℕ} where
   pub other_role : serves_at (table_in g) role.0 (role_at (table_in g) y) ≡ false → Tells false (AtomBelow g b a y)
   other_role missed = never by_form
     where

@@ -7,11 +7,11 @@ ghost use Rattle.points.specs.Above.{table_in, OwnServe, Ranges, PartsSet, RootB
 
 use crate::{Classified, Grid};
 use outline::{Atom, Conjunct};
-use release::{Kind, RoleName};
+use release::{Kind, RoleIndex};
 
 impl Classified<'_> {
     // Whether a role serves where another is asked for. First whether it is that one, since then the table is not read.
-    pub(crate) fn serves(&self, role: RoleName, asked: RoleName) -> bool
+    pub(crate) fn serves(&self, role: RoleIndex, asked: RoleIndex) -> bool
         requires { OwnServe self.now }
         ensures { result ≡ serves_at (table_in self.now) role.0 asked.0 }
     {

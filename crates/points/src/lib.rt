@@ -11,7 +11,7 @@ ghost use Rattle.points.specs.Nodes.{RestrictionOf};
 
 use marks::{Square, line};
 use outline::{Atom, Outline};
-use release::RoleName;
+use release::RoleIndex;
 use release::terminology::Terminology;
 
 pub mod above;
@@ -122,14 +122,14 @@ pub struct Subsumer<'a> {
 // An ∃ of D, a role over a root, and the line of the names by which no node lies below it.
 #[derive(Clone, Copy, Debug, PartialEq, Eq)]
 pub struct Restriction<'a> {
-    pub role: RoleName,
+    pub role: RoleIndex,
     pub root: usize,
     pub idle: &'a [u8],
 }
 
 impl<'a> Subsumer<'a> {
     // The ∃ that the atom is, by its role and its filler.
-    fn restriction(&self, role: RoleName, filler: u16) -> Restriction<'a>
+    fn restriction(&self, role: RoleIndex, filler: u16) -> Restriction<'a>
         requires { self.now.atom.conjunct ≡ conjunct.Restriction role filler }
         ensures { RestrictionOf self.now (Some result) }
     {

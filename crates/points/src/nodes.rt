@@ -12,11 +12,11 @@ ghost use Rattle.marks.specs.Lines.{Spans, Empty};
 use crate::{Classified, Grid, Subsumer};
 use marks::line;
 use outline::{Atom, Conjunct};
-use release::RoleName;
+use release::RoleIndex;
 
 impl Classified<'_> {
     // Whether the axiom of a name is an ∃ of a role that serves for the one asked, and the row of the root has not lost its filler.
-    fn axiom_reaches(&self, lost: &Grid, role: RoleName, root: usize, name: usize) -> bool
+    fn axiom_reaches(&self, lost: &Grid, role: RoleIndex, root: usize, name: usize) -> bool
         requires has_row { HasRow name
             × (restricts (kind_at (table_in self.now) name) ≡ true → filler_at (table_in self.now) name < most_nodes) }
         requires own { OwnServe self.now }
@@ -35,7 +35,7 @@ impl Classified<'_> {
 
     // Adds to the line the names whose axioms do not reach: by these no node lies below ∃ of the role over the root, and by each other name the nodes
     // below it do. Names are numbers here, which no slice holds.
-    fn find_idle(&self, lost: &Grid, idle: &mut [u8], role: RoleName, root: usize)
+    fn find_idle(&self, lost: &Grid, idle: &mut [u8], role: RoleIndex, root: usize)
         requires ranged { Ranged self.now }
         requires spans { Spans self.now.square.names idle.old × Empty idle.old × (root < most_roots) }
         ensures { Idle self.now lost.now role.0 root idle.new }

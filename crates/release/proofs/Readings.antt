@@ -7,7 +7,7 @@ use native.Mathlib.Omega.{arith}
 use borrow.Author.Tests.{lt-ltb, le-ltb, le-leb, lt-leb}
 use lib.ListN.{length, get_or}
 use Rattle.std.specs.Prelude.{Result, Ok, Err}
-use Rattle.release.specs.declared.RoleName.{RoleName}
+use Rattle.release.specs.declared.RoleIndex.{RoleIndex}
 use Rattle.release.specs.declared.axiom.Cursor.{Cursor}
 use Rattle.release.specs.declared.axiom.Entry.{Entry}
 use Rattle.release.specs.declared.kinds.Kind.{Kind}
@@ -28,7 +28,7 @@ refused k = Err (record { number = k; side = 1 })
 
 -- a role: what reading it says
 module _ (m : ℕ) (s : List ℕ) (p : ℕ) where
-  pub role_read : {r : RoleName} → Ok r ≡ role_reading m s p → (role_fault m s p 0 ≡ 0) × (r ≡ record { 0 = get_or s p 0 })
+  pub role_read : {r : RoleIndex} → Ok r ≡ role_reading m s p → (role_fault m s p 0 ≡ 0) × (r ≡ record { 0 = get_or s p 0 })
   unfolding role_reading
   role_read {r} h = is_accepted 1 (role_fault m s p 0) (record { 0 = get_or s p 0 }) r h
 

@@ -15,7 +15,7 @@ use Rattle.el.specs.Axioms.{RolePair}
 use Rattle.el.specs.Derivability.{Under, same_role, listed, through}
 use Rattle.el.proofs.Lists.{each}
 use Rattle.el.proofs.Tests.{tells_as}
-use Rattle.release.specs.declared.RoleName.{RoleName}
+use Rattle.release.specs.declared.RoleIndex.{RoleIndex}
 use Rattle.release.specs.declared.roles.RolePair as pair
 use Rattle.release.specs.declared.roles.RoleTable.{RoleTable}
 use Rattle.release.specs.declared.refusals.FileRefusal.{FileRefusal}
@@ -38,7 +38,7 @@ module _ (m : ℕ) (least : RolePair) (s : List ℕ) (p : ℕ) where
   unfolding pair_reading pair_fault
   lower_refused h = role_refused m s p h (pair_fault m least s p) _ (role_first m s p _)
 
-  module _ {lower : RoleName} (l : Ok lower ≡ role_reading m s p) where
+  module _ {lower : RoleIndex} (l : Ok lower ≡ role_reading m s p) where
     behind_lower : pair_fault m least s p ≡ role_fault m s (p + 1) (pick (precedes (pair_at s p) least) 49 0)
     unfolding pair_fault
     behind_lower = role_passed m s p _ (role_read m s p l).0
@@ -47,7 +47,7 @@ module _ (m : ℕ) (least : RolePair) (s : List ℕ) (p : ℕ) where
     unfolding pair_reading
     upper_refused h = role_refused m s (p + 1) h (pair_fault m least s p) _ (λ some. behind_lower ∙ role_first m s (p + 1) _ some)
 
-    module _ {upper : RoleName} (u : Ok upper ≡ role_reading m s (p + 1)) (before : Bool) (e : before ≡ precedes (record { lower = lower.0; upper = upper.0 }) least) where
+    module _ {upper : RoleIndex} (u : Ok upper ≡ role_reading m s (p + 1)) (before : Bool) (e : before ≡ precedes (record { lower = lower.0; upper = upper.0 }) least) where
       behind_roles : pair_fault m least s p ≡ pick before 49 0
       behind_roles =
           let is : record { lower = lower.0; upper = upper.0 } ≡ pair_at s p = rw ((role_read m s p l).1, (role_read m s (p + 1) u).1) in

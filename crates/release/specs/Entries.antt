@@ -9,13 +9,13 @@ use Rattle.el.specs.Concepts.{Node, everything, named}
 use Rattle.release.specs.Files.{role_fault, pair_fault, number, joins, tail_fault, tail_length, axiom_fault, axiom_length, filler_node}
 use Rattle.release.specs.Kinds.{kind_number, kind_of_byte}
 use Rattle.release.specs.Refusals.{Numbers, answer}
-use Rattle.release.specs.declared.RoleName.{RoleName}
+use Rattle.release.specs.declared.RoleIndex.{RoleIndex}
 use Rattle.release.specs.declared.axiom.Cursor.{Cursor}
 use Rattle.release.specs.declared.axiom.Entry.{Entry}
 use Rattle.release.specs.declared.kinds.Kind.{Kind}
 use Rattle.release.specs.declared.roles.RolePair as pair
 
-unfoldable pub role_reading : ℕ → List ℕ → ℕ → Result RoleName Numbers
+unfoldable pub role_reading : ℕ → List ℕ → ℕ → Result RoleIndex Numbers
 role_reading m s p = answer 1 (role_fault m s p 0) (record { 0 = get_or s p 0 })
 
 unfoldable pub pair_reading : ℕ → RolePair → List ℕ → ℕ → Result pair.RolePair Numbers

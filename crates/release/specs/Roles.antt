@@ -14,7 +14,7 @@ use Rattle.el.specs.Derivability.{Under}
 use Rattle.el.proofs.Tests.{Tells}
 use Rattle.marks.specs.Squares.{bit, First, Nowhere}
 use Rattle.release.specs.Files.{most_roles}
-use Rattle.release.specs.declared.RoleName.{RoleName}
+use Rattle.release.specs.declared.RoleIndex.{RoleIndex}
 use Rattle.release.specs.declared.roles.RolePair as pair
 use Rattle.release.specs.declared.roles.RoleTable.{RoleTable}
 
@@ -41,7 +41,7 @@ pub record Met (a b new : ℕ) : Type 0 where
 pub record Without (a b new : ℕ) : Type 0 where
   pub first_alone : (r : ℕ) → HasRole new r ↔ (HasRole a r × (HasRole b r → ⊥))
 
-abbrev pub NextRole : ℕ → ℕ → Option RoleName → Type 0
+abbrev pub NextRole : ℕ → ℕ → Option RoleIndex → Type 0
 NextRole set from o = MatchOption o (Nowhere (λ r. HasRole set r → ⊥) 31 from) (λ role. First (HasRole set) (λ r. HasRole set r → ⊥) 31 from role.0)
 
 abbrev pub entry : RoleTable → ℕ → ℕ

@@ -9,7 +9,7 @@ ghost use Rattle.release.specs.Versions.{width};
 use crate::kinds::Kind;
 use crate::number::Version;
 use crate::refusals::FileRefusal;
-use crate::{ConceptName, Counts, Release, RoleName};
+use crate::{ConceptName, Counts, Release, RoleIndex};
 
 // A place in a file.
 #[derive(Clone, Copy, Debug, PartialEq, Eq)]
@@ -23,7 +23,7 @@ pub struct Cursor {
 pub struct Entry {
     pub left: ConceptName,
     pub kind: Kind,
-    pub role: RoleName,
+    pub role: RoleIndex,
     pub filler: usize,
     pub tail: usize,
 }
@@ -38,13 +38,13 @@ pub struct Source<'a> {
 
 impl<'a> Source<'a> {
     // The role at `at`.
-    pub(crate) fn read_role(&self, at: usize) -> Result<RoleName, FileRefusal>
+    pub(crate) fn read_role(&self, at: usize) -> Result<RoleIndex, FileRefusal>
         ensures { told file_refusal result ≡ role_reading self.now.counts.roles self.now.file.now at }
     {
         if self.file.len() <= at {
             return Err(FileRefusal::EndOfFile);
         }
-        let role = RoleName(self.file[at]);
+        let role = RoleIndex(self.file[at]);
         if self.counts.roles <= usize::from(role.0) {
             return Err(FileRefusal::WrongRole);
         }
@@ -99,7 +99,7 @@ impl<'a> Source<'a> {
         let entry = Entry {
             left: ConceptName(left),
             kind,
-            role: RoleName(0),
+            role: RoleIndex(0),
             filler: 0,
             tail,
         };

@@ -28,24 +28,28 @@ pub mod show;
 pub mod table;
 pub mod terminology;
 
-// A concept name's number and a role name's, a byte in every version: two types, so that neither can be passed for the other.
+// A concept name's number and a role name's, as a caller passes them, so any number: two types, so that neither can be passed for the other.
 #[derive(Clone, Copy, Debug, PartialEq, Eq)]
 pub struct ConceptName(pub usize);
 
 #[derive(Clone, Copy, Debug, PartialEq, Eq)]
-pub struct RoleName(pub u8);
+pub struct RoleName(pub usize);
 
-impl RoleName {
+// A role name's number as files, tables and concepts hold it: a byte in every version.
+#[derive(Clone, Copy, Debug, PartialEq, Eq)]
+pub struct RoleIndex(pub u8);
+
+impl RoleIndex {
     ghost use Rattle.std.specs.Prelude.{◌≡◌, ◌≤◌, ◌<◌, MatchOption};
 
     // The role with a number: there is none past a byte.
-    pub fn numbered(number: usize) -> Option<RoleName>
+    pub fn numbered(number: usize) -> Option<RoleIndex>
         ensures { MatchOption result (255 < number) (λ role. (role.0 ≡ number) × (number ≤ 255)) }
     {
         if 255 < number {
             return None;
         }
-        Some(RoleName(number as u8))
+        Some(RoleIndex(number as u8))
     }
 }
 

@@ -5,7 +5,7 @@ ghost use Rattle.el.specs.Axioms.{RolePair as Pair};
 ghost use Rattle.release.specs.Files.{precedes, after, most_roles};
 ghost use Rattle.release.specs.Roles.{HasRole, With, Joined, Met, Without, NoRole, NextRole, serves_by, Serving, RolesOf, pair_of, Listable};
 
-use crate::{Release, RoleName};
+use crate::{Release, RoleIndex};
 
 // A set of roles: bit r says whether it has the role r.
 #[derive(Clone, Copy, Debug, PartialEq, Eq)]
@@ -15,14 +15,14 @@ impl RoleSet {
     pub const NONE: RoleSet = RoleSet(0);
 
     // Whether the set has a role: none from 32 on. The bit is looked at first, which needs no branch.
-    pub fn has(self, role: RoleName) -> bool
+    pub fn has(self, role: RoleIndex) -> bool
         ensures { Tells result (HasRole self.0 role.0) }
     {
         (self.0 >> (role.0 % 32)) % 2 == 1 && role.0 < 32
     }
 
     // Whether the set has a role that has a bit: as an accepted release's roles have one, this spares loops over its names the other question.
-    pub fn has_small(self, role: RoleName) -> bool
+    pub fn has_small(self, role: RoleIndex) -> bool
         requires { role.0 < most_roles }
         ensures { Tells result (HasRole self.0 role.0) }
     {
@@ -30,7 +30,7 @@ impl RoleSet {
     }
 
     // The set and a role; the set where there is no bit for the role.
-    pub fn with(self, role: RoleName) -> RoleSet
+    pub fn with(self, role: RoleIndex) -> RoleSet
         ensures { With self.0 role.0 result.0 }
     {
         if role.0 < 32 {
@@ -67,7 +67,7 @@ impl RoleSet {
     }
 
     // The first role of the set from `from` on.
-    pub fn next(self, from: u8) -> Option<RoleName>
+    pub fn next(self, from: u8) -> Option<RoleIndex>
         ensures { NextRole self.0 from result }
     {
         if 32 <= from {
@@ -78,22 +78,22 @@ impl RoleSet {
             return None;
         }
         // no `From` leads from u32 to u8
-        Some(RoleName(from + rest.trailing_zeros() as u8))
+        Some(RoleIndex(from + rest.trailing_zeros() as u8))
     }
 }
 
 // A role, and one that it lies under.
 #[derive(Clone, Copy, Debug, PartialEq, Eq)]
 pub struct RolePair {
-    pub lower: RoleName,
-    pub upper: RoleName,
+    pub lower: RoleIndex,
+    pub upper: RoleIndex,
 }
 
 impl RolePair {
     // Pairs rise by the lower role, then by the upper one. This is the least that there can be.
     pub const LEAST: RolePair = RolePair {
-        lower: RoleName(0),
-        upper: RoleName(0),
+        lower: RoleIndex(0),
+        upper: RoleIndex(0),
     };
 
     // Whether the pair stands before another.
@@ -111,7 +111,7 @@ impl RolePair {
     {
         RolePair {
             lower: self.lower,
-            upper: RoleName(self.upper.0 + 1),
+            upper: RoleIndex(self.upper.0 + 1),
         }
     }
 }
@@ -161,7 +161,7 @@ impl RoleTable {
     ]);
 
     // Whether a role serves where another is asked for: it lies under that one. A role for which the table has no entry serves for itself alone.
-    pub fn serves(&self, role: RoleName, asked: RoleName) -> bool
+    pub fn serves(&self, role: RoleIndex, asked: RoleIndex) -> bool
         ensures { result ≡ serves_by self.now role.0 asked.0 }
     {
         if usize::from(asked.0) < Release::ROLES {
@@ -171,7 +171,7 @@ impl RoleTable {
     }
 
     // The roles that serve where this one is asked for, of those that have a bit: all of them, where this one has a bit.
-    pub fn under(&self, role: RoleName) -> RoleSet
+    pub fn under(&self, role: RoleIndex) -> RoleSet
         ensures { Serving self.now role.0 result.0 }
     {
         if usize::from(role.0) < Release::ROLES {

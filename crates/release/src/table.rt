@@ -6,14 +6,14 @@ use crate::kinds::Kind;
 use crate::number::Version;
 use crate::refusals::FileRefusal;
 use crate::roles::RoleTable;
-use crate::{Counts, Release, RoleName};
+use crate::{Counts, Release, RoleIndex};
 
 // What a name's axiom says, as far as it has one: its kind, its role, its filler as a node and the place of its tail in the file. The role and
 // the filler are 0 where there is none. They stand beside the kind and not in it, since `successor` looks at a name's role before its kind.
 #[derive(Clone, Copy, Debug, PartialEq, Eq)]
 pub struct Row {
     pub kind: Option<Kind>,
-    pub role: RoleName,
+    pub role: RoleIndex,
     pub filler: u16,
     pub tail: u16,
 }
@@ -22,7 +22,7 @@ impl Row {
     // A name without an axiom.
     pub const BLANK: Row = Row {
         kind: None,
-        role: RoleName(0),
+        role: RoleIndex(0),
         filler: 0,
         tail: 0,
     };

@@ -5,7 +5,7 @@ ghost use Rattle.release.specs.Kinds.{kind_number, numbered};
 ghost use Rattle.release.specs.Parts.{HasParts, PartsOf};
 ghost use Rattle.release.specs.Tables.{kind_at, role_at, filler_at, tail_at, count_at, part_at, serves_at, ServingAt, SuccessorOf, HasRow, HasCount, HasPart};
 
-use crate::RoleName;
+use crate::RoleIndex;
 use crate::kinds::Kind;
 use crate::number::Version;
 use crate::parts::Parts;
@@ -52,7 +52,7 @@ impl<'a> Terminology<'a> {
         self.kind(name).is_some_and(Kind::is_restriction)
     }
 
-    pub fn role(&self, name: usize) -> RoleName
+    pub fn role(&self, name: usize) -> RoleIndex
         requires { HasRow name }
         ensures { result.0 ≡ role_at self.now.table.now name }
     {
@@ -60,14 +60,14 @@ impl<'a> Terminology<'a> {
     }
 
     // Whether a role serves where another is asked for.
-    pub fn serves(&self, role: RoleName, asked: RoleName) -> bool
+    pub fn serves(&self, role: RoleIndex, asked: RoleIndex) -> bool
         ensures { result ≡ serves_at self.now.table.now role.0 asked.0 }
     {
         self.table.roles.serves(role, asked)
     }
 
     // The roles that serve where this one is asked for: taken once before a loop, it spares each turn the look into the table of roles.
-    pub fn under(&self, role: RoleName) -> RoleSet
+    pub fn under(&self, role: RoleIndex) -> RoleSet
         ensures { ServingAt self.now.table.now role.0 result.0 }
     {
         self.table.roles.under(role)
@@ -83,7 +83,7 @@ impl<'a> Terminology<'a> {
 
     // The filler of a name's axiom where that is a restriction with a role that serves. The role is looked at first, since most names have
     // another.
-    pub fn successor(&self, name: usize, role: RoleName) -> Option<usize>
+    pub fn successor(&self, name: usize, role: RoleIndex) -> Option<usize>
         requires { HasRow name }
         ensures { SuccessorOf self.now.table.now name role.0 result }
     {

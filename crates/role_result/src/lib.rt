@@ -5,7 +5,7 @@
 ghost use Rattle.std.specs.Prelude.{◌≤◌};
 ghost use Rattle.release.specs.Files.{most_roles};
 
-use release::RoleName;
+use release::RoleIndex;
 use release::roles::RoleSet;
 use release::terminology::Terminology;
 use signature::LentSignature;
@@ -24,14 +24,14 @@ impl<'a> RoleComparison<'a> {
     ghost use Rattle.role_result.specs.Pairs.{BothRead, LostUnder, is_chosen, ColumnWritten, RolesReported};
 
     // The roles that lie under a role by the first release and not by the second. Without pairs there is none.
-    fn lost_under(&self, upper: RoleName) -> RoleSet
+    fn lost_under(&self, upper: RoleIndex) -> RoleSet
         ensures { LostUnder self.now upper.0 result.0 }
     {
         self.first.under(upper).without(self.second.under(upper))
     }
 
     // Column s, for a role of the signature: 1 in the rows of the roles of the signature that are lost under it, the other rows as they were.
-    fn write_column(&self, role_result: &mut [u8], upper: RoleName)
+    fn write_column(&self, role_result: &mut [u8], upper: RoleIndex)
         requires room { self.now.signature.roles * self.now.signature.roles ≤ length role_result.old }
         requires is_chosen { is_chosen self.now upper.0 ≡ true }
         ensures { ColumnWritten self.now upper.0 self.now.signature.roles role_result.old role_result.new }
@@ -42,7 +42,7 @@ impl<'a> RoleComparison<'a> {
             return;
         }
         for lower in 0..roles as u8 {
-            let role = RoleName(lower);
+            let role = RoleIndex(lower);
             if lost.has(role) && self.signature.has_role(role) {
                 role_result[usize::from(lower) * roles + usize::from(upper.0)] = 1;
             }
@@ -58,7 +58,7 @@ impl<'a> RoleComparison<'a> {
         let roles = self.signature.roles;
         marks::clear(role_result, roles * roles);
         for upper in 0..roles as u8 {
-            let role = RoleName(upper);
+            let role = RoleIndex(upper);
             if self.signature.has_role(role) {
                 self.write_column(role_result, role);
             }

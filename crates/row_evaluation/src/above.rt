@@ -9,7 +9,7 @@ ghost use Rattle.row_evaluation.specs.Differing.{ToDifferBelow, DiffersBelow};
 
 use crate::Evaluation;
 use crate::rows::{Form, read_row};
-use release::{ConceptName, Kind, RoleName};
+use release::{ConceptName, Kind, RoleIndex};
 
 impl<'a> Evaluation<'a> {
     // Whether row k has all conjuncts of y.
@@ -41,7 +41,7 @@ impl<'a> Evaluation<'a> {
     }
 
     // Whether ∃ of the role over row k lies below the name y by a restriction that defines y.
-    fn is_filled_above(&self, work: &[u8], role: RoleName, k: usize, y: usize) -> bool
+    fn is_filled_above(&self, work: &[u8], role: RoleIndex, k: usize, y: usize) -> bool
         requires shaped { ShapedBy self.now }
         requires room { RowRoom self.now.base self.now.square.names k work.now }
         requires y_lt_names { y < self.now.square.names }

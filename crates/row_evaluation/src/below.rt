@@ -9,7 +9,7 @@ ghost use Rattle.row_evaluation.specs.Differing.{ToDifferAbove, DiffersAbove};
 
 use crate::Evaluation;
 use crate::rows::{Form, read_row};
-use release::{ConceptName, RoleName};
+use release::{ConceptName, RoleIndex};
 
 impl<'a> Evaluation<'a> {
     // Puts the nodes into row i that lie below the name b.
@@ -27,7 +27,7 @@ impl<'a> Evaluation<'a> {
     }
 
     // Whether row j has a node that the role leads to from the name b by its axiom.
-    fn has_successor(&self, work: &[u8], j: usize, role: RoleName, b: usize) -> bool
+    fn has_successor(&self, work: &[u8], j: usize, role: RoleIndex, b: usize) -> bool
         requires setting { Setting self.now work.now }
         requires room { RowRoom self.now.base self.now.square.names j work.now }
         requires b_lt_names { b < self.now.square.names }
@@ -40,7 +40,7 @@ impl<'a> Evaluation<'a> {
     }
 
     // Puts the nodes into row i that lie below ∃ of the role over row j.
-    pub fn put_some(&self, work: &mut [u8], i: usize, role: RoleName, j: usize)
+    pub fn put_some(&self, work: &mut [u8], i: usize, role: RoleIndex, j: usize)
         requires setting { Setting self.now work.old }
         requires room { RowRoom self.now.base self.now.square.names i work.old }
         requires earlier { j < i }

@@ -3,7 +3,7 @@ ghost use Rattle.std.specs.Prelude.{◌≡◌, ◌+◌, ◌*◌, ◌≤◌, leng
 ghost use Rattle.concept_rows.specs.Lent.{row_at};
 ghost use Rattle.row_evaluation.specs.RowForms.{most, form_of, numbers_of, Narrow, RowPut};
 
-use release::{ConceptName, RoleName};
+use release::{ConceptName, RoleIndex};
 
 // What the concept of a row is made of: nothing, a name, the concepts of two rows, or a role and the concept of a row.
 #[derive(Clone, Copy, Debug, PartialEq, Eq)]
@@ -11,7 +11,7 @@ pub enum Form {
     Top,
     Name(ConceptName),
     Conjunction(usize, usize),
-    Restriction(RoleName, usize),
+    Restriction(RoleIndex, usize),
 }
 
 // The numbers that are lent, in the widths of the code.
@@ -40,7 +40,7 @@ pub fn read_row(rows: &[u32], i: usize) -> Option<Form>
         0 => (one == 0 && other == 0).then_some(Form::Top),
         1 => (other == 0).then_some(Form::Name(ConceptName(one))),
         2 => Some(Form::Conjunction(one, other)),
-        3 => Some(Form::Restriction(RoleName::numbered(one)?, other)),
+        3 => Some(Form::Restriction(RoleIndex::numbered(one)?, other)),
         _ => None,
     }
 }

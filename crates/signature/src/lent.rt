@@ -2,7 +2,7 @@
 ghost use Rattle.std.specs.Prelude.{◌≡◌, ◌+◌, ◌≤◌, length};
 ghost use Rattle.signature.specs.Bytes.{signature_of};
 
-use release::{ConceptName, RoleName};
+use release::{ConceptName, RoleIndex};
 
 // The bytes of a signature for a release of these numbers of names and roles: names first, then roles.
 #[derive(Clone, Copy, Debug, PartialEq, Eq)]
@@ -20,7 +20,7 @@ impl<'a> LentSignature<'a> {
         name.0 < self.names && self.bytes[name.0] == 1
     }
 
-    pub fn has_role(&self, role: RoleName) -> bool
+    pub fn has_role(&self, role: RoleIndex) -> bool
         ensures { result ≡ (signature_of self.now.names self.now.roles self.now.bytes.now).has_role role.0 }
     {
         let role = usize::from(role.0);

@@ -58,8 +58,8 @@ impl Signature {
     pub fn with_role(mut self, role: RoleName) -> Self
         ensures { result ≡ with_role self role.0 }
     {
-        if role.0 < self.roles {
-            let place = usize::from(self.names) + usize::from(role.0);
+        if role.0 < usize::from(self.roles) {
+            let place = usize::from(self.names) + role.0;
             self.choose(place);
         }
         self

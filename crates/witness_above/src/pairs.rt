@@ -9,7 +9,7 @@ ghost use Rattle.witness_above.specs.Joining.{line, Taken, Met, Exceeds};
 ghost use Rattle.witness_above.specs.Left.{LineCleared, Laid, second_rows};
 
 use layout::{Given, Layout};
-use release::RoleName;
+use release::RoleIndex;
 use row_evaluation::Evaluation;
 use row_evaluation::cells::Cells;
 
@@ -95,7 +95,7 @@ pub fn line_name(given: &Given, work: &mut [u8], name: usize)
 }
 
 // Puts what lies below ∃ of the role over row node by the second release into the line.
-pub fn line_edge(given: &Given, work: &mut [u8], role: RoleName, node: usize)
+pub fn line_edge(given: &Given, work: &mut [u8], role: RoleIndex, node: usize)
     requires laid { Laid given.now work.old }
     requires room { RowRoom given.now.layout.marks given.now.layout.names (line given.now.layout.names) work.old }
     requires node_le_names { node ≤ given.now.layout.names }

@@ -2,7 +2,7 @@
 ghost use Rattle.std.specs.Prelude.{IfSome, ◌+◌, ◌*◌, ◌≤◌, length};
 ghost use Rattle.witness_above.specs.Left.{TopFound, ToRestrict, Restricted};
 
-use release::RoleName;
+use release::RoleIndex;
 use row_evaluation::rows::{Form, put_row, read_row};
 
 // The first row of ⊤.
@@ -19,7 +19,7 @@ fn top_row(rows: &[u32], count: usize) -> Option<usize>
 }
 
 // Writes ∃ over the concept of a number: over its row, or over ⊤, which is written before it where no row has it. The row.
-pub fn put_restriction(rows: &mut [u32], role: RoleName, number: usize, count: usize) -> usize
+pub fn put_restriction(rows: &mut [u32], role: RoleIndex, number: usize, count: usize) -> usize
     requires { ToRestrict number count rows.old }
     ensures { Restricted role.0 number count rows.old rows.new result }
 {

@@ -11,7 +11,7 @@ use crate::joining::{first_losing, join_all};
 use crate::pairs::{clear_line, holds, line_edge, line_name};
 use crate::rows::put_restriction;
 use layout::Given;
-use release::{ConceptName, RoleName};
+use release::{ConceptName, RoleIndex};
 use row_evaluation::rows::{Form, put_row, wide};
 
 // Joins the name to the concept of each node below it by the first release.
@@ -44,7 +44,7 @@ fn turn_edge(
     numbers: &mut [u32],
     asked: ConceptName,
     name: ConceptName,
-    role: RoleName,
+    role: RoleIndex,
     count: usize,
 ) -> usize
     requires turn { ToTurn given.now asked.0 count name.0 rows.old numbers.old work.old }
@@ -92,7 +92,7 @@ fn turn_role(
     numbers: &mut [u32],
     asked: ConceptName,
     name: ConceptName,
-    role: RoleName,
+    role: RoleIndex,
     count: usize,
 ) -> usize
     requires go { ToGo given.now asked.0 count rows.old numbers.old work.old }

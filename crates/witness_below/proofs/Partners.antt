@@ -9,7 +9,7 @@ use native.Mathlib.Omega.{arith}
 use native.Mathlib.Decide.{ℕ_discrete}
 use Rattle.release.specs.Roles.{HasRole, Without}
 use Rattle.release.specs.Tables.{filler_at}
-use Rattle.release.specs.declared.RoleName.{RoleName}
+use Rattle.release.specs.declared.RoleIndex.{RoleIndex}
 use Rattle.marks.specs.Squares.{bit, First, Nowhere}
 use Rattle.layout.specs.declared.Given.{Given}
 use Rattle.layout.specs.Tables.{edges_at, HasEdge}
@@ -17,7 +17,7 @@ use Rattle.backward.specs.Rules.{Filled, Serving}
 use Rattle.witness_below.specs.Finding.{partner_filler, partner_nothing, PartnerOf, NoPartner}
 
 module _ {given : Given} {x y set free : ℕ} (serving : Serving given x y set) (without : Without (edges_at given.edges.now x) set free) where
-  pub free_partner : {role : RoleName} → First (HasRole free) (λ r. HasRole free r → ⊥) 31 0 role.0 → PartnerOf given x y (record { role = role; over = given.layout.names })
+  pub free_partner : {role : RoleIndex} → First (HasRole free) (λ r. HasRole free r → ⊥) 31 0 role.0 → PartnerOf given x y (record { role = role; over = given.layout.names })
   free_partner {role} next =
       let alone = (without.first_alone role.0).0 next.there in
       record {
@@ -36,7 +36,7 @@ module _ {given : Given} {x y set free : ℕ} (serving : Serving given x y set) 
     served : (r : ℕ) → HasEdge given.edges.now x r → Filled given.second.table.now given.layout.names y r
     served r edge = ((serving.tells r).0 (each_serves r edge)).1
 
-    pub filler_partner : {role : RoleName} {over : ℕ} → First (HasRole set) (λ r. HasRole set r → ⊥) 31 0 role.0 → over ≡ filler_at given.second.table.now y → over < given.layout.names
+    pub filler_partner : {role : RoleIndex} {over : ℕ} → First (HasRole set) (λ r. HasRole set r → ⊥) 31 0 role.0 → over ≡ filler_at given.second.table.now y → over < given.layout.names
         → PartnerOf given x y (record { role = role; over = over })
     filler_partner {role} next is small =
         let both = (serving.tells role.0).0 next.there in

@@ -7,7 +7,7 @@ ghost use Rattle.witness_below.specs.Finding.{ToColumn, ToParts, ToName, PartFou
 use crate::cells::{OPEN, UNASKED, cell};
 use backward::serving;
 use layout::Given;
-use release::{ConceptName, Kind, RoleName};
+use release::{ConceptName, Kind, RoleIndex};
 
 // The first conjunct of the column y that is marked with x; else the first that is not asked for with x.
 pub fn find_column_part(given: &Given, work: &[u8], x: usize, y: usize) -> Option<usize>
@@ -82,7 +82,7 @@ pub fn find_name(given: &Given, work: &[u8], x: usize, y: usize) -> Option<Conce
 // A role of the edge of a name, and the column that the filler of the name has to be asked for with by it.
 #[derive(Clone, Copy)]
 pub struct Partner {
-    pub role: RoleName,
+    pub role: RoleIndex,
     pub over: usize,
 }
 

@@ -4,10 +4,10 @@ use mathlib.Core.Path.{◌∙◌}
 use Rattle.signature.specs.Building.{with_role}
 use Rattle.signature.proofs.Signature.with_role.Goals as goal
 
-pub returns-then-role-self : goal.returns-then-role-self
+pub returns-then-role-from : goal.returns-then-role-from
 unfolding with_role
-returns-then-role-self c = c.choose.ensures ∙ rw (c.from.ensures, c.from-then-role-self.ensures) (simp (lt-ltb _ _ c.if-role-self.true))
+returns-then-role-from c = c.choose.ensures ∙ rw c.from-then-role-from.ensures (simp (lt-ltb _ _ (rw c.from.ensures at c.if-role-from.true)))
 
-pub returns-else-role-self : goal.returns-else-role-self
+pub returns-else-role-from : goal.returns-else-role-from
 unfolding with_role
-returns-else-role-self c = simp (le-ltb _ _ c.if-role-self.false)
+returns-else-role-from c = simp (le-ltb _ _ (rw c.from.ensures at c.if-role-from.false))

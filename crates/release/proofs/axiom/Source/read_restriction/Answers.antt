@@ -2,7 +2,7 @@
 use mathlib.Core.Path.{ap, ◌∙◌, sym}
 use mathlib.Core.Logic.{inl, inr}
 use native.Mathlib.Omega.{arith}
-use Rattle.release.specs.declared.RoleName.{RoleName}
+use Rattle.release.specs.declared.RoleIndex.{RoleIndex}
 use Rattle.release.proofs.Faults.{restriction_short, restriction_9, restriction_none, is_filler_lem, no_filler}
 use Rattle.release.proofs.Readings.{role_read, restriction_refused, restriction_of_role, restriction_read}
 use Rattle.release.proofs.Refusing.{accepts, passed}
@@ -31,4 +31,4 @@ returns c =
     ]) in
     rw c.width.ensures
     (accepts 1 _ _ (restriction_none _ _ _ _ _ role.0 (omega (arith, c.width.ensures)) _ c.number-filler.ensures f) ∙
-    restriction_read _ _ _ _ _ _ _ c.requires.kind _ _ _ (ap (λ (r : RoleName). r.0) role.1) c.number-filler.ensures c.filler_node.ensures)
+    restriction_read _ _ _ _ _ _ _ c.requires.kind _ _ _ (ap (λ (r : RoleIndex). r.0) role.1) c.number-filler.ensures c.filler_node.ensures)
