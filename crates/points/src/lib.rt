@@ -34,7 +34,7 @@ const PAIR_AREA: usize = 2048;
 // A row of marks for each root that a concept can have: its places are the nodes. An array, since there is no heap.
 #[derive(Clone, Copy, Debug, PartialEq, Eq)]
 pub struct Grid {
-    rows: [u8; AREA],
+    pub rows: [u8; AREA],
 }
 
 impl Grid {
