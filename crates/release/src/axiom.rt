@@ -36,8 +36,11 @@ pub struct Source<'a> {
     pub counts: Counts,
 }
 
+// The steps of reading stand in the loop that reads axioms: an answer that is handed from one function to the next would go through memory,
+// which took a check twice the time.
 impl<'a> Source<'a> {
     // The role at `at`.
+    #[inline(always)]
     pub(crate) fn read_role(&self, at: usize) -> Result<RoleIndex, FileRefusal>
         ensures { told file_refusal result ≡ role_reading self.now.counts.roles self.now.file.now at }
     {
@@ -52,6 +55,7 @@ impl<'a> Source<'a> {
     }
 
     // Checks `count` rising names from `at` on.
+    #[inline(always)]
     fn check_parts(&self, at: usize, count: usize) -> Result<(), FileRefusal>
         requires { at ≤ length self.now.file.now }
         ensures { told file_refusal result ≡ answer 1 (parts_fault (width self.now.version) self.now.counts.names count 0 self.now.file.now at) tt }
@@ -77,6 +81,7 @@ impl<'a> Source<'a> {
     }
 
     // The tail of a conjunction.
+    #[inline(always)]
     fn read_conjunction(
         &self,
         tail: usize,
@@ -110,6 +115,7 @@ impl<'a> Source<'a> {
     }
 
     // The node of a filler's number: ⊤ is n.
+    #[inline(always)]
     fn filler_node(&self, filler: usize) -> usize
         ensures { result ≡ node_number self.now.counts.names (filler_node (width self.now.version) filler) }
     {
@@ -120,6 +126,7 @@ impl<'a> Source<'a> {
     }
 
     // The tail of a restriction.
+    #[inline(always)]
     fn read_restriction(
         &self,
         tail: usize,
@@ -151,6 +158,7 @@ impl<'a> Source<'a> {
     }
 
     // The axiom at `at`, whose left name is at least `least`.
+    #[inline(always)]
     pub fn read_axiom(&self, at: usize, least: usize) -> Result<(Entry, Cursor), FileRefusal>
         requires { at ≤ length self.now.file.now }
         ensures { told file_refusal result ≡ reading_at (width self.now.version) self.now.counts.names self.now.counts.roles least self.now.file.now at }

@@ -33,6 +33,7 @@ impl Version {
     }
 
     // How many bytes a name takes.
+    #[inline(always)]
     pub fn width(self) -> usize
         ensures { result ≡ width self }
     {
@@ -50,6 +51,7 @@ impl Version {
     }
 
     // The number that is ⊤ as a filler.
+    #[inline(always)]
     pub fn top(self) -> usize
         ensures { result ≡ top_number (width self) }
     {
@@ -96,6 +98,7 @@ impl Version {
     }
 
     // The number of a name's width at a place, low byte first.
+    #[inline(always)]
     pub fn number(self, file: &[u8], at: usize) -> usize
         requires { at + width self ≤ length file.now }
         ensures { result ≡ number (width self) file.now at }
