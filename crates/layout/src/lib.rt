@@ -13,9 +13,9 @@ use release::terminology::Terminology;
 pub mod edges;
 
 // The numbers of names and roles, and where three squares begin in the work memory: the inclusions of the first release, those
-// of the second, and the marks of the comparison. Three places, since three squares would hold the number of names three times. No code
-// reads the roles: with them a layout says which signature its marks are of (specs, `chosen`). They are no ghost field: callers give them as
-// a number, and a layout is compared and printed, which a ghost field is no part of.
+// of the second, and the marks of the comparison. Three places, since three squares would hold the number of names three times. With the
+// roles a layout says which signature its marks are of (specs, `chosen`); code reads them only to take the quicker of two ways. They are no
+// ghost field: callers give them as a number, and a layout is compared and printed, which a ghost field is no part of.
 #[derive(Clone, Copy, Debug, PartialEq, Eq)]
 pub struct Layout {
     pub names: usize,
